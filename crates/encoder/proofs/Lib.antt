@@ -1,0 +1,4 @@
+pub mod Forms
+pub mod Nops
+pub mod Padding
+pub mod Reading

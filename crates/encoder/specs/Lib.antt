@@ -1,0 +1,3 @@
+pub mod Intel
+pub mod Nops
+pub mod Padding

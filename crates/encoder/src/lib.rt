@@ -1,0 +1,64 @@
+// x86 padding: NOP instructions, and how many bytes an alignment takes. After asmkit's x86/encoder.rs (see NOTICE).
+ghost use mathlib.Core.Path.{_≡_};
+ghost use Prim.Native.Nat.{_≤_, _<_, min};
+ghost use lib.ListN.{length};
+ghost use Rattle.encoder.specs.Nops.{form, nops};
+ghost use Rattle.encoder.specs.Padding.{paddingLength};
+
+// Row n - 1 starts with the form of n bytes; its rest is 0.
+const NOP_TABLE: [[u8; 9]; 9] = [
+    [0x90, 0, 0, 0, 0, 0, 0, 0, 0],
+    [0x66, 0x90, 0, 0, 0, 0, 0, 0, 0],
+    [0x0f, 0x1f, 0x00, 0, 0, 0, 0, 0, 0],
+    [0x0f, 0x1f, 0x40, 0x00, 0, 0, 0, 0, 0],
+    [0x0f, 0x1f, 0x44, 0x00, 0x00, 0, 0, 0, 0],
+    [0x66, 0x0f, 0x1f, 0x44, 0x00, 0x00, 0, 0, 0],
+    [0x0f, 0x1f, 0x80, 0x00, 0x00, 0x00, 0x00, 0, 0],
+    [0x0f, 0x1f, 0x84, 0x00, 0x00, 0x00, 0x00, 0x00, 0],
+    [0x66, 0x0f, 0x1f, 0x84, 0x00, 0x00, 0x00, 0x00, 0x00],
+];
+
+// Fills `pad` with one form.
+fn push_nop(pad: &mut [u8])
+    requires { ⌜ (0 < length (now pad)) × (length (now pad) ≤ 9) ⌝ }
+    ensures { λ _. ⌜ now (pad .exit) ≡ form (length (now (pad .entry))) ⌝ }
+{
+    let n = pad.len();
+    let index = n - 1;
+    let row = NOP_TABLE[index];
+    seqs::copy(&row[..n], pad);
+}
+
+// The length of the longest form that fits `len` bytes.
+fn longest(len: usize) -> usize
+    ensures { λ r. ⌜ r ≡ min len 9 ⌝ }
+{
+    if len < 9 { len } else { 9 }
+}
+
+// Fills `pad` with NOPs, longest first.
+pub fn push_nops(pad: &mut [u8])
+    ensures { λ _. ⌜ now (pad .exit) ≡ nops (length (now (pad .entry))) ⌝ }
+{
+    let len = pad.len();
+    let mut i: usize = 0;
+    while i < len {
+        let n = longest(len - i);
+        push_nop(&mut pad[i..i + n]);
+        i += n;
+    }
+}
+
+// The least number of bytes that takes `offset` to a multiple of `align_to`; 0 where that is 0.
+pub fn padding_len(offset: u32, align_to: u32) -> u32
+    ensures { λ r. ⌜ r ≡ paddingLength offset «align_to» ⌝ }
+{
+    if align_to == 0 {
+        return 0;
+    }
+    let past = offset % align_to;
+    if past == 0 {
+        return 0;
+    }
+    align_to - past
+}

@@ -1,0 +1,74 @@
+//! Where the Rust and document 01 part, kept as data.
+//!
+//! A line of reference/differences.txt is
+//! `NAME | NUMBER | ARCH | SHEET => ANSWER`: the refusal of document 01 (0
+//! for none), the architecture's name, a sheet as text, and the Rust's answer.
+//! Empty lines and lines that start with `#` say nothing.
+
+use crate::{AARCH64, Answer, Call, X64, X86, added_refusal, read_text, run_calls};
+
+pub struct Difference {
+    pub name: String,
+    /// The refusal that document 01 answers with; 0 where it answers none.
+    pub number: u32,
+    pub arch: String,
+    pub sheet: String,
+    /// What the Rust is held to answer.
+    pub answer: String,
+    calls: Vec<Call<'static>>,
+}
+
+impl Difference {
+    /// What the Rust answers now. One symbol is there to be named.
+    pub fn run(&self) -> Answer {
+        let arch = arch_number(&self.arch).expect("checked when read");
+        run_calls(arch, 1, &self.calls)
+    }
+
+    /// Whether the screen of the stored recordings turns this one away by
+    /// the number given. Numbers 0, 13 and 18 are not added: there the
+    /// finish amid the calls is what the screen refuses, by 4.
+    pub fn is_screened(&self) -> bool {
+        let arch = arch_number(&self.arch).expect("checked when read");
+        match (added_refusal(arch, 1, &self.calls), self.number) {
+            (Some(4), 0 | 13 | 18) | (None, 0) => true,
+            (number, kept) => number == Some(kept),
+        }
+    }
+}
+
+/// Reads the file, or says which line is wrong.
+pub fn read_differences(text: &str) -> Result<Vec<Difference>, String> {
+    text.lines()
+        .enumerate()
+        .filter(|(_, line)| !line.is_empty() && !line.starts_with('#'))
+        .map(|(i, line)| read_line(line).map_err(|error| format!("line {}: {error}", i + 1)))
+        .collect()
+}
+
+fn read_line(line: &str) -> Result<Difference, String> {
+    let (left, answer) = line.split_once("=>").ok_or("no answer")?;
+    let parts: Vec<&str> = left.split('|').map(str::trim).collect();
+    let [name, number, arch, sheet] = parts[..] else {
+        return Err("not four parts before the answer".into());
+    };
+    arch_number(arch).ok_or_else(|| format!("no architecture is named {arch}"))?;
+    Ok(Difference {
+        name: name.into(),
+        number: number.parse().map_err(|_| "no number of a refusal")?,
+        arch: arch.into(),
+        sheet: sheet.into(),
+        answer: answer.trim().into(),
+        calls: read_text(sheet)?,
+    })
+}
+
+fn arch_number(name: &str) -> Option<u32> {
+    match name {
+        "X86" => Some(X86),
+        "X64" => Some(X64),
+        "RISCV64" => Some(4),
+        "AArch64" => Some(AARCH64),
+        _ => None,
+    }
+}

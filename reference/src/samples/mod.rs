@@ -1,0 +1,47 @@
+//! The recordings of the stored list, from fixed seeds.
+//!
+//! No added refusal of document 01 applies to any of them
+//! ([`added_refusal`](crate::added_refusal) is asked about each).
+
+mod draft;
+mod fields;
+mod jumps;
+mod limits;
+mod mixed;
+mod pools;
+mod refusals;
+mod relocations;
+mod small;
+
+use std::collections::HashSet;
+
+use crate::{Sample, added_refusal};
+pub(crate) use draft::Draft;
+
+/// All recordings, each once, in the order of the list.
+pub fn samples() -> Vec<Sample> {
+    let families = [
+        crate::cases::drafts(),
+        small::drafts(),
+        jumps::drafts(),
+        fields::drafts(),
+        limits::drafts(),
+        pools::drafts(),
+        relocations::drafts(),
+        refusals::drafts(),
+        mixed::drafts(),
+    ];
+    let mut seen = HashSet::new();
+    let samples = families.iter().flatten().map(to_sample);
+    samples
+        .filter(|sample| seen.insert(sample.clone()))
+        .collect()
+}
+
+fn to_sample(draft: &Draft) -> Sample {
+    if let Some(number) = added_refusal(draft.arch, draft.symbols, &draft.calls) {
+        let text = crate::write_text(&draft.calls);
+        panic!("the added refusal {number} applies to {text}");
+    }
+    Sample::new(draft.arch, draft.symbols, &draft.calls)
+}

@@ -1,0 +1,13 @@
+//! The NOP forms, which lie outside the sources at hand; document 01 has them.
+
+pub static NOP_TABLE: [[u8; 9]; 9] = [
+    [0x90, 0, 0, 0, 0, 0, 0, 0, 0],
+    [0x66, 0x90, 0, 0, 0, 0, 0, 0, 0],
+    [0x0F, 0x1F, 0x00, 0, 0, 0, 0, 0, 0],
+    [0x0F, 0x1F, 0x40, 0, 0, 0, 0, 0, 0],
+    [0x0F, 0x1F, 0x44, 0, 0, 0, 0, 0, 0],
+    [0x66, 0x0F, 0x1F, 0x44, 0, 0, 0, 0, 0],
+    [0x0F, 0x1F, 0x80, 0, 0, 0, 0, 0, 0],
+    [0x0F, 0x1F, 0x84, 0, 0, 0, 0, 0, 0],
+    [0x66, 0x0F, 0x1F, 0x84, 0, 0, 0, 0, 0],
+];
