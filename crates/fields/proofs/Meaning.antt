@@ -1,6 +1,6 @@
 -- What is patched means, by the manuals, what its label demands.
 use mathlib.Core.Path.{_≡_, refl, sym, ap, _∙_, subst}
-use mathlib.Core.Bool.{Bool, true, false, _&&_}
+use mathlib.Core.Bool.{true, _&&_}
 use Prim.Native.Nat.{ℕ, _+_, _-_, _*_, _/_, _%_, _^_, _≤_, _<_}
 use native.Mathlib.Nat.{mod-lt, div-div-eq-div-mul}
 use native.Mathlib.Omega.{arith}
@@ -8,6 +8,7 @@ use borrow.Author.Tests.{eqb-true, eq-eqb}
 use lib.Dec.{eqb}
 use lib.Pow.{mod-pow-add}
 use lib.Bits.{bitOr}
+use Rattle.seqs.proofs.Booleans.{both-true}
 use Rattle.fields.specs.declared.LabelUse.{LabelUse}
 use Rattle.fields.specs.declared.LabelUse.the-variants.{
   X86JmpRel32,
@@ -28,10 +29,6 @@ use Rattle.fields.specs.Arm.{immhilo, addImmediate}
 use Rattle.fields.specs.Meaning.{meaning, demanded, loadMultiple, Clear}
 use Rattle.fields.proofs.Insertion.{insert-read, insert-above, or-inserts}
 use Rattle.fields.proofs.Signed.{extend-low, extend-exact, widen-range, minus-zero, plus-minus}
-
-both : (a b : Bool) → (a && b) ≡ true → (a ≡ true) × (b ≡ true)
-both true b h = (refl, h)
-both false b h = let z : _≡_ {A = ℕ} 0 1 = cc in let no : ⊥ = omega arith in absurd no
 
 -- A distance in words of 4 bytes, inserted at any position and width, is read back whole.
 words-read : (p m w d : ℕ) → m + 2 ≤ 64 → d < modulus → d % 4 ≡ 0
@@ -54,7 +51,7 @@ adr-read w v =
 -- a distance that a field of m bits, counted in words of 4 bytes, reaches
 words-reached : (q d : ℕ) → (eqb (d % 4) 0 && range (4 * q) (4 * q - 4) d) ≡ true → (d % 4 ≡ 0) × (range (4 * q) (4 * q - 1) d ≡ true)
 words-reached q d h =
-    let b = both (eqb (d % 4) 0) (range (4 * q) (4 * q - 4) d) h in
+    let b = both-true (eqb (d % 4) 0) (range (4 * q) (4 * q - 4) d) h in
     (eqb-true (d % 4) 0 (b .0), widen-range (4 * q) (4 * q - 4) (4 * q - 1) d (omega arith) (b .1))
 
 -- pages move with the code, which is loaded on a multiple of 4,096

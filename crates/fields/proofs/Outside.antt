@@ -1,10 +1,11 @@
 -- Patching changes no bit outside the field.
-use mathlib.Core.Path.{_≡_, refl, sym, ap, _∙_}
+use mathlib.Core.Path.{_≡_, sym, ap, _∙_}
 use mathlib.Core.Logic.{_⊎_, inl, inr, ⊎-elim}
-use mathlib.Core.Bool.{Bool, true, false, _||_}
+use mathlib.Core.Bool.{true, false, _||_}
 use Prim.Native.Nat.{ℕ, _+_, _-_, _*_, _/_, _%_, _^_, _≤_, _<_}
 use native.Mathlib.Omega.{arith}
 use borrow.Author.Tests.{le-leb, lt-ltb}
+use Rattle.seqs.proofs.Booleans.{true-is-not-false, both-false}
 use Rattle.seqs.proofs.Numbers.{lt-or-ge}
 use Rattle.fields.specs.declared.LabelUse.{LabelUse}
 use Rattle.fields.specs.declared.LabelUse.the-variants.{
@@ -25,13 +26,6 @@ use Rattle.fields.specs.Patch.{patchedWord, insertAdr}
 use Rattle.fields.specs.Meaning.{covers, inField}
 use Rattle.fields.proofs.Insertion.{insert-below, insert-above, or-below, or-above}
 
-neither : (a b : Bool) → (a || b) ≡ false → (a ≡ false) × (b ≡ false)
-neither true b h = let z : _≡_ {A = ℕ} 0 1 = cc in let no : ⊥ = omega arith in absurd no
-neither false b h = (refl, h)
-
-false-is-not-true : true ≡ false → ⊥
-false-is-not-true h = let z : _≡_ {A = ℕ} 0 1 = cc in omega arith
-
 -- a bit outside a field is below it or above it
 outside : (p n i : ℕ) → covers p n i ≡ false → (1 + i ≤ p) ⊎ (p + n ≤ i)
 outside p n i h =
@@ -41,7 +35,7 @@ outside p n i h =
     ⊎-elim
     (λ lt.
     let yes : covers p n i ≡ true = rw (le-leb p i ge, lt-ltb i (p + n) lt) in
-    absurd (false-is-not-true (sym yes ∙ h)))
+    absurd (true-is-not-false (sym yes ∙ h)))
     (λ above. inr above)
     (lt-or-ge i (p + n)))
     (lt-or-ge i p)
@@ -61,7 +55,7 @@ insert-outside p n w v i h =
 
 adr-outside : (w v i : ℕ) → (covers 5 19 i || covers 29 2 i) ≡ false → bits i i (insertAdr w v) ≡ bits i i w
 adr-outside w v i h =
-    let n = neither (covers 5 19 i) (covers 29 2 i) h in
+    let n = both-false (covers 5 19 i) (covers 29 2 i) h in
     insert-outside 5 19 (insertBits 29 2 w v) (v / 4) i (n .0) ∙ insert-outside 29 2 w v i (n .1)
 
 inside : (size i : ℕ) → i < size → covers 0 size i ≡ false → ⊥

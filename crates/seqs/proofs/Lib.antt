@@ -1,3 +1,5 @@
 pub mod Numbers
 pub mod Overwrites
 pub mod Lists
+pub mod Picking
+pub mod Booleans

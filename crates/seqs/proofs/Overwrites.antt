@@ -105,3 +105,44 @@ module _ {A : Type 0} where
   over-take (x ∷ xs) [] n h = rw take-nil
   over-take (x ∷ xs) (y ∷ ys) zero h = let z : ⊥ = omega arith in absurd z
   over-take (x ∷ xs) (y ∷ ys) (suc n) h = ap (λ (l : List A). y ∷ l) (over-take xs ys n (omega arith))
+
+  -- a part that lies before an overwrite, one that lies after it, and what was written
+  pub part-before : (xs : List A) (at : ℕ) (ys : List A) (a m : ℕ) → a + m ≤ at → take m (drop a (over xs at ys)) ≡ take m (drop a xs)
+  unfolding over
+  part-before [] at ys a m h = refl
+  part-before (x ∷ xs) zero ys zero zero h = refl
+  part-before (x ∷ xs) zero ys zero (suc m) h = let z : ⊥ = omega arith in absurd z
+  part-before (x ∷ xs) zero ys (suc a) m h = let z : ⊥ = omega arith in absurd z
+  part-before (x ∷ xs) (suc at) ys zero zero h = refl
+  part-before (x ∷ xs) (suc at) ys zero (suc m) h = ap (λ (l : List A). x ∷ l) (part-before xs at ys zero m (omega arith))
+  part-before (x ∷ xs) (suc at) ys (suc a) m h = part-before xs at ys a m (omega arith)
+
+  pub drop-over : (xs : List A) (at : ℕ) (ys : List A) (n : ℕ) → at + length ys ≤ n → drop n (over xs at ys) ≡ drop n xs
+  unfolding over
+  drop-over [] at ys n h = refl
+  drop-over (x ∷ xs) zero [] n h = refl
+  drop-over (x ∷ xs) zero (y ∷ ys) zero h = let z : ⊥ = omega arith in absurd z
+  drop-over (x ∷ xs) zero (y ∷ ys) (suc n) h = drop-over xs zero ys n (omega arith)
+  drop-over (x ∷ xs) (suc at) ys zero h = let z : ⊥ = omega arith in absurd z
+  drop-over (x ∷ xs) (suc at) ys (suc n) h = drop-over xs at ys n (omega arith)
+
+  pub part-over : (xs : List A) (at : ℕ) (ys : List A) → at + length ys ≤ length xs → take (length ys) (drop at (over xs at ys)) ≡ ys
+  unfolding over
+  part-over [] zero [] h = refl
+  part-over [] zero (y ∷ ys) h = let z : ⊥ = omega arith in absurd z
+  part-over [] (suc n) ys h = let z : ⊥ = omega arith in absurd z
+  part-over (x ∷ xs) zero [] h = refl
+  part-over (x ∷ xs) zero (y ∷ ys) h = ap (λ (l : List A). y ∷ l) (part-over xs zero ys (omega arith))
+  part-over (x ∷ xs) (suc n) ys h = part-over xs n ys (omega arith)
+
+  -- all that stands before the end of an overwrite that follows on
+  pub take-over-end : (xs : List A) (at : ℕ) (ys : List A) → at + length ys ≤ length xs → take (at + length ys) (over xs at ys) ≡ take at xs ++ ys
+  unfolding over
+  take-over-end [] zero [] h = refl
+  take-over-end [] zero (y ∷ ys) h = let z : ⊥ = omega arith in absurd z
+  take-over-end [] (suc n) ys h = let z : ⊥ = omega arith in absurd z
+  take-over-end (x ∷ xs) zero [] h = refl
+  take-over-end (x ∷ xs) zero (y ∷ ys) h =
+      let e : 0 + suc (length ys) ≡ suc (0 + length ys) = omega arith in rw e (ap (λ (l : List A). y ∷ l) (take-over-end xs zero ys (omega arith)))
+  take-over-end (x ∷ xs) (suc n) ys h =
+      let e : suc n + length ys ≡ suc (n + length ys) = omega arith in rw e (ap (λ (l : List A). x ∷ l) (take-over-end xs n ys (omega arith)))

@@ -1,0 +1,55 @@
+-- `ask_first` meets its contract: the constant stands in its table, and the tests leave room in the other two.
+use Rattle.buffer.specs.Calls.{askedFirst}
+use Rattle.buffer.proofs.Accepted.{constant-label-accepted}
+use Rattle.seqs.proofs.Picking.{pick-yes, pick-no}
+use borrow.Author.Tests.{le-leb, lt-leb}
+use mathlib.Core.Path.{sym}
+use native.Mathlib.Omega.{arith}
+use borrow.Author.Needs.{needs}
+use Rattle.buffer.proofs.CodeBuffer.ask_first.Statement.{statement}
+use Rattle.buffer.proofs.CodeBuffer.ask_first.Tie as tie
+
+returns : tie.Need-returns
+unfolding askedFirst
+returns c = rw (c .make-none .ensures) (sym (pick-yes _ _ _ (rw (le-leb _ _ (c .before .if1 .taken)))))
+
+returns-2 : tie.Need-returns-2
+unfolding askedFirst
+returns-2 c = rw (c .make-none2 .ensures) (sym (pick-yes _ _ _ (rw (lt-leb _ _ (c .before .before .if1 .left), le-leb _ _ (c .before .if2 .taken)))))
+
+put-word-requires : tie.Need-put-word-requires
+put-word-requires c κs = omega (arith, constant-label-accepted _ _ _ _ _ (c .before .before .before .before .before .before .pre))
+
+add-self : tie.Need-add-self
+add-self c = omega (arith, constant-label-accepted _ _ _ _ _ (c .before .before .before .before .before .before .before .before .before .before .before .before .before .before .before .before .before .pre))
+
+add-self-2 : tie.Need-add-self-2
+add-self-2 c = omega (arith, constant-label-accepted _ _ _ _ _ (c .before .before .before .before .before .before .before .before .before .before .before .before .before .before .before .before .before .pre))
+
+returns-3 : tie.Need-returns-3
+unfolding askedFirst
+returns-3 c = rw (c .before .before .before .before .before .before .before .before .before .before .put-word .ensures, c .before .before .before .before .before .before .put-word2 .ensures, c .before .before .put-word3 .ensures) (sym (pick-no _ _ _ (rw (lt-leb _ _ (c .before .before .before .before .before .before .before .before .before .before .before .before .before .if1 .left), lt-leb _ _ (c .before .before .before .before .before .before .before .before .before .before .before .before .if2 .left)))))
+
+pub ask-first-spec : {M : Type 1} → statement M
+ask-first-spec =
+    tie.close
+    (tie.spec
+    (λ c. search needs)
+    (λ c κs. search needs)
+    returns
+    (λ c. search needs)
+    (λ c κs. search needs)
+    returns-2
+    (λ c. search needs)
+    (λ c. search needs)
+    put-word-requires
+    (λ c. search needs)
+    (λ c κs. search needs)
+    (λ c. search needs)
+    (λ c κs. search needs)
+    add-self
+    add-self-2
+    (λ c. search needs)
+    (λ c. search needs)
+    (λ c. search needs)
+    returns-3)

@@ -1,0 +1,35 @@
+use Rattle.buffer.specs.Calls.{getLabel}
+use Rattle.buffer.proofs.Accepted.{label-accepted}
+use Rattle.seqs.proofs.Picking.{yes-eq, no-eq}
+use mathlib.Core.Path.{sym, _∙_}
+use native.Mathlib.Omega.{arith}
+use borrow.Author.Needs.{needs}
+use Rattle.buffer.proofs.CodeBuffer.get_label.Statement.{statement}
+use Rattle.buffer.proofs.CodeBuffer.get_label.Tie as tie
+
+returns : tie.Need-returns
+unfolding getLabel
+returns c = let why = c .before .before .why-no-label .ensures in rw (c .make-none .ensures, why) (sym (no-eq _ 0 _ _ (λ e. c .before .if1 .taken (why ∙ e))))
+
+put-word-requires : tie.Need-put-word-requires
+put-word-requires c κs = omega (arith, label-accepted _ _ (sym (c .before .before .why-no-label .ensures) ∙ c .before .if1 .left))
+
+add-self : tie.Need-add-self
+add-self c = omega (arith, label-accepted _ _ (sym (c .before .before .before .before .before .why-no-label .ensures) ∙ c .before .before .before .before .if1 .left))
+
+returns-2 : tie.Need-returns-2
+unfolding getLabel
+returns-2 c = rw (c .before .before .put-word .ensures) (sym (yes-eq _ 0 _ _ (sym (c .before .before .before .before .before .why-no-label .ensures) ∙ c .before .before .before .before .if1 .left)))
+
+pub get-label-spec : {M : Type 1} → statement M
+get-label-spec =
+    tie.close
+    (tie.spec
+    (λ c κs. search needs)
+    (λ c κs. search needs)
+    returns
+    (λ c. search needs)
+    put-word-requires
+    add-self
+    (λ c. search needs)
+    returns-2)

@@ -1,0 +1,36 @@
+-- `record_alignment` meets its contract: on X64 the event is written after the last, elsewhere nothing is.
+use borrow.Author.Needs.{needs}
+use mathlib.Core.Path.{sym}
+use native.Mathlib.Omega.{arith}
+use Rattle.seqs.proofs.Picking.{yes-eq, no-eq}
+use Rattle.buffer.specs.Calls.{alignedEvents}
+use Rattle.buffer.proofs.CodeBuffer.record_alignment.Statement.{statement}
+use Rattle.buffer.proofs.CodeBuffer.record_alignment.Tie as tie
+
+returns : tie.Need-returns
+unfolding alignedEvents
+returns c = sym (no-eq _ 2 _ _ (c .if1 .taken))
+
+put-event-requires : tie.Need-put-event-requires
+put-event-requires c κs = let one = c .before .before in omega (arith, one .before .before .before .pre (one .if1 .left))
+
+add-self : tie.Need-add-self
+add-self c = let one = c .before .before .before .before .before in omega (arith, one .before .before .before .pre (one .if1 .left))
+
+returns-2 : tie.Need-returns-2
+unfolding alignedEvents
+returns-2 c =
+    let measured = c .before .before .before .before in
+    rw (c .before .before .put-event .ensures, measured .padding-len .ensures) (sym (yes-eq _ 2 _ _ (measured .before .if1 .left)))
+
+pub record-alignment-spec : {M : Type 1} → statement M
+record-alignment-spec =
+    tie.close
+    (tie.spec
+    returns
+    (λ c κs. search needs)
+    (λ c. search needs)
+    put-event-requires
+    add-self
+    (λ c. search needs)
+    returns-2)

@@ -1,0 +1,31 @@
+use Rattle.buffer.specs.Refusals.{standing}
+use Rattle.seqs.proofs.Picking.{yes-not, no-not, yes-ne, no-ne}
+use mathlib.Core.Path.{sym, _∙_}
+use borrow.Author.Tests.{not-true, not-false}
+use borrow.Author.Needs.{needs}
+use Rattle.buffer.proofs.CodeBuffer.standing.Statement.{statement}
+use Rattle.buffer.proofs.CodeBuffer.standing.Tie as tie
+
+returns : tie.Need-returns
+unfolding standing
+returns c = sym (yes-not _ _ _ (sym (c .before .is-sound .ensures) ∙ not-true _ (c .if1 .taken)))
+
+returns-2 : tie.Need-returns-2
+unfolding standing
+returns-2 c = sym (no-not _ _ _ (sym (c .before .before .before .is-sound .ensures) ∙ not-false _ (c .before .before .if1 .left)) ∙ yes-ne _ 0 _ _ (c .if2 .taken))
+
+returns-3 : tie.Need-returns-3
+unfolding standing
+returns-3 c = sym (no-not _ _ _ (sym (c .before .before .before .before .is-sound .ensures) ∙ not-false _ (c .before .before .before .if1 .left)) ∙ no-ne _ 0 _ _ (c .before .if2 .left) ∙ yes-not (c .before .before .before .before .before .args .within) _ _ (not-true _ (c .if3 .taken)))
+
+returns-4 : tie.Need-returns-4
+unfolding standing
+returns-4 c = sym (no-not _ _ _ (sym (c .before .before .before .before .before .before .is-sound .ensures) ∙ not-false _ (c .before .before .before .before .before .if1 .left)) ∙ no-ne _ 0 _ _ (c .before .before .before .if2 .left) ∙ no-not (c .before .before .before .before .before .before .before .args .within) _ _ (not-false _ (c .before .before .if3 .left)) ∙ yes-ne _ 0 _ _ (c .if4 .taken))
+
+returns-5 : tie.Need-returns-5
+unfolding standing
+returns-5 c = sym (no-not _ _ _ (sym (c .before .before .before .before .before .before .is-sound .ensures) ∙ not-false _ (c .before .before .before .before .before .if1 .left)) ∙ no-ne _ 0 _ _ (c .before .before .before .if2 .left) ∙ no-not (c .before .before .before .before .before .before .before .args .within) _ _ (not-false _ (c .before .before .if3 .left)) ∙ no-ne _ 0 _ _ (c .if4 .left))
+
+pub standing-spec : {M : Type 1} → statement M
+standing-spec =
+    tie.close (tie.spec (λ c κs. search needs) returns returns-2 returns-3 returns-4 returns-5)

@@ -1,0 +1,68 @@
+-- `try_align_to` meets its contract: the padding and the event fit where no test refuses, and the part that is padded stands at the old end.
+use borrow.Author.Needs.{needs}
+use mathlib.Core.Path.{sym, _∙_}
+use Prim.Native.Nat.{_+_, _-_}
+use native.Mathlib.Omega.{arith}
+use Rattle.seqs.proofs.Picking.{yes-eq, no-eq}
+use Rattle.buffer.specs.Calls.{alignTo}
+use Rattle.buffer.proofs.Accepted.{align-accepted}
+use Rattle.buffer.proofs.Appends.{over-padded}
+use Rattle.buffer.proofs.CodeBuffer.try_align_to.Statement.{statement}
+use Rattle.buffer.proofs.CodeBuffer.try_align_to.Tie as tie
+
+returns : tie.Need-returns
+unfolding alignTo
+returns c =
+    let why = c .before .before .why-not-align .ensures in
+    rw (c .turn-down .ensures, why) (sym (no-eq _ 0 _ _ (λ e. c .before .if1 .taken (why ∙ e))))
+
+part-pad-end : tie.Need-part-pad-end
+part-pad-end c =
+    let fits = align-accepted _ _ _ _ (sym (c .before .before .before .why-not-align .ensures) ∙ c .before .before .if1 .left) in
+    omega (arith, c .padding-len .ensures, fits .fits)
+
+record-alignment-requires : tie.Need-record-alignment-requires
+record-alignment-requires c κs =
+    let checked = c .before .before .before .before .before .before .before in
+    let fits = align-accepted _ _ _ _ (sym (checked .before .why-not-align .ensures) ∙ checked .if1 .left) in
+    λ e. (omega (arith, fits .event e), omega (arith, fits .event e, fits .fewEvents))
+
+cast-buffer : tie.Need-cast-buffer
+cast-buffer c =
+    let checked = c .before .before .before .before .before .before .before .before .before .before in
+    let fits = align-accepted _ _ _ _ (sym (checked .before .why-not-align .ensures) ∙ checked .if1 .left) in
+    omega (arith, c .before .before .before .before .before .before .before .before .padding-len .ensures, fits .fits, fits .few)
+
+returns-2 : tie.Need-returns-2
+unfolding alignTo
+returns-2 c =
+    let measured = c .before .before .before .before .before .before .before .before in
+    let checked = measured .before .before in
+    let a = checked .before .before .before .before .args in
+    let at = a .self .code in
+    let n = measured .padding-len .result in
+    let why = sym (checked .before .why-not-align .ensures) ∙ checked .if1 .left in
+    let fits = align-accepted _ _ _ _ why in
+    let padded = over-padded (a .code .now) at (at + n - at) n (a .self .arch) (omega arith) (omega (arith, measured .padding-len .ensures, fits .fits)) in
+    rw (← c .before .before .record-alignment .ensures, ← measured .padding-len .ensures, c .before .before .before .before .before .before .pad .ensures, padded) (sym (yes-eq _ 0 _ _ why))
+
+pub try-align-to-spec : {M : Type 1} → statement M
+try-align-to-spec =
+    tie.close
+    (tie.spec
+    (λ c κs. search needs)
+    (λ c κs. search needs)
+    returns
+    (λ c. search needs)
+    (λ c κs. search needs)
+    (λ c. search needs)
+    (λ c. search needs)
+    (λ c. search needs)
+    (λ c. search needs)
+    part-pad-end
+    (λ c κs. search needs)
+    record-alignment-requires
+    cast-buffer
+    (λ c. search needs)
+    (λ c. search needs)
+    returns-2)

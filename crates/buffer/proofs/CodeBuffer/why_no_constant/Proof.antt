@@ -1,0 +1,27 @@
+-- `why_no_constant` meets its contract: each return is where the chain of tests ends.
+use Rattle.buffer.specs.Refusals.{whyConstant}
+use Rattle.seqs.proofs.Picking.{yes-eq, no-eq, yes-lt, no-lt, yes-le, no-le}
+use mathlib.Core.Path.{sym, _∙_}
+use borrow.Author.Needs.{needs}
+use Rattle.buffer.proofs.CodeBuffer.why_no_constant.Statement.{statement}
+use Rattle.buffer.proofs.CodeBuffer.why_no_constant.Tie as tie
+
+returns : tie.Need-returns
+unfolding whyConstant
+returns c = rw (← c .before .standing .ensures) (sym (no-eq _ 0 _ _ (c .if1 .taken)))
+
+returns-2 : tie.Need-returns-2
+unfolding whyConstant
+returns-2 c = rw (← c .before .before .standing .ensures) (sym (yes-eq _ 0 _ _ (c .before .if1 .left) ∙ yes-lt _ _ _ _ (c .if2 .taken)))
+
+returns-3 : tie.Need-returns-3
+unfolding whyConstant
+returns-3 c = rw (← c .before .before .before .standing .ensures) (sym (yes-eq _ 0 _ _ (c .before .before .if1 .left) ∙ no-lt _ _ _ _ (c .before .if2 .left) ∙ yes-le _ _ _ _ (c .if3 .taken)))
+
+returns-4 : tie.Need-returns-4
+unfolding whyConstant
+returns-4 c = rw (← c .before .before .before .standing .ensures) (sym (yes-eq _ 0 _ _ (c .before .before .if1 .left) ∙ no-lt _ _ _ _ (c .before .if2 .left) ∙ no-le _ _ _ _ (c .if3 .left)))
+
+pub why-no-constant-spec : {M : Type 1} → statement M
+why-no-constant-spec =
+    tie.close (tie.spec (λ c. search needs) (λ c κs. search needs) returns returns-2 returns-3 returns-4)

@@ -1,0 +1,46 @@
+-- `why_no_ref` meets its contract: each return is where the chain of tests ends.
+use Rattle.buffer.specs.Refusals.{whyRef}
+use Rattle.seqs.proofs.Picking.{pick-yes, pick-no, yes-eq, no-eq, yes-le, no-le}
+use mathlib.Core.Path.{sym, _∙_}
+use borrow.Author.Needs.{needs}
+use Rattle.buffer.proofs.CodeBuffer.why_no_ref.Statement.{statement}
+use Rattle.buffer.proofs.CodeBuffer.why_no_ref.Tie as tie
+
+returns : tie.Need-returns
+unfolding whyRef
+returns c = rw (← c .before .before .both .ensures, ← c .before .standing .ensures) (sym (no-eq _ 0 _ _ (c .if1 .taken)))
+
+returns-2 : tie.Need-returns-2
+unfolding whyRef
+returns-2 c = rw (← c .before .before .before .before .both .ensures, ← c .before .before .before .standing .ensures) (sym (yes-eq _ 0 _ _ (c .before .before .if1 .left) ∙ no-eq _ 2 _ _ (c .if2 .taken)))
+
+returns-3 : tie.Need-returns-3
+unfolding whyRef
+returns-3 c = rw (← c .before .before .before .before .before .before .both .ensures, ← c .before .before .before .before .before .standing .ensures) (sym (yes-eq _ 0 _ _ (c .before .before .before .before .if1 .left) ∙ yes-eq _ 2 _ _ (c .before .before .if2 .left) ∙ pick-yes _ _ _ (sym (c .before .is-foreign .ensures) ∙ c .if3 .taken)))
+
+returns-4 : tie.Need-returns-4
+unfolding whyRef
+returns-4 c = rw (← c .before .before .before .before .before .before .before .before .both .ensures, ← c .before .before .before .before .before .before .before .standing .ensures) (sym (yes-eq _ 0 _ _ (c .before .before .before .before .before .before .if1 .left) ∙ yes-eq _ 2 _ _ (c .before .before .before .before .if2 .left) ∙ pick-no _ _ _ (sym (c .before .before .before .is-foreign .ensures) ∙ c .before .before .if3 .left) ∙ yes-le _ _ _ _ (c .if4 .taken)))
+
+returns-5 : tie.Need-returns-5
+unfolding whyRef
+returns-5 c = rw (← c .before .before .before .before .before .before .before .before .before .both .ensures, ← c .before .before .before .before .before .before .before .before .standing .ensures) (sym (yes-eq _ 0 _ _ (c .before .before .before .before .before .before .before .if1 .left) ∙ yes-eq _ 2 _ _ (c .before .before .before .before .before .if2 .left) ∙ pick-no _ _ _ (sym (c .before .before .before .before .is-foreign .ensures) ∙ c .before .before .before .if3 .left) ∙ no-le _ _ _ _ (c .before .if4 .left) ∙ yes-le _ _ _ _ (c .if5 .taken)))
+
+returns-6 : tie.Need-returns-6
+unfolding whyRef
+returns-6 c = rw (← c .before .before .before .before .before .before .before .before .before .both .ensures, ← c .before .before .before .before .before .before .before .before .standing .ensures) (sym (yes-eq _ 0 _ _ (c .before .before .before .before .before .before .before .if1 .left) ∙ yes-eq _ 2 _ _ (c .before .before .before .before .before .if2 .left) ∙ pick-no _ _ _ (sym (c .before .before .before .before .is-foreign .ensures) ∙ c .before .before .before .if3 .left) ∙ no-le _ _ _ _ (c .before .if4 .left) ∙ no-le _ _ _ _ (c .if5 .left)))
+
+pub why-no-ref-spec : {M : Type 1} → statement M
+why-no-ref-spec =
+    tie.close
+    (tie.spec
+    (λ c. search needs)
+    (λ c κs. search needs)
+    (λ c κs. search needs)
+    returns
+    returns-2
+    (λ c κs. search needs)
+    returns-3
+    returns-4
+    returns-5
+    returns-6)

@@ -1,0 +1,4 @@
+pub mod Standing
+pub mod Accepted
+pub mod Appends
+pub mod Scan

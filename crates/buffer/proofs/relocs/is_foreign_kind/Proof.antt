@@ -1,0 +1,32 @@
+-- `is_foreign_kind` meets its contract, architecture by architecture.
+use Rattle.buffer.specs.Refusals.{foreignReloc}
+use Rattle.seqs.proofs.Picking.{yes-eq, no-eq}
+use borrow.Author.Tests.{eq-eqb, ne-eqb}
+use mathlib.Core.Path.{sym, _∙_}
+use borrow.Author.Needs.{needs}
+use Rattle.buffer.proofs.relocs.is_foreign_kind.Statement.{statement}
+use Rattle.buffer.proofs.relocs.is_foreign_kind.Tie as tie
+
+returns : tie.Need-returns
+unfolding foreignReloc
+returns c = rw (← c .before .arch-of-kind .ensures) (sym (yes-eq _ 0 _ _ (c .if1 .taken)))
+
+returns-2 : tie.Need-returns-2
+unfolding foreignReloc
+returns-2 c = rw (← c .before .before .before .arch-of-kind .ensures, eq-eqb (c .before .before .before .before .args .arch) 1 (c .if3 .taken)) (sym (no-eq _ 0 _ _ (c .before .before .if1 .left) ∙ yes-eq _ 1 _ _ (c .before .if2 .taken)))
+
+returns-3 : tie.Need-returns-3
+unfolding foreignReloc
+returns-3 c = rw (← c .before .before .before .arch-of-kind .ensures, ne-eqb (c .before .before .before .before .args .arch) 1 (c .if3 .left)) (sym (no-eq _ 0 _ _ (c .before .before .if1 .left) ∙ yes-eq _ 1 _ _ (c .before .if2 .taken)))
+
+returns-4 : tie.Need-returns-4
+unfolding foreignReloc
+returns-4 c = rw (← c .before .before .before .arch-of-kind .ensures) (sym (no-eq _ 0 _ _ (c .before .before .if1 .left) ∙ no-eq _ 1 _ _ (c .before .if2 .left) ∙ yes-eq _ 2 _ _ (c .if4 .taken)))
+
+returns-5 : tie.Need-returns-5
+unfolding foreignReloc
+returns-5 c = rw (← c .before .before .before .arch-of-kind .ensures) (sym (no-eq _ 0 _ _ (c .before .before .if1 .left) ∙ no-eq _ 1 _ _ (c .before .if2 .left) ∙ no-eq _ 2 _ _ (c .if4 .left)))
+
+pub is-foreign-kind-spec : {M : Type 1} → statement M
+is-foreign-kind-spec =
+    tie.close (tie.spec (λ c κs. search needs) returns returns-2 returns-3 returns-4 returns-5)

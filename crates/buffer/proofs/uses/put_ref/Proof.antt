@@ -1,0 +1,22 @@
+-- `put_ref` meets its contract: four words, one after another.
+use borrow.Author.Needs.{needs}
+use Rattle.buffer.proofs.uses.put_ref.Statement.{statement}
+use Rattle.buffer.proofs.uses.put_ref.Tie as tie
+
+returns : tie.Need-returns
+returns c = rw (c .before .before .put-word4 .ensures, c .before .before .before .before .before .before .put-word3 .ensures, c .before .before .before .before .before .before .before .before .before .before .put-word2 .ensures, c .before .before .before .before .before .before .before .before .before .before .before .before .before .before .put-word .ensures)
+
+pub put-ref-spec : {M : Type 1} → statement M
+put-ref-spec =
+    tie.close
+    (tie.spec
+    (λ c. search needs)
+    (λ c κs. search needs)
+    (λ c. search needs)
+    (λ c κs. search needs)
+    (λ c. search needs)
+    (λ c κs. search needs)
+    (λ c. search needs)
+    (λ c κs. search needs)
+    (λ c. search needs)
+    returns)

@@ -1,0 +1,185 @@
+-- What each recording call answers and leaves in what it was lent: document 01, "recording". A call that is turned down changes nothing lent.
+use mathlib.Core.Bool.{cond}
+use mathlib.Core.List.{List}
+use Prim.Native.Nat.{ℕ, _+_, _*_, _/_, _%_}
+use lib.Dec.{eqb}
+use lib.ListN.{length, replicate}
+use Rattle.seqs.specs.Over.{over}
+use Rattle.seqs.specs.Pick.{pick}
+use Rattle.words.specs.Words.{wordAt, setWord}
+use Rattle.encoder.specs.Nops.{nops}
+use Rattle.encoder.specs.Padding.{paddingLength}
+use Rattle.relax.specs.Events.{setEvent}
+use Rattle.buffer.specs.declared.CodeBuffer.{CodeBuffer}
+use Rattle.buffer.specs.declared.Recorded.{Recorded}
+use Rattle.buffer.specs.declared.Made.{Made}
+use Rattle.buffer.specs.State.{
+  none,
+  withCode,
+  withLabels,
+  withEvents,
+  withUses,
+  withRefs,
+  withConstants,
+  withAsked,
+  withRelocs,
+  turnedDown,
+  accepted,
+  noneMade,
+  made,
+}
+use Rattle.buffer.specs.Refusals.{
+  whyStart,
+  whyBytes,
+  whyLabel,
+  whyBind,
+  whyAlign,
+  whyUse,
+  whyRef,
+  whyJump,
+  whyConstant,
+  whyConstantLabel,
+  noRoomToAsk,
+  whyReloc,
+}
+
+-- a new recording; a refused start gives a record of zeros
+unfoldable pub started : ℕ → ℕ → Recorded
+started arch symbols =
+    pick (eqb (whyStart arch) 0)
+    (accepted record {
+      arch = arch;
+      symbols = symbols;
+      finished = 0;
+      refusal = 0;
+      code = 0;
+      labels = 0;
+      events = 0;
+      uses = 0;
+      refs = 0;
+      constants = 0;
+      asked = 0;
+      relocs = 0;
+    })
+    (record {
+      buffer = record {
+        arch = 0;
+        symbols = 0;
+        finished = 0;
+        refusal = 0;
+        code = 0;
+        labels = 0;
+        events = 0;
+        uses = 0;
+        refs = 0;
+        constants = 0;
+        asked = 0;
+        relocs = 0;
+      };
+      refusal = whyStart arch;
+    })
+
+-- "Bytes append."
+unfoldable pub putBytes : CodeBuffer → List ℕ → List ℕ → Recorded × List ℕ
+putBytes b code bytes =
+    let why = whyBytes b (length code) (length bytes) in
+    pick (eqb why 0) (accepted (withCode b (b .code + length bytes)), over code (b .code) bytes) (turnedDown b why, code)
+
+-- a label that is not bound yet
+unfoldable pub getLabel : CodeBuffer → List ℕ → Made × List ℕ
+getLabel b labels =
+    let why = whyLabel b (length labels / 4) in
+    pick (eqb why 0) (made (withLabels b (b .labels + 1)) (b .labels), setWord labels (b .labels) none) (noneMade b why, labels)
+
+-- the label stands at the current offset; a refusal is not recorded
+unfoldable pub bindLabel : CodeBuffer → List ℕ → ℕ → Recorded × List ℕ
+bindLabel b labels label =
+    let why = whyBind b labels label in
+    pick (eqb why 0) (accepted b, setWord labels label (b .code)) (record { buffer = b; refusal = why }, labels)
+
+-- "x86 pads with NOPs, AArch64 with zeros."
+abbrev pub padding : ℕ → ℕ → List ℕ
+padding arch n = cond (eqb arch 6) (replicate n 0) (nops n)
+
+-- "On X64 each alignment records an event, length 0 too."
+unfoldable pub alignedEvents : CodeBuffer → List ℕ → ℕ → CodeBuffer × List ℕ
+alignedEvents b events multiple =
+    pick (eqb (b .arch) 2)
+    (withEvents b (b .events + 1), setEvent events (b .events) 2 (b .code) (paddingLength (b .code) multiple) multiple 0)
+    (b, events)
+
+unfoldable pub alignTo : CodeBuffer → List ℕ → List ℕ → ℕ → Recorded × (List ℕ × List ℕ)
+alignTo b code events multiple =
+    let why = whyAlign b (length code) (length events / 20) multiple in
+    let n = paddingLength (b .code) multiple in
+    let recorded = alignedEvents b events multiple in
+    pick (eqb why 0)
+    (accepted (withCode (recorded .0) (b .code + n)), (over code (b .code) (padding (b .arch) n), recorded .1))
+    (turnedDown b why, (code, events))
+
+unfoldable pub useLabel : CodeBuffer → List ℕ → ℕ → ℕ → ℕ → Recorded × List ℕ
+useLabel b uses offset label code =
+    let why = whyUse b (length uses / 12) label code in
+    let k = b .uses * 3 in
+    pick (eqb why 0)
+    (accepted (withUses b (b .uses + 1)), setWord (setWord (setWord uses k offset) (k + 1) label) (k + 2) code)
+    (turnedDown b why, uses)
+
+-- kept on X64; the addend is a 32-bit two's complement word
+unfoldable pub recordRef : CodeBuffer → List ℕ → ℕ → ℕ → ℕ → ℕ → Recorded × List ℕ
+recordRef b refs offset label code addend =
+    let why = whyRef b (length refs / 16) label code in
+    let k = b .refs * 4 in
+    pick (eqb why 0)
+    (pick (eqb (b .arch) 2)
+    (accepted (withRefs b (b .refs + 1)), setWord (setWord (setWord (setWord refs k offset) (k + 1) label) (k + 2) code) (k + 3) addend)
+    (accepted b, refs))
+    (turnedDown b why, refs)
+
+-- kept on X64
+unfoldable pub recordJump : CodeBuffer → List ℕ → List ℕ → ℕ → ℕ → ℕ → ℕ → Recorded × List ℕ
+recordJump b labels events start len label cc =
+    let why = whyJump b labels events start len label cc in
+    pick (eqb why 0)
+    (pick (eqb (b .arch) 2) (accepted (withEvents b (b .events + 1)), setEvent events (b .events) 1 start len label cc) (accepted b, events))
+    (turnedDown b why, events)
+
+-- an entry is its size, its label, and 64 bytes, of which those past its size are not touched
+unfoldable pub addConstant : CodeBuffer → List ℕ → List ℕ → Made × List ℕ
+addConstant b constants bytes =
+    let why = whyConstant b (length constants / 72) (length bytes) in
+    let n = b .constants in
+    pick (eqb why 0)
+    (made (withConstants b (n + 1)) n, over (setWord (setWord constants (n * 18) (length bytes)) (n * 18 + 1) none) (n * 72 + 8) bytes)
+    (noneMade b why, constants)
+
+-- a first asking makes a label and lists the constant; "asking again for a constant's label gives the same one"
+unfoldable pub askedFirst : CodeBuffer → List ℕ → List ℕ → List ℕ → ℕ → Made × (List ℕ × (List ℕ × List ℕ))
+askedFirst b constants asked labels constant =
+    pick (noRoomToAsk b (length asked / 4) (length labels / 4))
+    (noneMade b 11, (constants, (asked, labels))) (
+      made (withLabels (withAsked b (b .asked + 1)) (b .labels + 1)) (b .labels),
+      (setWord constants (constant * 18 + 1) (b .labels), (setWord asked (b .asked) constant, setWord labels (b .labels) none)),
+    )
+
+unfoldable pub constantLabel : CodeBuffer → List ℕ → List ℕ → List ℕ → ℕ → Made × (List ℕ × (List ℕ × List ℕ))
+constantLabel b constants asked labels constant =
+    let held = wordAt constants (constant * 18 + 1) in
+    let why = whyConstantLabel b (length constants / 72) (length asked / 4) (length labels / 4) constant in
+    pick (eqb why 0)
+    (pick (eqb held none) (askedFirst b constants asked labels constant) (made b held, (constants, (asked, labels))))
+    (noneMade b why, (constants, (asked, labels)))
+
+-- an entry is offset, kind, target, 0 and the addend, a 64-bit two's complement word, low half first
+unfoldable pub addReloc : CodeBuffer → List ℕ → ℕ → ℕ → ℕ → ℕ → Recorded × List ℕ
+addReloc b relocs offset kind target addend =
+    let why = whyReloc b (length relocs / 24) offset kind target in
+    let k = b .relocs * 6 in
+    pick (eqb why 0) (
+      accepted (withRelocs b (b .relocs + 1)),
+      setWord
+          (setWord (setWord (setWord (setWord (setWord relocs k offset) (k + 1) kind) (k + 2) target) (k + 3) 0) (k + 4) (addend % 4294967296))
+          (k + 5)
+          (addend / 4294967296),
+    )
+    (turnedDown b why, relocs)

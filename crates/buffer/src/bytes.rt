@@ -1,0 +1,129 @@
+// Bytes and padding: what appends to the code.
+ghost use mathlib.Core.Path.{_≡_};
+ghost use Prim.Native.Nat.{_+_, _*_, _<_, _≤_};
+ghost use lib.ListN.{length, replicate};
+ghost use Rattle.buffer.specs.Refusals.{whyBytes, isAlignment, whyAlign};
+ghost use Rattle.buffer.specs.Calls.{putBytes, padding, alignedEvents, alignTo};
+use crate::CodeBuffer;
+use crate::Recorded;
+use crate::both;
+
+// A power of two, at most 4,096.
+fn is_alignment(n: u32) -> bool
+    ensures { λ r. ⌜ r ≡ isAlignment n ⌝ }
+{
+    if n == 0 {
+        return false;
+    }
+    4096 % n == 0
+}
+
+fn clear(part: &mut [u8])
+    ensures { λ _. ⌜ now (part .exit) ≡ replicate (length (now (part .entry))) 0 ⌝ }
+{
+    let mut i: usize = 0;
+    while i < part.len() {
+        part[i] = 0;
+        i += 1;
+    }
+}
+
+// AArch64 is padded with zeros.
+fn pad(arch: u32, part: &mut [u8])
+    ensures { λ _. ⌜ now (part .exit) ≡ padding arch (length (now (part .entry))) ⌝ }
+{
+    if arch == 6 {
+        clear(part);
+        return;
+    }
+    encoder::push_nops(part);
+}
+
+impl CodeBuffer {
+    fn why_no_bytes(self, lent: usize, n: usize) -> u32
+        ensures { λ r. ⌜ r ≡ whyBytes self lent n ⌝ }
+    {
+        let at = self.code as usize;
+        let why = self.standing(at <= lent, lent <= 16777216);
+        if why != 0 {
+            return why;
+        }
+        if lent - at < n {
+            return 12;
+        }
+        0
+    }
+
+    // Appends bytes.
+    pub fn put_bytes(mut self, code: &mut [u8], bytes: &[u8]) -> Recorded
+        ensures { λ r. ⌜ (r, now (code .exit)) ≡ putBytes self (now (code .entry)) (now (bytes .entry)) ⌝ }
+    {
+        let why = self.why_no_bytes(code.len(), bytes.len());
+        if why != 0 {
+            return self.turn_down(why);
+        }
+        let at = self.code as usize;
+        let end = at + bytes.len();
+        seqs::copy(bytes, &mut code[at..end]);
+        self.code = end as u32;
+        Recorded {
+            buffer: self,
+            refusal: 0,
+        }
+    }
+
+    fn why_not_align(self, lent: usize, room: usize, multiple: u32) -> u32
+        ensures { λ r. ⌜ r ≡ whyAlign self lent room multiple ⌝ }
+    {
+        let at = self.code as usize;
+        let n = self.events as usize;
+        let why = self.standing(
+            both(at <= lent, n <= room),
+            both(lent <= 16777216, room <= 65536),
+        );
+        if why != 0 {
+            return why;
+        }
+        if !is_alignment(multiple) {
+            return 5;
+        }
+        if both(self.arch == 2, room <= n) {
+            return 11;
+        }
+        if lent - at < encoder::padding_len(self.code, multiple) as usize {
+            return 12;
+        }
+        0
+    }
+
+    // On X64 every alignment is an event, one that takes no bytes too.
+    fn record_alignment(mut self, events: &mut [u8], multiple: u32) -> CodeBuffer
+        requires { ⌜ (self .arch ≡ 2 → (self .events * 20 + 20 ≤ length (now events)) × (self .events < 65536)) ⌝ }
+        ensures { λ r. ⌜ (r, now (events .exit)) ≡ alignedEvents self (now (events .entry)) multiple ⌝ }
+    {
+        if self.arch != 2 {
+            return self;
+        }
+        let n = self.events;
+        let len = encoder::padding_len(self.code, multiple);
+        relax::put_event(events, n as usize, 2, self.code, len, multiple, 0);
+        self.events = n + 1;
+        self
+    }
+
+    // Pads the code to a multiple.
+    pub fn try_align_to(self, code: &mut [u8], events: &mut [u8], multiple: u32) -> Recorded
+        ensures { λ r. ⌜ (r, (now (code .exit), now (events .exit))) ≡ alignTo self (now (code .entry)) (now (events .entry)) multiple ⌝ }
+    {
+        let why = self.why_not_align(code.len(), events.len() / 20, multiple);
+        if why != 0 {
+            return self.turn_down(why);
+        }
+        let at = self.code as usize;
+        let end = at + encoder::padding_len(self.code, multiple) as usize;
+        pad(self.arch, &mut code[at..end]);
+        let mut buffer = self.record_alignment(events, multiple);
+        buffer.code = end as u32;
+        Recorded { buffer, refusal: 0 }
+    }
+}

@@ -1,0 +1,143 @@
+// Relocations. An entry is offset, kind, target, 0, and the addend's two halves, low first.
+ghost use mathlib.Core.Path.{_≡_};
+ghost use Prim.Native.Nat.{_+_, _*_, _/_, _%_, _≤_};
+ghost use lib.ListN.{length, getD};
+ghost use Rattle.words.specs.Words.{setWord};
+ghost use Rattle.buffer.specs.Refusals.{relocArchs, foreignReloc, targetKnown, whyReloc};
+ghost use Rattle.buffer.specs.Calls.{addReloc};
+use crate::CodeBuffer;
+use crate::Recorded;
+use crate::both;
+
+// The architecture of each kind: 0 any, 1 X86 and X64, 2 AArch64, 3 none here.
+const ARCHS: [u8; 28] = [
+    0,
+    0,
+    1,
+    1,
+    1,
+    1,
+    1,
+    3,
+    2,
+    1,
+    1,
+    2,
+    2,
+    2,
+    2,
+    2,
+    2,
+    2,
+    2,
+    2,
+    2,
+    2,
+    3,
+    3,
+    3,
+    3,
+    3,
+    3,
+];
+
+// What `ARCHS` says of the kind; 3 past its end.
+fn arch_of_kind(kind: u32) -> u8
+    ensures { λ r. ⌜ r ≡ getD relocArchs kind 3 ⌝ }
+{
+    if kind < 28 {
+        return ARCHS[kind as usize];
+    }
+    3
+}
+
+fn is_foreign_kind(kind: u32, arch: u32) -> bool
+    ensures { λ r. ⌜ r ≡ foreignReloc kind arch ⌝ }
+{
+    let which = arch_of_kind(kind);
+    if which == 0 {
+        return false;
+    }
+    if which == 1 {
+        if arch == 1 {
+            return false;
+        }
+        return arch != 2;
+    }
+    if which == 2 {
+        return arch != 6;
+    }
+    true
+}
+
+fn put_reloc(relocs: &mut [u8], i: usize, offset: u32, kind: u32, target: u32, addend: u64)
+    requires { ⌜ i * 24 + 24 ≤ length (now relocs) ⌝ }
+    ensures { λ _. ⌜ now (relocs .exit) ≡ setWord (setWord (setWord (setWord (setWord (setWord (now (relocs .entry)) (i * 6) offset) (i * 6 + 1) kind) (i * 6 + 2) target) (i * 6 + 3) 0) (i * 6 + 4) (addend % 4294967296)) (i * 6 + 5) (addend / 4294967296) ⌝ }
+{
+    let k = i * 6;
+    words::put_word(relocs, k, offset);
+    words::put_word(relocs, k + 1, kind);
+    words::put_word(relocs, k + 2, target);
+    words::put_word(relocs, k + 3, 0);
+    words::put_word(relocs, k + 4, (addend % 4294967296) as u32);
+    words::put_word(relocs, k + 5, (addend / 4294967296) as u32);
+}
+
+impl CodeBuffer {
+    // A target is a symbol, or a label + 2^31.
+    fn is_known(self, target: u32) -> bool
+        ensures { λ r. ⌜ r ≡ targetKnown self target ⌝ }
+    {
+        if target < 2147483648 {
+            return target < self.symbols;
+        }
+        target - 2147483648 < self.labels
+    }
+
+    fn why_no_reloc(self, room: usize, offset: u32, kind: u32, target: u32) -> u32
+        ensures { λ r. ⌜ r ≡ whyReloc self room offset kind target ⌝ }
+    {
+        let n = self.relocs as usize;
+        let why = self.standing(both(n <= room, kind <= 27), room <= 65536);
+        if why != 0 {
+            return why;
+        }
+        if is_foreign_kind(kind, self.arch) {
+            return 7;
+        }
+        if !self.is_known(target) {
+            return 8;
+        }
+        if 16777215 < offset {
+            return 10;
+        }
+        if room <= n {
+            return 11;
+        }
+        0
+    }
+
+    // A relocation at `offset`; the addend is a 64-bit two's complement word.
+    pub fn add_reloc_at_offset(
+        mut self,
+        relocs: &mut [u8],
+        offset: u32,
+        kind: u32,
+        target: u32,
+        addend: u64,
+    ) -> Recorded
+        ensures { λ r. ⌜ (r, now (relocs .exit)) ≡ addReloc self (now (relocs .entry)) offset kind target addend ⌝ }
+    {
+        let why = self.why_no_reloc(relocs.len() / 24, offset, kind, target);
+        if why != 0 {
+            return self.turn_down(why);
+        }
+        let n = self.relocs;
+        put_reloc(relocs, n as usize, offset, kind, target, addend);
+        self.relocs = n + 1;
+        Recorded {
+            buffer: self,
+            refusal: 0,
+        }
+    }
+}

@@ -1,0 +1,144 @@
+// Uses of labels, the fields that name one, and the refs that X64 keeps of them. An entry of uses is offset, label and code; of refs, the addend too.
+ghost use mathlib.Core.Path.{_≡_};
+ghost use Prim.Native.Nat.{_+_, _*_, _≤_};
+ghost use lib.ListN.{length};
+ghost use Rattle.words.specs.Words.{setWord};
+ghost use Rattle.fields.specs.Kinds.{decoded};
+ghost use Rattle.buffer.specs.Refusals.{foreign, whyUse, whyRef};
+ghost use Rattle.buffer.specs.Calls.{useLabel, recordRef};
+use crate::CodeBuffer;
+use crate::Recorded;
+use crate::both;
+
+// Whether the architecture has no field of the kind that `code` stands for.
+fn is_foreign(code: u32, arch: u32) -> bool
+    ensures { λ r. ⌜ r ≡ foreign (decoded code) arch ⌝ }
+{
+    match fields::LabelUse::from_code(code) {
+        fields::Decoded::Use(kind) => !kind.supports_arch(arch),
+        fields::Decoded::Unsupported => true,
+        fields::Decoded::Unknown => true,
+    }
+}
+
+fn put_use(uses: &mut [u8], i: usize, offset: u32, label: u32, code: u32)
+    requires { ⌜ i * 12 + 12 ≤ length (now uses) ⌝ }
+    ensures { λ _. ⌜ now (uses .exit) ≡ setWord (setWord (setWord (now (uses .entry)) (i * 3) offset) (i * 3 + 1) label) (i * 3 + 2) code ⌝ }
+{
+    let k = i * 3;
+    words::put_word(uses, k, offset);
+    words::put_word(uses, k + 1, label);
+    words::put_word(uses, k + 2, code);
+}
+
+fn put_ref(refs: &mut [u8], i: usize, offset: u32, label: u32, code: u32, addend: u32)
+    requires { ⌜ i * 16 + 16 ≤ length (now refs) ⌝ }
+    ensures { λ _. ⌜ now (refs .exit) ≡ setWord (setWord (setWord (setWord (now (refs .entry)) (i * 4) offset) (i * 4 + 1) label) (i * 4 + 2) code) (i * 4 + 3) addend ⌝ }
+{
+    let k = i * 4;
+    words::put_word(refs, k, offset);
+    words::put_word(refs, k + 1, label);
+    words::put_word(refs, k + 2, code);
+    words::put_word(refs, k + 3, addend);
+}
+
+impl CodeBuffer {
+    fn why_no_use(self, room: usize, label: u32, code: u32) -> u32
+        ensures { λ r. ⌜ r ≡ whyUse self room label code ⌝ }
+    {
+        let n = self.uses as usize;
+        let why = self.standing(both(n <= room, code <= 16), room <= 65536);
+        if why != 0 {
+            return why;
+        }
+        if code == 15 {
+            return 6;
+        }
+        if is_foreign(code, self.arch) {
+            return 7;
+        }
+        if self.labels <= label {
+            return 8;
+        }
+        if room <= n {
+            return 11;
+        }
+        0
+    }
+
+    // The field at `offset`, of the kind that `code` stands for, names the label.
+    pub fn use_label_at_offset(
+        mut self,
+        uses: &mut [u8],
+        offset: u32,
+        label: u32,
+        code: u32,
+    ) -> Recorded
+        ensures { λ r. ⌜ (r, now (uses .exit)) ≡ useLabel self (now (uses .entry)) offset label code ⌝ }
+    {
+        let why = self.why_no_use(uses.len() / 12, label, code);
+        if why != 0 {
+            return self.turn_down(why);
+        }
+        let n = self.uses;
+        put_use(uses, n as usize, offset, label, code);
+        self.uses = n + 1;
+        Recorded {
+            buffer: self,
+            refusal: 0,
+        }
+    }
+
+    fn why_no_ref(self, room: usize, label: u32, code: u32) -> u32
+        ensures { λ r. ⌜ r ≡ whyRef self room label code ⌝ }
+    {
+        let n = self.refs as usize;
+        let why = self.standing(both(n <= room, code <= 16), room <= 65536);
+        if why != 0 {
+            return why;
+        }
+        if self.arch != 2 {
+            return 0;
+        }
+        if is_foreign(code, self.arch) {
+            return 7;
+        }
+        if self.labels <= label {
+            return 8;
+        }
+        if room <= n {
+            return 11;
+        }
+        0
+    }
+
+    // The same with an addend, a 32-bit two's complement word. Off X64 nothing is kept.
+    pub fn record_label_ref(
+        mut self,
+        refs: &mut [u8],
+        offset: u32,
+        label: u32,
+        code: u32,
+        addend: u32,
+    ) -> Recorded
+        ensures { λ r. ⌜ (r, now (refs .exit)) ≡ recordRef self (now (refs .entry)) offset label code addend ⌝ }
+    {
+        let why = self.why_no_ref(refs.len() / 16, label, code);
+        if why != 0 {
+            return self.turn_down(why);
+        }
+        if self.arch != 2 {
+            return Recorded {
+                buffer: self,
+                refusal: 0,
+            };
+        }
+        let n = self.refs;
+        put_ref(refs, n as usize, offset, label, code, addend);
+        self.refs = n + 1;
+        Recorded {
+            buffer: self,
+            refusal: 0,
+        }
+    }
+}

@@ -1,0 +1,282 @@
+-- The law of each call over the view of a sound recording: what a call that is not turned down adds, and that one that is changes nothing.
+use mathlib.Core.Path.{_≡_, refl, sym, ap, _∙_}
+use mathlib.Core.Logic.{_≢_}
+use mathlib.Core.Bool.{Bool, true, false}
+use mathlib.Core.List.{List, [], _∷_, _++_}
+use Prim.Native.Nat.{ℕ, _+_, _*_, _/_, _%_}
+use native.Mathlib.Omega.{arith}
+use borrow.Author.Tests.{leb-false}
+use lib.Dec.{leb, ltb}
+use lib.ListN.{length, set, take}
+use Rattle.seqs.specs.Over.{over}
+use Rattle.seqs.specs.Pick.{pick}
+use Rattle.seqs.proofs.Overwrites.{take-over-end}
+use Rattle.seqs.proofs.Booleans.{both-false}
+use Rattle.seqs.proofs.Picking.{pick-no, yes-eq, no-eq}
+use Rattle.words.proofs.Entries.{three-words, four-words, five-words, six-words}
+use Rattle.encoder.specs.Padding.{paddingLength}
+use Rattle.relax.specs.Events.{eventOf, setEvent}
+use Rattle.buffer.specs.declared.CodeBuffer.{CodeBuffer}
+use Rattle.buffer.specs.declared.Recorded.{Recorded}
+use Rattle.buffer.specs.declared.Made.{Made}
+use Rattle.buffer.specs.State.{none, withCode, withRefusal, refusing}
+use Rattle.buffer.specs.Refusals.{whyBytes, whyLabel, whyBind, whyAlign, whyUse, whyRef, whyJump, whyConstant, whyConstantLabel, noRoomToAsk, whyReloc}
+use Rattle.buffer.specs.Calls.{putBytes, getLabel, bindLabel, padding, alignedEvents, alignTo, useLabel, recordRef, recordJump, addConstant, askedFirst, constantLabel, addReloc}
+use Rattle.buffer.proofs.Appends.{padding-length}
+use Rattle.buffer.proofs.Accepted.{
+  bytes-accepted,
+  label-accepted,
+  bind-accepted,
+  align-accepted,
+  use-accepted,
+  ref-accepted,
+  jump-accepted,
+  constant-accepted,
+  constant-label-accepted,
+  reloc-accepted,
+}
+use Rattle.recording.specs.Calls.{
+  Recording,
+  Word,
+  Word64,
+  bytes,
+  newLabel,
+  bind,
+  align,
+  use-label,
+  ref,
+  jump,
+  constant,
+  constant-label,
+  relocation,
+  withBuffer,
+  withCodeTable,
+  withLabelTable,
+  withEventTable,
+  withUseTable,
+  withRefTable,
+  withConstantTable,
+  withAskedTable,
+  withRelocTable,
+  after,
+}
+use Rattle.recording.specs.Sound.{labelOf, Sound}
+use Rattle.recording.specs.View.{constantAt, view, seeCode, seeLabels, seeEvents, seeUses, seeRefs, seeConstants, seeAsked, seeRelocs}
+use Rattle.recording.proofs.Tables.{appended, appended-before}
+use Rattle.recording.proofs.Views.{
+  one-use-more,
+  one-ref-more,
+  one-reloc-more,
+  one-event-more,
+  one-word-more,
+  word-set,
+  one-constant-more,
+  constant-labelled,
+}
+
+-- a call that is turned down changes nothing that is seen: it leaves every table, and of the counts at most the first refusal
+pub turned-down-unseen : (r : Recording) (why : ℕ) → view (withBuffer r (refusing (r .buffer) why)) ≡ view r
+unfolding refusing pick
+turned-down-unseen r why = by (ltb why 6)
+  where
+    by : (t : Bool) → view (withBuffer r (pick t (r .buffer) (withRefusal (r .buffer) why))) ≡ view r
+    by true = refl
+    by false = refl
+
+module _ (r : Recording) (s : Sound r) where
+  pub see-bytes : (l : List ℕ) → whyBytes (r .buffer) (length (r .code)) (length l) ≡ 0 → view (after (bytes l) r) ≡ seeCode (view r) (view r .code ++ l)
+  unfolding putBytes
+  see-bytes l h =
+      let b = r .buffer in
+      let f = bytes-accepted b (length (r .code)) (length l) h in
+      ap (λ (a : Recorded × List ℕ). view (withCodeTable r (a .0 .buffer) (a .1))) (yes-eq _ 0 _ _ h)
+      ∙ rw (take-over-end (r .code) (b .code) l (f .room))
+
+  pub see-new-label : whyLabel (r .buffer) (length (r .labels) / 4) ≡ 0 → view (after newLabel r) ≡ seeLabels (view r) (view r .labels ++ (none ∷ []))
+  unfolding getLabel
+  see-new-label h =
+      let n = r .buffer .labels in
+      let f = label-accepted (r .buffer) (length (r .labels) / 4) h in
+      let fits = f .fits in
+      ap (λ (a : Made × List ℕ). view (withLabelTable r (a .0 .buffer) (a .1))) (yes-eq _ 0 _ _ h)
+      ∙ rw (one-word-more (r .labels) _ n none (appended (r .labels) _ n (none ∷ []) refl (omega arith) (omega arith, tt)))
+
+  pub see-bind : (l : Word) → whyBind (r .buffer) (r .labels) (l .value) ≡ 0
+      → view (after (bind l) r) ≡ seeLabels (view r) (set (view r .labels) (l .value) (r .buffer .code))
+  unfolding bindLabel
+  see-bind l h =
+      let f = bind-accepted (r .buffer) (r .labels) (l .value) h in
+      let room = f .room in
+      let limit = s .code .limit in
+      ap (λ (a : Recorded × List ℕ). view (withLabelTable r (a .0 .buffer) (a .1))) (yes-eq _ 0 _ _ h)
+      ∙ rw (word-set (r .labels) (l .value) (r .buffer .code) (r .buffer .labels) (f .known) (omega arith) (omega arith))
+
+  pub see-use : (o l c : Word) → whyUse (r .buffer) (length (r .uses) / 12) (l .value) (c .value) ≡ 0
+      → view (after (use-label o l c) r) ≡ seeUses (view r) (view r .uses ++ (record { offset = o .value; label = l .value; code = c .value } ∷ []))
+  unfolding useLabel
+  see-use o l c h =
+      let n = r .buffer .uses in
+      let f = use-accepted (r .buffer) (length (r .uses) / 12) (l .value) (c .value) h in
+      let fits = f .fits in
+      ap (λ (a : Recorded × List ℕ). view (withUseTable r (a .0 .buffer) (a .1))) (yes-eq _ 0 _ _ h)
+      ∙ rw (one-use-more (r .uses) _ n (o .value) (l .value) (c .value)
+      (appended (r .uses) _ (n * 3) (o .value ∷ l .value ∷ c .value ∷ []) (three-words (r .uses) (n * 3) (o .value) (l .value) (c .value)) (omega arith)
+      (o .small, (l .small, (c .small, tt)))))
+
+  -- refs and jumps are kept on X64
+  pub see-ref : (o l c d : Word) → whyRef (r .buffer) (length (r .refs) / 16) (l .value) (c .value) ≡ 0 → r .buffer .arch ≡ 2
+      → view (after (ref o l c d) r) ≡ seeRefs (view r) (view r .refs ++ (record { offset = o .value; label = l .value; code = c .value; addend = d .value } ∷ []))
+  unfolding recordRef
+  see-ref o l c d h x64 =
+      let n = r .buffer .refs in
+      let f = ref-accepted (r .buffer) (length (r .refs) / 16) (l .value) (c .value) h x64 in
+      let fits = f .fits in
+      ap (λ (a : Recorded × List ℕ). view (withRefTable r (a .0 .buffer) (a .1))) (yes-eq _ 0 _ _ h ∙ yes-eq _ 2 _ _ x64)
+      ∙ rw (one-ref-more (r .refs) _ n (o .value) (l .value) (c .value) (d .value)
+      (appended (r .refs) _ (n * 4) (o .value ∷ l .value ∷ c .value ∷ d .value ∷ []) (four-words (r .refs) (n * 4) (o .value) (l .value) (c .value) (d .value))
+      (omega arith) (o .small, (l .small, (c .small, (d .small, tt))))))
+
+  pub see-ref-elsewhere : (o l c d : Word) → whyRef (r .buffer) (length (r .refs) / 16) (l .value) (c .value) ≡ 0 → r .buffer .arch ≢ 2
+      → view (after (ref o l c d) r) ≡ view r
+  unfolding recordRef
+  see-ref-elsewhere o l c d h other =
+      ap (λ (a : Recorded × List ℕ). view (withRefTable r (a .0 .buffer) (a .1))) (yes-eq _ 0 _ _ h ∙ no-eq _ 2 _ _ other)
+
+  pub see-jump : (p n l c : Word) → whyJump (r .buffer) (r .labels) (r .events) (p .value) (n .value) (l .value) (c .value) ≡ 0 → r .buffer .arch ≡ 2
+      → view (after (jump p n l c) r) ≡ seeEvents (view r) (view r .events ++ (eventOf 1 (p .value) (n .value) (l .value) (c .value) ∷ []))
+  unfolding recordJump setEvent
+  see-jump p n l c h x64 =
+      let k = r .buffer .events in
+      let f = jump-accepted (r .buffer) (r .labels) (r .events) (p .value) (n .value) (l .value) (c .value) h x64 in
+      let fits = f .fits in
+      ap (λ (a : Recorded × List ℕ). view (withEventTable r (a .0 .buffer) (a .1))) (yes-eq _ 0 _ _ h ∙ yes-eq _ 2 _ _ x64)
+      ∙ rw (one-event-more (r .events) _ k 1 (p .value) (n .value) (l .value) (c .value)
+      (appended (r .events) _ (k * 5) (1 ∷ p .value ∷ n .value ∷ l .value ∷ c .value ∷ []) (five-words (r .events) (k * 5) 1 (p .value) (n .value) (l .value) (c .value))
+      (omega arith) (omega arith, (p .small, (n .small, (l .small, (c .small, tt)))))))
+
+  pub see-jump-elsewhere : (p n l c : Word) → whyJump (r .buffer) (r .labels) (r .events) (p .value) (n .value) (l .value) (c .value) ≡ 0 → r .buffer .arch ≢ 2
+      → view (after (jump p n l c) r) ≡ view r
+  unfolding recordJump
+  see-jump-elsewhere p n l c h other =
+      ap (λ (a : Recorded × List ℕ). view (withEventTable r (a .0 .buffer) (a .1))) (yes-eq _ 0 _ _ h ∙ no-eq _ 2 _ _ other)
+
+  pub see-reloc : (o k t : Word) (d : Word64) → whyReloc (r .buffer) (length (r .relocs) / 24) (o .value) (k .value) (t .value) ≡ 0
+      → view (after (relocation o k t d) r)
+      ≡ seeRelocs (view r) (view r .relocs ++ (record { offset = o .value; kind = k .value; target = t .value; addend = d .value } ∷ []))
+  unfolding addReloc
+  see-reloc o k t d h =
+      let n = r .buffer .relocs in
+      let low = d .value % 4294967296 in
+      let high = d .value / 4294967296 in
+      let f = reloc-accepted (r .buffer) (length (r .relocs) / 24) (o .value) (k .value) (t .value) h in
+      let fits = f .fits in
+      let wide = d .small in
+      ap (λ (a : Recorded × List ℕ). view (withRelocTable r (a .0 .buffer) (a .1))) (yes-eq _ 0 _ _ h)
+      ∙ rw (one-reloc-more (r .relocs) _ n (o .value) (k .value) (t .value) (d .value)
+      (appended (r .relocs) _ (n * 6) (o .value ∷ k .value ∷ t .value ∷ 0 ∷ low ∷ high ∷ []) (six-words (r .relocs) (n * 6) (o .value) (k .value) (t .value) 0 low high)
+      (omega arith) (o .small, (k .small, (t .small, (omega arith, (omega arith, (omega arith, tt))))))))
+
+  pub see-constant : (l : List ℕ) → whyConstant (r .buffer) (length (r .constants) / 72) (length l) ≡ 0
+      → view (after (constant l) r) ≡ seeConstants (view r) (view r .constants ++ (record { bytes = l; label = none } ∷ []))
+  unfolding addConstant
+  see-constant l h =
+      let n = r .buffer .constants in
+      let f = constant-accepted (r .buffer) (length (r .constants) / 72) (length l) h in
+      let fits = f .fits in
+      let small = f .small in
+      let a =
+      appended-before (r .constants) _ (n * 18) (length l ∷ none ∷ []) l (n * 72 + 8) (omega arith)
+      (appended (r .constants) _ (n * 18) (length l ∷ none ∷ []) refl (omega arith) (omega arith, (omega arith, tt))) in
+      ap (λ (a : Made × List ℕ). view (withConstantTable r (a .0 .buffer) (a .1))) (yes-eq _ 0 _ _ h)
+      ∙ rw (one-constant-more (r .constants) n (r .buffer .labels) l (omega arith) (s .constants) a)
+
+  padded : (m : Word) → whyAlign (r .buffer) (length (r .code)) (length (r .events) / 20) (m .value) ≡ 0
+      → let pad = paddingLength (r .buffer .code) (m .value) in
+      take (r .buffer .code + pad) (over (r .code) (r .buffer .code) (padding (r .buffer .arch) pad)) ≡ take (r .buffer .code) (r .code) ++ padding (r .buffer .arch) pad
+  padded m h =
+      let b = r .buffer in
+      let pad = paddingLength (b .code) (m .value) in
+      let fits = align-accepted b (length (r .code)) (length (r .events) / 20) (m .value) h .fits in
+      let size = padding-length (b .arch) pad in
+      ap (λ (n : ℕ). take (b .code + n) (over (r .code) (b .code) (padding (b .arch) pad))) (sym size)
+      ∙ take-over-end (r .code) (b .code) (padding (b .arch) pad) (omega arith)
+
+  -- an alignment pads, and on X64 it is an event
+  pub see-align : (m : Word) → whyAlign (r .buffer) (length (r .code)) (length (r .events) / 20) (m .value) ≡ 0 → r .buffer .arch ≡ 2
+      → view (after (align m) r)
+      ≡ seeEvents (seeCode (view r) (view r .code ++ padding 2 (paddingLength (r .buffer .code) (m .value))))
+      (view r .events ++ (eventOf 2 (r .buffer .code) (paddingLength (r .buffer .code) (m .value)) (m .value) 0 ∷ []))
+  unfolding alignTo alignedEvents setEvent
+  see-align m h x64 =
+      let b = r .buffer in
+      let k = b .events in
+      let pad = paddingLength (b .code) (m .value) in
+      let f = align-accepted b (length (r .code)) (length (r .events) / 20) (m .value) h in
+      let fits = f .fits in
+      let few = f .few in
+      let room = f .event x64 in
+      let small = m .small in
+      ap (λ (a : Recorded × (List ℕ × List ℕ)). view (withEventTable (withCodeTable r (a .0 .buffer) (a .1 .0)) (a .0 .buffer) (a .1 .1))) (yes-eq _ 0 _ _ h)
+      ∙ ap
+      (λ (a : CodeBuffer × List ℕ).
+      view (withEventTable (withCodeTable r (withCode (a .0) (b .code + pad)) (over (r .code) (b .code) (padding (b .arch) pad))) (withCode (a .0) (b .code + pad)) (a .1)))
+      (yes-eq _ 2 _ _ x64)
+      ∙ rw (
+        padded m h,
+        x64,
+        one-event-more (r .events) _ k 2 (b .code) pad (m .value) 0
+            (appended (r .events) _ (k * 5) (2 ∷ b .code ∷ pad ∷ m .value ∷ 0 ∷ []) (five-words (r .events) (k * 5) 2 (b .code) pad (m .value) 0) (omega arith)
+            (omega arith, (omega arith, (omega arith, (small, (omega arith, tt)))))),
+      )
+
+  pub see-align-elsewhere : (m : Word) → whyAlign (r .buffer) (length (r .code)) (length (r .events) / 20) (m .value) ≡ 0 → r .buffer .arch ≢ 2
+      → view (after (align m) r) ≡ seeCode (view r) (view r .code ++ padding (r .buffer .arch) (paddingLength (r .buffer .code) (m .value)))
+  unfolding alignTo alignedEvents
+  see-align-elsewhere m h other =
+      let b = r .buffer in
+      let pad = paddingLength (b .code) (m .value) in
+      ap (λ (a : Recorded × (List ℕ × List ℕ)). view (withEventTable (withCodeTable r (a .0 .buffer) (a .1 .0)) (a .0 .buffer) (a .1 .1))) (yes-eq _ 0 _ _ h)
+      ∙ ap
+      (λ (a : CodeBuffer × List ℕ).
+      view (withEventTable (withCodeTable r (withCode (a .0) (b .code + pad)) (over (r .code) (b .code) (padding (b .arch) pad))) (withCode (a .0) (b .code + pad)) (a .1)))
+      (no-eq _ 2 _ _ other)
+      ∙ rw (padded m h)
+
+  -- a constant's first asking lists it and makes it a label, which is not bound yet
+  pub see-first-asking : (n : Word)
+      → whyConstantLabel (r .buffer) (length (r .constants) / 72) (length (r .asked) / 4) (length (r .labels) / 4) (n .value) ≡ 0
+      → labelOf (r .constants) (n .value) ≡ none → noRoomToAsk (r .buffer) (length (r .asked) / 4) (length (r .labels) / 4) ≡ false
+      → view (after (constant-label n) r)
+      ≡ seeConstants (seeAsked (seeLabels (view r) (view r .labels ++ (none ∷ []))) (view r .asked ++ (n .value ∷ [])))
+      (set (view r .constants) (n .value) (record { bytes = constantAt (r .constants) (n .value) .bytes; label = r .buffer .labels }))
+  unfolding constantLabel askedFirst
+  see-first-asking n h unlabelled room =
+      let b = r .buffer in
+      let c = n .value in
+      let labels = b .labels in
+      let f = constant-label-accepted b (length (r .constants) / 72) (length (r .asked) / 4) (length (r .labels) / 4) c h in
+      let rooms = both-false (leb (length (r .labels) / 4) labels) (leb (length (r .asked) / 4) (b .asked)) room in
+      let label-room = leb-false (length (r .labels) / 4) labels (rooms .0) in
+      let asked-room = leb-false (length (r .asked) / 4) (b .asked) (rooms .1) in
+      let limit = s .labels .limit in
+      let small = n .small in
+      ap
+      (λ (a : Made × (List ℕ × (List ℕ × List ℕ))).
+      view (withLabelTable (withAskedTable (withConstantTable r (a .0 .buffer) (a .1 .0)) (a .1 .1 .0)) (a .0 .buffer) (a .1 .1 .1)))
+      (yes-eq _ 0 _ _ h ∙ yes-eq _ none _ _ unlabelled ∙ pick-no _ _ _ room)
+      ∙ rw (
+        one-word-more (r .labels) _ labels none (appended (r .labels) _ labels (none ∷ []) refl (omega arith) (omega arith, tt)),
+        one-word-more (r .asked) _ (b .asked) c (appended (r .asked) _ (b .asked) (c ∷ []) refl (omega arith) (small, tt)),
+        constant-labelled (r .constants) (b .constants) labels c (f .known) (f .room) limit (s .constants),
+      )
+
+  -- asking again changes nothing
+  pub see-asking-again : (n : Word)
+      → whyConstantLabel (r .buffer) (length (r .constants) / 72) (length (r .asked) / 4) (length (r .labels) / 4) (n .value) ≡ 0
+      → labelOf (r .constants) (n .value) ≢ none → view (after (constant-label n) r) ≡ view r
+  unfolding constantLabel
+  see-asking-again n h labelled =
+      ap
+      (λ (a : Made × (List ℕ × (List ℕ × List ℕ))).
+      view (withLabelTable (withAskedTable (withConstantTable r (a .0 .buffer) (a .1 .0)) (a .1 .1 .0)) (a .0 .buffer) (a .1 .1 .1)))
+      (yes-eq _ 0 _ _ h ∙ no-eq _ none _ _ labelled)

@@ -1,0 +1,123 @@
+-- The entries that recordings write: document 01, "an entry meant by 1", turned round. Finish answers 1 to any other.
+use mathlib.Core.Path.{_≡_}
+use mathlib.Core.Logic.{_⊎_, _≢_}
+use mathlib.Core.Bool.{true, false}
+use mathlib.Core.List.{List}
+use Prim.Native.Nat.{ℕ, _+_, _*_, _/_, _≤_, _<_}
+use lib.ListN.{length}
+use Rattle.words.specs.Words.{wordAt}
+use Rattle.encoder.specs.Padding.{paddingLength}
+use Rattle.fields.specs.Kinds.{decoded}
+use Rattle.buffer.specs.State.{none}
+use Rattle.buffer.specs.Refusals.{foreign, foreignReloc, isAlignment}
+use Rattle.recording.specs.Calls.{Recording}
+
+-- the bytes of code lie within what is lent, and within the limit
+pub record CodeSound (code : List ℕ) (count : ℕ) : Type 0 where
+  pub room : count ≤ length code
+  pub limit : count ≤ 16777216
+
+-- an event's start and end, in the table
+abbrev pub startAt : List ℕ → ℕ → ℕ
+startAt events j = wordAt events (j * 5 + 1)
+
+abbrev pub endAt : List ℕ → ℕ → ℕ
+endAt events j = wordAt events (j * 5 + 1) + wordAt events (j * 5 + 2)
+
+-- A label is unbound, or bound within the code and strictly inside no event.
+abbrev pub LabelSound : List ℕ → ℕ → ℕ → ℕ → Type 0
+LabelSound events count code offset = (offset ≡ none) ⊎ ((offset ≤ code) × ((j : ℕ) → j < count → (offset ≤ startAt events j) ⊎ (endAt events j ≤ offset)))
+
+pub record LabelsSound (labels : List ℕ) (count : ℕ) (events : List ℕ) (eventCount code : ℕ) : Type 0 where
+  pub room : count ≤ length labels / 4
+  pub limit : count ≤ 65536
+  pub entry : (i : ℕ) → i < count → LabelSound events eventCount code (wordAt labels i)
+
+-- The columns of an event. A jump: length 2..15, a known label, a condition up to 16. An alignment: a power of two up to 4,096, and the least length
+-- that reaches its multiple.
+abbrev pub FormOf : ℕ → ℕ → ℕ → ℕ → ℕ → ℕ → Type 0
+FormOf labels kind start len what cc =
+    ((kind ≡ 1) × (2 ≤ len) × (len ≤ 15) × (what < labels) × (cc ≤ 16))
+    ⊎ ((kind ≡ 2) × (isAlignment what ≡ true) × (len ≡ paddingLength start what))
+
+abbrev pub EventForm : List ℕ → ℕ → ℕ → Type 0
+EventForm events labels j =
+    FormOf labels (wordAt events (j * 5)) (wordAt events (j * 5 + 1)) (wordAt events (j * 5 + 2)) (wordAt events (j * 5 + 3)) (wordAt events (j * 5 + 4))
+
+-- An event ends within the code and starts after those before it.
+pub record EventSound (events : List ℕ) (labels code j : ℕ) : Type 0 where
+  pub form : EventForm events labels j
+  pub ends : endAt events j ≤ code
+  pub follows : (i : ℕ) → i < j → endAt events i ≤ startAt events j
+
+-- only X64 keeps events
+pub record EventsSound (events : List ℕ) (count labels code arch : ℕ) : Type 0 where
+  pub room : count ≤ length events / 20
+  pub tracked : (arch ≡ 2) ⊎ (count ≡ 0)
+  pub entry : (j : ℕ) → j < count → EventSound events labels code j
+
+-- A use: a code of the architecture other than 15, a known label.
+pub record UseSound (uses : List ℕ) (arch labels i : ℕ) : Type 0 where
+  pub code : wordAt uses (i * 3 + 2) ≤ 16
+  pub patched : wordAt uses (i * 3 + 2) ≢ 15
+  pub native : foreign (decoded (wordAt uses (i * 3 + 2))) arch ≡ false
+  pub label : wordAt uses (i * 3 + 1) < labels
+
+pub record UsesSound (uses : List ℕ) (count arch labels : ℕ) : Type 0 where
+  pub room : count ≤ length uses / 12
+  pub entry : (i : ℕ) → i < count → UseSound uses arch labels i
+
+pub record RefSound (refs : List ℕ) (arch labels i : ℕ) : Type 0 where
+  pub native : foreign (decoded (wordAt refs (i * 4 + 2))) arch ≡ false
+  pub label : wordAt refs (i * 4 + 1) < labels
+
+-- only X64 keeps refs
+pub record RefsSound (refs : List ℕ) (count arch labels : ℕ) : Type 0 where
+  pub room : count ≤ length refs / 16
+  pub tracked : (arch ≡ 2) ⊎ (count ≡ 0)
+  pub entry : (i : ℕ) → i < count → RefSound refs arch labels i
+
+-- a symbol below the count, or a known label + 2^31
+abbrev pub Target : ℕ → ℕ → ℕ → Type 0
+Target symbols labels target = ((target < 2147483648) × (target < symbols)) ⊎ ((2147483648 ≤ target) × (target < 2147483648 + labels))
+
+pub record RelocSound (relocs : List ℕ) (arch symbols labels i : ℕ) : Type 0 where
+  pub offset : wordAt relocs (i * 6) ≤ 16777215
+  pub kind : wordAt relocs (i * 6 + 1) ≤ 27
+  pub native : foreignReloc (wordAt relocs (i * 6 + 1)) arch ≡ false
+  pub target : Target symbols labels (wordAt relocs (i * 6 + 2))
+
+pub record RelocsSound (relocs : List ℕ) (count arch symbols labels : ℕ) : Type 0 where
+  pub room : count ≤ length relocs / 24
+  pub entry : (i : ℕ) → i < count → RelocSound relocs arch symbols labels i
+
+-- A constant has at most 64 bytes; its label is none or known.
+pub record ConstantSound (constants : List ℕ) (labels i : ℕ) : Type 0 where
+  pub size : wordAt constants (i * 18) ≤ 64
+  pub label : (wordAt constants (i * 18 + 1) ≡ none) ⊎ (wordAt constants (i * 18 + 1) < labels)
+
+pub record ConstantsSound (constants : List ℕ) (count labels : ℕ) : Type 0 where
+  pub room : count ≤ length constants / 72
+  pub limit : count ≤ 65536
+  pub entry : (i : ℕ) → i < count → ConstantSound constants labels i
+
+abbrev pub labelOf : List ℕ → ℕ → ℕ
+labelOf constants i = wordAt constants (i * 18 + 1)
+
+-- The order of asking lists known constants that have a label, none twice, no two of which share a label; and every constant that has one.
+pub record AskedSound (asked : List ℕ) (count : ℕ) (constants : List ℕ) (known : ℕ) : Type 0 where
+  pub room : count ≤ length asked / 4
+  pub listed : (i : ℕ) → i < count → (wordAt asked i < known) × (labelOf constants (wordAt asked i) ≢ none)
+  pub once : (i j : ℕ) → i < j → j < count → (wordAt asked i ≢ wordAt asked j) × (labelOf constants (wordAt asked i) ≢ labelOf constants (wordAt asked j))
+  pub all : (n : ℕ) → n < known → labelOf constants n ≢ none → (i : ℕ) × (i < count) × (wordAt asked i ≡ n)
+
+-- A recording whose counts fit and whose every entry is one that recordings write.
+pub record Sound (r : Recording) : Type 0 where
+  pub code : CodeSound (r .code) (r .buffer .code)
+  pub labels : LabelsSound (r .labels) (r .buffer .labels) (r .events) (r .buffer .events) (r .buffer .code)
+  pub events : EventsSound (r .events) (r .buffer .events) (r .buffer .labels) (r .buffer .code) (r .buffer .arch)
+  pub uses : UsesSound (r .uses) (r .buffer .uses) (r .buffer .arch) (r .buffer .labels)
+  pub refs : RefsSound (r .refs) (r .buffer .refs) (r .buffer .arch) (r .buffer .labels)
+  pub constants : ConstantsSound (r .constants) (r .buffer .constants) (r .buffer .labels)
+  pub asked : AskedSound (r .asked) (r .buffer .asked) (r .constants) (r .buffer .constants)
+  pub relocs : RelocsSound (r .relocs) (r .buffer .relocs) (r .buffer .arch) (r .buffer .symbols) (r .buffer .labels)

@@ -1,0 +1,92 @@
+// `LayoutEvent`: the jumps and alignments of a recording, and the table of bytes that they stand in. After asmkit's core/relax.rs (see NOTICE).
+ghost use mathlib.Core.Path.{_≡_};
+ghost use Prim.Native.Nat.{_+_, _*_, _≤_};
+ghost use lib.ListN.{length};
+ghost use Rattle.relax.specs.Events.{conditionOf, eventAt, setEvent, endOf};
+
+// When a jump is taken.
+pub enum Condition {
+    Always,
+    // On a condition code, the low nibble of the opcode.
+    On(u32),
+}
+
+// A `jmp` or `jcc` whose size relaxation may change.
+pub struct RelaxableJump {
+    // Offset of the opcode.
+    pub start: u32,
+    // Bytes recorded.
+    pub len: u32,
+    pub label: u32,
+    pub cc: Condition,
+}
+
+pub enum LayoutEvent {
+    Jump(RelaxableJump),
+    // Padding recorded at `start`.
+    Align { start: u32, len: u32, align: u32 },
+}
+
+// 0 to 15 are condition codes, 16 is none.
+fn condition_of(n: u32) -> Condition
+    ensures { λ r. ⌜ r ≡ conditionOf n ⌝ }
+{
+    if n == 16 {
+        return Condition::Always;
+    }
+    Condition::On(n)
+}
+
+// Event `i` of the table. An entry is five words: kind (1 a jump, else an alignment), start, length, label or multiple, condition or 0.
+pub fn event_at(events: &[u8], i: usize) -> LayoutEvent
+    requires { ⌜ i * 20 + 20 ≤ length (now events) ⌝ }
+    ensures { λ r. ⌜ r ≡ eventAt (now (events .entry)) i ⌝ }
+{
+    let k = i * 5;
+    let kind = words::word_at(events, k);
+    let start = words::word_at(events, k + 1);
+    let len = words::word_at(events, k + 2);
+    let what = words::word_at(events, k + 3);
+    let cc = words::word_at(events, k + 4);
+    if kind == 1 {
+        let cc = condition_of(cc);
+        return LayoutEvent::Jump(RelaxableJump {
+            start,
+            len,
+            label: what,
+            cc,
+        });
+    }
+    LayoutEvent::Align {
+        start,
+        len,
+        align: what,
+    }
+}
+
+// Writes entry `i` of the table.
+pub fn put_event(events: &mut [u8], i: usize, kind: u32, start: u32, len: u32, what: u32, cc: u32)
+    requires { ⌜ i * 20 + 20 ≤ length (now events) ⌝ }
+    ensures { λ _. ⌜ now (events .exit) ≡ setEvent (now (events .entry)) i kind start len what cc ⌝ }
+{
+    let k = i * 5;
+    words::put_word(events, k, kind);
+    words::put_word(events, k + 1, start);
+    words::put_word(events, k + 2, len);
+    words::put_word(events, k + 3, what);
+    words::put_word(events, k + 4, cc);
+}
+
+// The offset after the event. Entries made by hand may pass 32 bits.
+pub fn event_end(event: LayoutEvent) -> u64
+    ensures { λ r. ⌜ r ≡ endOf event ⌝ }
+{
+    match event {
+        LayoutEvent::Jump(jump) => jump.start as u64 + jump.len as u64,
+        LayoutEvent::Align {
+            start,
+            len,
+            align: _,
+        } => start as u64 + len as u64,
+    }
+}
