@@ -1,0 +1,47 @@
+-- `recording_answers::replay` is safe and ends: each turn takes one of the calls, and no slice changes its length.
+use borrow.Author.Needs.{needs}
+use mathlib.Core.Path.{_≡_}
+use Prim.Native.Nat.{_-_, _≤_}
+use lib.ListN.{length}
+use Rattle.recording_answers.proofs.replay.Statement.{statement}
+use Rattle.recording_answers.proofs.replay.Tie as tie
+
+abbrev Inv-loop : tie.InvT-loop
+Inv-loop kinds args code₀ labels₀ events₀ constants₀ entries₀ last₀ i₀ code labels events constants entries last i =
+    (i ≤ length kinds) × (length code ≡ length code₀) × (length labels ≡ length labels₀) × (length events ≡ length events₀) × (length constants ≡ length constants₀) × (length entries ≡ length entries₀)
+
+abbrev μ-loop : tie.MeasureT-loop
+μ-loop kinds args code₀ labels₀ events₀ constants₀ entries₀ last₀ i₀ code labels events constants entries last i =
+    length kinds - i
+
+pub replay-spec : {M : Type 1} → statement M
+replay-spec =
+    tie.close
+    (tie.spec
+    Inv-loop
+    μ-loop
+    (λ c. search needs)
+    (λ c. search needs)
+    (λ c. search needs)
+    (λ c. search needs)
+    (λ c. search needs)
+    (λ c. search needs)
+    (λ c. search needs)
+    (λ c. search needs)
+    (λ c. search needs)
+    (λ c κs. search needs)
+    (λ c. search needs)
+    (λ c. search needs)
+    (λ c. search needs)
+    (λ c. search needs)
+    (λ c. search needs)
+    (λ c. search needs)
+    (λ c. search needs)
+    (λ c. search needs)
+    (λ c. search needs)
+    (λ c. search needs)
+    (λ c. search needs)
+    (λ c. search needs)
+    (λ c. search needs)
+    (λ c. search needs)
+    (λ c. search needs))
