@@ -39,10 +39,6 @@ use Rattle.buffer.specs.Refusals.{
 }
 use Rattle.buffer.proofs.Standing.{stands, count-fits}
 
--- a test that failed
-unequal : (a b : ℕ) → eqb a b ≡ false → a ≢ b
-unequal a b h = eqb-false a b h
-
 pub record BytesAccepted (b : CodeBuffer) (lent n : ℕ) : Type 0 where
   pub room : b .code + n ≤ lent
   pub few : lent ≤ 16777216
@@ -103,7 +99,7 @@ use-accepted b room label code h =
       fits = leb-false room (b .uses) (four .0);
       few = leb-true room 65536 (s .limited);
       form = leb-true code 16 (both-true (leb (b .uses) room) (leb code 16) (s .fits) .1);
-      patched = unequal code 15 (one .0);
+      patched = eqb-false code 15 (one .0);
       native = two .0;
       known = leb-false (b .labels) label (three .0);
     }

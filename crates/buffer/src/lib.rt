@@ -3,7 +3,7 @@
 ghost use mathlib.Core.Path.{_≡_};
 ghost use mathlib.Core.Bool.{_&&_};
 ghost use Rattle.buffer.specs.State.{turnedDown, noneMade};
-ghost use Rattle.buffer.specs.Refusals.{archOccurs, refusalOccurs, standing, whyStart};
+ghost use Rattle.buffer.specs.Refusals.{archOccurs, refusalOccurs, standing};
 ghost use Rattle.buffer.specs.Calls.{started};
 
 mod bytes;

@@ -1,7 +1,7 @@
 -- The law of each call over the view of a sound recording: what a call that is not turned down adds, and that one that is changes nothing.
 use mathlib.Core.Path.{_≡_, refl, sym, ap, _∙_}
 use mathlib.Core.Logic.{_≢_}
-use mathlib.Core.Bool.{Bool, true, false}
+use mathlib.Core.Bool.{false}
 use mathlib.Core.List.{List, [], _∷_, _++_}
 use Prim.Native.Nat.{ℕ, _+_, _*_, _/_, _%_}
 use native.Mathlib.Omega.{arith}
@@ -9,7 +9,6 @@ use borrow.Author.Tests.{leb-false}
 use lib.Dec.{leb, ltb}
 use lib.ListN.{length, set, take}
 use Rattle.seqs.specs.Over.{over}
-use Rattle.seqs.specs.Pick.{pick}
 use Rattle.seqs.proofs.Overwrites.{take-over-end}
 use Rattle.seqs.proofs.Booleans.{both-false}
 use Rattle.seqs.proofs.Picking.{pick-no, yes-eq, no-eq}
@@ -35,33 +34,10 @@ use Rattle.buffer.proofs.Accepted.{
   constant-label-accepted,
   reloc-accepted,
 }
-use Rattle.recording.specs.Calls.{
-  Recording,
-  Word,
-  Word64,
-  bytes,
-  newLabel,
-  bind,
-  align,
-  use-label,
-  ref,
-  jump,
-  constant,
-  constant-label,
-  relocation,
-  withBuffer,
-  withCodeTable,
-  withLabelTable,
-  withEventTable,
-  withUseTable,
-  withRefTable,
-  withConstantTable,
-  withAskedTable,
-  withRelocTable,
-  after,
-}
+use Rattle.recording.specs.Calls.{Recording, Word, Word64, bytes, newLabel, bind, align, use-label, ref, jump, constant, constant-label, relocation, withBuffer, withCodeTable, withLabelTable, withEventTable, withUseTable, withRefTable, withConstantTable, withAskedTable, withRelocTable, after, Call, answered}
 use Rattle.recording.specs.Sound.{labelOf, Sound}
 use Rattle.recording.specs.View.{constantAt, view, seeCode, seeLabels, seeEvents, seeUses, seeRefs, seeConstants, seeAsked, seeRelocs}
+use Rattle.recording.proofs.Steps.{either}
 use Rattle.recording.proofs.Tables.{appended, appended-before}
 use Rattle.recording.proofs.Views.{
   one-use-more,
@@ -74,14 +50,39 @@ use Rattle.recording.proofs.Views.{
   constant-labelled,
 }
 
--- a call that is turned down changes nothing that is seen: it leaves every table, and of the counts at most the first refusal
-pub turned-down-unseen : (r : Recording) (why : ℕ) → view (withBuffer r (refusing (r .buffer) why)) ≡ view r
-unfolding refusing pick
-turned-down-unseen r why = by (ltb why 6)
-  where
-    by : (t : Bool) → view (withBuffer r (pick t (r .buffer) (withRefusal (r .buffer) why))) ≡ view r
-    by true = refl
-    by false = refl
+refusing-unseen : (r : Recording) (why : ℕ) → view (withBuffer r (refusing (r .buffer) why)) ≡ view r
+unfolding refusing
+refusing-unseen r why = either (ltb why 6) (λ (b : CodeBuffer). view (withBuffer r b) ≡ view r) (r .buffer) (withRefusal (r .buffer) why) refl refl
+
+-- A call that is turned down changes nothing that is seen.
+pub turned-down-unseen : (c : Call) (r : Recording) → answered c r ≢ 0 → view (after c r) ≡ view r
+unfolding putBytes getLabel bindLabel alignTo useLabel recordRef recordJump addConstant askedFirst constantLabel addReloc
+turned-down-unseen (bytes l) r =
+    either _ (λ (a : Recorded × List ℕ). a .0 .refusal ≢ 0 → view (withCodeTable r (a .0 .buffer) (a .1)) ≡ view r) _ _ (λ ne. absurd (ne refl)) (λ ne. refusing-unseen r _)
+turned-down-unseen newLabel r =
+    either _ (λ (a : Made × List ℕ). a .0 .refusal ≢ 0 → view (withLabelTable r (a .0 .buffer) (a .1)) ≡ view r) _ _ (λ ne. absurd (ne refl)) (λ ne. refusing-unseen r _)
+turned-down-unseen (bind l) r =
+    either _ (λ (a : Recorded × List ℕ). a .0 .refusal ≢ 0 → view (withLabelTable r (a .0 .buffer) (a .1)) ≡ view r) _ _ (λ ne. absurd (ne refl)) (λ ne. refl)
+turned-down-unseen (align m) r =
+    either _
+    (λ (a : Recorded × (List ℕ × List ℕ)). a .0 .refusal ≢ 0 → view (withEventTable (withCodeTable r (a .0 .buffer) (a .1 .0)) (a .0 .buffer) (a .1 .1)) ≡ view r)
+    _ _ (λ ne. absurd (ne refl)) (λ ne. refusing-unseen r _)
+turned-down-unseen (use-label o l c) r =
+    either _ (λ (a : Recorded × List ℕ). a .0 .refusal ≢ 0 → view (withUseTable r (a .0 .buffer) (a .1)) ≡ view r) _ _ (λ ne. absurd (ne refl)) (λ ne. refusing-unseen r _)
+turned-down-unseen (ref o l c d) r =
+    let P : Recorded × List ℕ → Type 0 = λ a. a .0 .refusal ≢ 0 → view (withRefTable r (a .0 .buffer) (a .1)) ≡ view r in
+    either _ P _ _ (either _ P _ _ (λ ne. absurd (ne refl)) (λ ne. absurd (ne refl))) (λ ne. refusing-unseen r _)
+turned-down-unseen (jump p n l c) r =
+    let P : Recorded × List ℕ → Type 0 = λ a. a .0 .refusal ≢ 0 → view (withEventTable r (a .0 .buffer) (a .1)) ≡ view r in
+    either _ P _ _ (either _ P _ _ (λ ne. absurd (ne refl)) (λ ne. absurd (ne refl))) (λ ne. refusing-unseen r _)
+turned-down-unseen (constant l) r =
+    either _ (λ (a : Made × List ℕ). a .0 .refusal ≢ 0 → view (withConstantTable r (a .0 .buffer) (a .1)) ≡ view r) _ _ (λ ne. absurd (ne refl)) (λ ne. refusing-unseen r _)
+turned-down-unseen (constant-label n) r =
+    let P : Made × (List ℕ × (List ℕ × List ℕ)) → Type 0 =
+    λ a. a .0 .refusal ≢ 0 → view (withLabelTable (withAskedTable (withConstantTable r (a .0 .buffer) (a .1 .0)) (a .1 .1 .0)) (a .0 .buffer) (a .1 .1 .1)) ≡ view r in
+    either _ P _ _ (either _ P _ _ (either _ P _ _ (λ ne. refusing-unseen r 11) (λ ne. absurd (ne refl))) (λ ne. absurd (ne refl))) (λ ne. refusing-unseen r _)
+turned-down-unseen (relocation o k t d) r =
+    either _ (λ (a : Recorded × List ℕ). a .0 .refusal ≢ 0 → view (withRelocTable r (a .0 .buffer) (a .1)) ≡ view r) _ _ (λ ne. absurd (ne refl)) (λ ne. refusing-unseen r _)
 
 module _ (r : Recording) (s : Sound r) where
   pub see-bytes : (l : List ℕ) → whyBytes (r .buffer) (length (r .code)) (length l) ≡ 0 → view (after (bytes l) r) ≡ seeCode (view r) (view r .code ++ l)

@@ -5,3 +5,4 @@ pub mod Steps
 pub mod Recordings
 pub mod Views
 pub mod Laws
+pub mod Alignments

@@ -85,6 +85,19 @@ after (constant-label n) r =
     withLabelTable (withAskedTable (withConstantTable r (a .0 .buffer) (a .1 .0)) (a .1 .1 .0)) (a .0 .buffer) (a .1 .1 .1)
 after (relocation o k t d) r = let a = addReloc (r .buffer) (r .relocs) (o .value) (k .value) (t .value) (d .value) in withRelocTable r (a .0 .buffer) (a .1)
 
+-- the number that the call answers, 0 where it is not turned down
+abbrev pub answered : Call → Recording → ℕ
+answered (bytes l) r = putBytes (r .buffer) (r .code) l .0 .refusal
+answered newLabel r = getLabel (r .buffer) (r .labels) .0 .refusal
+answered (bind l) r = bindLabel (r .buffer) (r .labels) (l .value) .0 .refusal
+answered (align m) r = alignTo (r .buffer) (r .code) (r .events) (m .value) .0 .refusal
+answered (use-label o l c) r = useLabel (r .buffer) (r .uses) (o .value) (l .value) (c .value) .0 .refusal
+answered (ref o l c d) r = recordRef (r .buffer) (r .refs) (o .value) (l .value) (c .value) (d .value) .0 .refusal
+answered (jump s n l c) r = recordJump (r .buffer) (r .labels) (r .events) (s .value) (n .value) (l .value) (c .value) .0 .refusal
+answered (constant l) r = addConstant (r .buffer) (r .constants) l .0 .refusal
+answered (constant-label n) r = constantLabel (r .buffer) (r .constants) (r .asked) (r .labels) (n .value) .0 .refusal
+answered (relocation o k t d) r = addReloc (r .buffer) (r .relocs) (o .value) (k .value) (t .value) (d .value) .0 .refusal
+
 -- and after a sequence of them
 abbrev pub afterAll : List Call → Recording → Recording
 afterAll [] r = r
