@@ -9,7 +9,7 @@ use crate::Recorded;
 use crate::both;
 
 // A power of two, at most 4,096.
-fn is_alignment(n: u32) -> bool
+pub fn is_alignment(n: u32) -> bool
     ensures { λ r. ⌜ r ≡ isAlignment n ⌝ }
 {
     if n == 0 {
@@ -18,7 +18,7 @@ fn is_alignment(n: u32) -> bool
     4096 % n == 0
 }
 
-fn clear(part: &mut [u8])
+pub fn clear(part: &mut [u8])
     ensures { λ _. ⌜ now (part .exit) ≡ replicate (length (now (part .entry))) 0 ⌝ }
 {
     let mut i: usize = 0;
@@ -29,7 +29,7 @@ fn clear(part: &mut [u8])
 }
 
 // AArch64 is padded with zeros.
-fn pad(arch: u32, part: &mut [u8])
+pub fn pad(arch: u32, part: &mut [u8])
     ensures { λ _. ⌜ now (part .exit) ≡ padding arch (length (now (part .entry))) ⌝ }
 {
     if arch == 6 {

@@ -6,12 +6,12 @@ ghost use Rattle.buffer.specs.State.{turnedDown, noneMade};
 ghost use Rattle.buffer.specs.Refusals.{archOccurs, refusalOccurs, standing};
 ghost use Rattle.buffer.specs.Calls.{started};
 
-mod bytes;
+pub mod bytes;
 mod constants;
 mod jumps;
 mod labels;
-mod relocs;
-mod uses;
+pub mod relocs;
+pub mod uses;
 
 // The offset of a label that is not bound, the label of a constant that has none, and what a refused call for either gives.
 pub const NONE: u32 = 0xffffffff;
@@ -49,7 +49,7 @@ pub struct Made {
     pub number: u32,
 }
 
-pub(crate) fn both(a: bool, b: bool) -> bool
+pub fn both(a: bool, b: bool) -> bool
     ensures { λ r. ⌜ r ≡ (a && b) ⌝ }
 {
     if a {
@@ -139,7 +139,7 @@ impl CodeBuffer {
 
     // What every call looks at first: 0, 1, the recorded refusal, 3 or 4. `fit`: every count that can be compared with what is lent passes it
     // nowhere, and the arguments have their form. `within`: no limit is passed by what is lent.
-    pub(crate) fn standing(self, fit: bool, within: bool) -> u32
+    pub fn standing(self, fit: bool, within: bool) -> u32
         ensures { λ r. ⌜ r ≡ standing self fit within ⌝ }
     {
         if !self.is_sound(fit) {

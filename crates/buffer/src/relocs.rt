@@ -51,7 +51,7 @@ fn arch_of_kind(kind: u32) -> u8
     3
 }
 
-fn is_foreign_kind(kind: u32, arch: u32) -> bool
+pub fn is_foreign_kind(kind: u32, arch: u32) -> bool
     ensures { λ r. ⌜ r ≡ foreignReloc kind arch ⌝ }
 {
     let which = arch_of_kind(kind);
@@ -85,7 +85,7 @@ fn put_reloc(relocs: &mut [u8], i: usize, offset: u32, kind: u32, target: u32, a
 
 impl CodeBuffer {
     // A target is a symbol, or a label + 2^31.
-    fn is_known(self, target: u32) -> bool
+    pub fn is_known(self, target: u32) -> bool
         ensures { λ r. ⌜ r ≡ targetKnown self target ⌝ }
     {
         if target < 2147483648 {

@@ -11,7 +11,7 @@ use crate::Recorded;
 use crate::both;
 
 // Whether the architecture has no field of the kind that `code` stands for.
-fn is_foreign(code: u32, arch: u32) -> bool
+pub fn is_foreign(code: u32, arch: u32) -> bool
     ensures { λ r. ⌜ r ≡ foreign (decoded code) arch ⌝ }
 {
     match fields::LabelUse::from_code(code) {

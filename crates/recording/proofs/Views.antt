@@ -20,19 +20,19 @@ use Rattle.recording.specs.Sound.{ConstantsSound}
 use Rattle.recording.proofs.Tables.{Appended}
 
 -- entries that read the same
-entries-same : {A : Type 0} (f g : ℕ → A) (n : ℕ) → ((i : ℕ) → i < n → f i ≡ g i) → entries f n ≡ entries g n
+pub entries-same : {A : Type 0} (f g : ℕ → A) (n : ℕ) → ((i : ℕ) → i < n → f i ≡ g i) → entries f n ≡ entries g n
 entries-same f g zero h = refl
 entries-same f g (suc n) h = rw (entries-same f g n (λ i l. h i (omega arith)), h n (omega arith))
 
 -- one entry more
-entries-more : {A : Type 0} (f g : ℕ → A) (n : ℕ) (x : A) → ((i : ℕ) → i < n → f i ≡ g i) → f n ≡ x → entries f (n + 1) ≡ entries g n ++ (x ∷ [])
+pub entries-more : {A : Type 0} (f g : ℕ → A) (n : ℕ) (x : A) → ((i : ℕ) → i < n → f i ≡ g i) → f n ≡ x → entries f (n + 1) ≡ entries g n ++ (x ∷ [])
 entries-more f g n x h e = rw (add-one n, entries-same f g n h, e)
 
-length-entries : {A : Type 0} (f : ℕ → A) (n : ℕ) → length (entries f n) ≡ n
+pub length-entries : {A : Type 0} (f : ℕ → A) (n : ℕ) → length (entries f n) ≡ n
 length-entries f zero = refl
 length-entries f (suc n) = length-append (entries f n) (f n ∷ []) ∙ rw (length-entries f n) (add-one n)
 
-getD-entries : {A : Type 0} (f : ℕ → A) (n i : ℕ) (d : A) → i < n → getD (entries f n) i d ≡ f i
+pub getD-entries : {A : Type 0} (f : ℕ → A) (n i : ℕ) (d : A) → i < n → getD (entries f n) i d ≡ f i
 getD-entries f zero i d h = absurd (not-suc-le-zero h)
 getD-entries f (suc n) i d h =
     ⊎-elim

@@ -27,6 +27,15 @@ pub enum LayoutEvent {
     Align { start: u32, len: u32, align: u32 },
 }
 
+// Where one `LayoutEvent` was recorded and where it ended up.
+#[repr(C)]
+pub struct Segment {
+    pub old_start: u32,
+    pub old_end: u32,
+    pub new_start: u32,
+    pub new_end: u32,
+}
+
 // 0 to 15 are condition codes, 16 is none.
 fn condition_of(n: u32) -> Condition
     ensures { λ r. ⌜ r ≡ conditionOf n ⌝ }
