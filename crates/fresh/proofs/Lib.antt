@@ -1,0 +1,17 @@
+pub mod Shape
+pub mod Tests
+pub mod Events
+pub mod Entries
+pub mod Items
+pub mod Choices
+pub mod Forms
+pub mod Loops
+pub mod Rounds
+pub mod Segments
+pub mod Walk
+pub mod Least
+pub mod Within
+pub mod Fill
+pub mod Past
+pub mod Demand
+pub mod Cases

@@ -1,0 +1,224 @@
+-- What a finish computes from segments is what the walk of a fresh assembly does.
+use mathlib.Core.Path.{_≡_, refl, sym, _∙_, ap, fun-ext}
+use mathlib.Core.List.{List, [], _∷_, _++_, map}
+use Prim.Native.Nat.{ℕ, suc, _+_, _-_, _≤_, _<_}
+use native.Mathlib.Omega.{arith}
+use lib.Dec.{ltb, eqb}
+use lib.ListN.{length, getD, take, drop, length-append, length-drop}
+use borrow.Author.Tests.{le-leb, lt-leb, lt-ltb, le-ltb, eqb-false, ltb-true, ltb-false}
+use Rattle.relax.specs.declared.LayoutEvent.{LayoutEvent}
+use Rattle.relax.specs.declared.Segment.{Segment}
+use Rattle.relax.specs.Events.{endOf}
+use Rattle.buffer.specs.State.{none}
+use Rattle.fresh.specs.Pooled.{Pooled}
+use Rattle.fresh.specs.Forms.{form, width}
+use Rattle.fresh.specs.Fresh.{Choice, isLong, others, startOf, extentOf, Item, plain, event, items, writes, ends, stands, walk, placed, moved, target}
+use Rattle.fresh.specs.Rounds.{farOf, far}
+use Rattle.fresh.specs.Segments.{segment, segments, image, chosen, decided, mapOffset, segmentsOf}
+use Rattle.fresh.proofs.Shape.{Ordered, Clear, Lies, WellFormed, newEnds, runs}
+use Rattle.fresh.proofs.Tests.{split}
+use Rattle.fresh.proofs.Events.{end-is, at-start, ordered-le, ordered-clear, run-length, drop-on}
+use Rattle.fresh.proofs.Items.{spanned, spanned-items}
+
+-- over a run of plain bytes
+writes-run : (bs : List ℕ) (is : List Item) (n : ℕ) (c : Choice) → writes n (map plain bs ++ is) c ≡ bs ++ writes (n + length bs) is c
+unfolding writes
+writes-run [] is n c = ap (λ x. writes x is c) (omega arith)
+writes-run (b ∷ bs) is n c = ap (λ l. b ∷ l) (writes-run bs is (suc n) c ∙ ap (λ x. bs ++ writes x is c) (omega arith))
+
+writes-plains : (bs : List ℕ) (n : ℕ) (c : Choice) → writes n (map plain bs) c ≡ bs
+unfolding writes
+writes-plains [] n c = refl
+writes-plains (b ∷ bs) n c = ap (λ l. b ∷ l) (writes-plains bs (suc n) c)
+
+ends-run : (bs : List ℕ) (is : List Item) (n : ℕ) (c : Choice) → ends n (map plain bs ++ is) c ≡ ends (n + length bs) is c
+unfolding ends
+ends-run [] is n c = ap (λ x. ends x is c) (omega arith)
+ends-run (b ∷ bs) is n c = ends-run bs is (suc n) c ∙ ap (λ x. ends x is c) (omega arith)
+
+ends-plains : (bs : List ℕ) (n : ℕ) (c : Choice) → ends n (map plain bs) c ≡ []
+unfolding ends
+ends-plains [] n c = refl
+ends-plains (b ∷ bs) n c = ends-plains bs (suc n) c
+
+stands-in : (bs : List ℕ) (is : List Item) (t o n : ℕ) (c : Choice) → o ≤ t → t < o + length bs → stands t o n (map plain bs ++ is) c ≡ n + (t - o)
+unfolding stands
+stands-in [] is t o n c h k = absurd (omega arith)
+stands-in (b ∷ bs) is t o n c h k = split (ltb t (suc o))
+    (λ e. rw (e, stands) (omega (arith, ltb-true t (suc o) e)))
+    (λ e. rw (e, stands) (stands-in bs is t (suc o) (suc n) c (ltb-false t (suc o) e) (omega arith) ∙ omega (arith, ltb-false t (suc o) e)))
+
+stands-past : (bs : List ℕ) (is : List Item) (t o n : ℕ) (c : Choice) → o + length bs ≤ t
+    → stands t o n (map plain bs ++ is) c ≡ stands t (o + length bs) (n + length bs) is c
+unfolding stands
+stands-past [] is t o n c h = cc (plus-zero o, plus-zero n)
+  where
+    plus-zero : (x : ℕ) → x + 0 ≡ x
+    plus-zero x = omega arith
+stands-past (b ∷ bs) is t o n c h =
+    rw (le-ltb t (suc o) (omega arith), stands) (stands-past bs is t (suc o) (suc n) c (omega arith) ∙ cc (shift o, shift n))
+  where
+    shift : (x : ℕ) → suc x + length bs ≡ x + suc (length bs)
+    shift x = omega arith
+
+stands-plains : (bs : List ℕ) (t o n : ℕ) (c : Choice) → o ≤ t → t ≤ o + length bs → stands t o n (map plain bs) c ≡ n + (t - o)
+unfolding stands
+stands-plains [] t o n c h k = omega arith
+stands-plains (b ∷ bs) t o n c h k = split (ltb t (suc o))
+    (λ e. rw (e, stands) (omega (arith, ltb-true t (suc o) e)))
+    (λ e. rw (e, stands) (stands-plains bs t (suc o) (suc n) c (ltb-false t (suc o) e) (omega arith) ∙ omega (arith, ltb-false t (suc o) e)))
+
+-- at an event
+stands-stop : (e : LayoutEvent) (is : List Item) (t o n : ℕ) (c : Choice) → t < o + extentOf e → stands t o n (event e ∷ is) c ≡ n
+unfolding stands
+stands-stop e is t o n c h = rw (lt-ltb t (o + extentOf e) h, stands)
+
+stands-go : (e : LayoutEvent) (is : List Item) (t o n : ℕ) (c : Choice) → o + extentOf e ≤ t
+    → stands t o n (event e ∷ is) c ≡ stands t (o + extentOf e) (n + width e (isLong c) n) is (others c)
+unfolding stands
+stands-go e is t o n c h = rw (le-ltb t (o + extentOf e) h, stands)
+
+-- the code
+writes-runs : (es : List LayoutEvent) (o n : ℕ) (code : List ℕ) (c : Choice) → Ordered o (length code) es
+    → writes n (items o (drop o code) es) c ≡ runs o n code es c
+unfolding Ordered items runs writes
+writes-runs [] o n code c h = writes-plains (drop o code) n c
+writes-runs (e ∷ es) o n code c h =
+    writes-run (take (startOf e - o) (drop o code)) _ n c
+    ∙ rw (
+      run-length o (startOf e) code (h .0) (omega (arith, end-is e, ordered-le (endOf e) (length code) es (h .1))),
+      drop-on o (endOf e) code (omega (arith, end-is e, h .0)),
+      writes-runs es (endOf e) (n + (startOf e - o) + width e (isLong c) (n + (startOf e - o))) code (others c) (h .1),
+    ) refl
+
+-- the events' new ends
+ends-segments : (es : List LayoutEvent) (o n : ℕ) (code : List ℕ) (c : Choice) → Ordered o (length code) es
+    → ends n (items o (drop o code) es) c ≡ newEnds (segments o n es c)
+unfolding Ordered items segments ends
+ends-segments [] o n code c h = ends-plains (drop o code) n c
+ends-segments (e ∷ es) o n code c h =
+    ends-run (take (startOf e - o) (drop o code)) _ n c
+    ∙ rw (
+      run-length o (startOf e) code (h .0) (omega (arith, end-is e, ordered-le (endOf e) (length code) es (h .1))),
+      drop-on o (endOf e) code (omega (arith, end-is e, h .0)),
+      ends-segments es (endOf e) (n + (startOf e - o) + width e (isLong c) (n + (startOf e - o))) code (others c) (h .1),
+    ) refl
+
+-- what one segment decides
+chosen-no : (s : Segment) (t d : ℕ) → t < s .«old_start» → chosen s t d ≡ d
+unfolding chosen
+chosen-no s t d h = rw (lt-leb (s .«old_start») t h, chosen)
+
+chosen-in : (s : Segment) (t d : ℕ) → s .«old_start» ≤ t → t < s .«old_end» → chosen s t d ≡ t - s .«old_start» + s .«new_start»
+unfolding chosen image
+chosen-in s t d h k = rw (le-leb (s .«old_start») t h, chosen) (rw (lt-ltb t (s .«old_end») k, image))
+
+chosen-past : (s : Segment) (t d : ℕ) → s .«old_start» ≤ t → s .«old_end» ≤ t → chosen s t d ≡ t - s .«old_end» + s .«new_end»
+unfolding chosen image
+chosen-past s t d h k = rw (le-leb (s .«old_start») t h, chosen) (rw (le-ltb t (s .«old_end») k, image))
+
+-- no segment that starts past t decides
+decided-none : (es : List LayoutEvent) (o n len t d : ℕ) (c : Choice) → Ordered o len es → t < o → decided (segments o n es c) t d ≡ d
+unfolding Ordered segments decided
+decided-none [] o n len t d c h k = refl
+decided-none (e ∷ es) o n len t d c h k =
+    ap (λ x. decided (segments (endOf e) ((segment o n e (isLong c)) .«new_end») es (others c)) t x)
+    (chosen-no (segment o n e (isLong c)) t d (omega (arith, h .0)))
+    ∙ decided-none es (endOf e) ((segment o n e (isLong c)) .«new_end») len t d (others c) (h .1) (omega (arith, end-is e, h .0))
+
+-- offsets
+stands-decided : (es : List LayoutEvent) (o n : ℕ) (code : List ℕ) (c : Choice) (t : ℕ) → Ordered o (length code) es → Clear t es → o ≤ t → t ≤ length code
+    → stands t o n (items o (drop o code) es) c ≡ decided (segments o n es c) t (t - o + n)
+unfolding Ordered Clear items segments decided
+stands-decided [] o n code c t h cl ot tn = stands-plains (drop o code) t o n c ot (rw (length-drop o code) (omega arith)) ∙ omega arith
+stands-decided (e ∷ es) o n code c t h cl ot tn = split (ltb t (startOf e))
+    (λ q. let a : t < startOf e = ltb-true t (startOf e) q in
+    stands-in run _ t o n c ot (rw len (omega (arith, h .0)))
+    ∙ (omega arith ∙ sym (rest (t - o + n) (chosen-no (segment o n e (isLong c)) t (t - o + n) a) (omega (arith, end-is e)))))
+    (λ q. let a : startOf e ≤ t = ltb-false t (startOf e) q in
+    stands-past run _ t o n c (rw len (omega (arith, h .0)))
+    ∙ rw (len, there, drop-on o (endOf e) code (omega (arith, end-is e, h .0)))
+    (split (ltb t (endOf e))
+    (λ w. let b : t < endOf e = ltb-true t (endOf e) w in
+    stands-stop e _ t (startOf e) (n + (startOf e - o)) c (omega (arith, end-is e))
+    ∙ (omega (arith, at-start (startOf e) (endOf e) t a b (cl .0))
+    ∙ sym (rest (t - startOf e + (n + (startOf e - o))) (chosen-in (segment o n e (isLong c)) t (t - o + n) a b) b)))
+    (λ w. let b : endOf e ≤ t = ltb-false t (endOf e) w in
+    stands-go e _ t (startOf e) (n + (startOf e - o)) c (omega (arith, end-is e))
+    ∙ rw (← end-is e)
+    (stands-decided es (endOf e) new code (others c) t (h .1) (cl .1) b tn
+    ∙ sym (ap (λ x. decided (segments (endOf e) new es (others c)) t x) (chosen-past (segment o n e (isLong c)) t (t - o + n) a b))))))
+  where
+    run : List ℕ
+    run = take (startOf e - o) (drop o code)
+
+    new : ℕ
+    new = (segment o n e (isLong c)) .«new_end»
+
+    len : length run ≡ startOf e - o
+    len = run-length o (startOf e) code (h .0) (omega (arith, end-is e, ordered-le (endOf e) (length code) es (h .1)))
+
+    there : o + (startOf e - o) ≡ startOf e
+    there = omega (arith, h .0)
+
+    rest : (x : ℕ) → chosen (segment o n e (isLong c)) t (t - o + n) ≡ x → t < endOf e
+        → decided (segments (endOf e) new es (others c)) t (chosen (segment o n e (isLong c)) t (t - o + n)) ≡ x
+    rest x p b =
+        ap (λ y. decided (segments (endOf e) new es (others c)) t y) p ∙ decided-none es (endOf e) new (length code) t x (others c) (h .1) b
+
+-- the walk to the end: the finished length is the new offset of the code's end
+stands-all : (is : List Item) (t o n : ℕ) (c : Choice) → o + spanned is ≤ t → stands t o n is c ≡ n + length (writes n is c)
+unfolding spanned stands writes width
+stands-all [] t o n c h = omega arith
+stands-all (plain b ∷ is) t o n c h =
+    rw (le-ltb t (suc o) (omega arith), stands) (stands-all is t (suc o) (suc n) c (omega arith) ∙ omega arith)
+stands-all (event e ∷ is) t o n c h =
+    stands-go e is t o n c (omega arith)
+    ∙ (stands-all is t (o + extentOf e) (n + width e (isLong c) n) (others c) (omega arith)
+    ∙ omega (arith, length-append (form e (isLong c) n) (writes (n + width e (isLong c) n) is (others c))))
+
+module _ (p : Pooled) (c : Choice) (wf : WellFormed p) where
+  -- Every byte.
+  pub placed-runs : placed p c ≡ runs 0 0 (p .code) (p .events) c
+  placed-runs = writes-runs (p .events) 0 0 (p .code) c (wf .ordered)
+
+  -- Each event's new end.
+  pub ends-are : ends 0 (walk p) c ≡ newEnds (segmentsOf p c)
+  ends-are = ends-segments (p .events) 0 0 (p .code) c (wf .ordered)
+
+  -- Every offset in the code that lies strictly inside no event.
+  pub moved-map : (t : ℕ) → Lies p t → moved p c t ≡ mapOffset (segmentsOf p c) t
+  unfolding moved mapOffset
+  moved-map t h = split (eqb t none)
+      (λ e. rw (e, moved, mapOffset) refl)
+      (λ e. rw (e, moved, mapOffset)
+      (stands-decided (p .events) 0 0 (p .code) c t (wf .ordered) (h .1) (omega arith) (h .0) ∙ ap (λ x. decided (segmentsOf p c) t x) (same t)))
+    where
+      same : (t : ℕ) → t - 0 + 0 ≡ t
+      same t = omega arith
+
+  -- Every label.
+  pub target-map : (l : ℕ) → target p c l ≡ mapOffset (segmentsOf p c) (getD (p .labels) l none)
+  unfolding moved mapOffset
+  target-map l = split (eqb (getD (p .labels) l none) none)
+      (λ e. rw (e, moved, mapOffset) refl)
+      (λ e. moved-map (getD (p .labels) l none) (wf .landed l (eqb-false (getD (p .labels) l none) none e)))
+
+  -- The jumps that a round lengthens.
+  pub far-segments : far p c ≡ farOf (λ l. mapOffset (segmentsOf p c) (getD (p .labels) l none)) (p .events) c (newEnds (segmentsOf p c))
+  far-segments =
+      ap (λ f. farOf f (p .events) c (ends 0 (walk p) c)) (fun-ext target-map)
+      ∙ ap (λ es. farOf (λ l. mapOffset (segmentsOf p c) (getD (p .labels) l none)) (p .events) c es) ends-are
+
+  -- The finished length is where the code's end goes.
+  pub length-placed : length (placed p c) ≡ decided (segmentsOf p c) (length (p .code)) (length (p .code))
+  length-placed =
+      omega (
+        arith,
+        stands-all (walk p) (length (p .code)) 0 0 c (omega (arith, spanned-items (p .events) 0 (p .code) (wf .ordered))),
+        stands-decided (p .events) 0 0 (p .code) c (length (p .code)) (wf .ordered) (ordered-clear (p .events) 0 (length (p .code)) (wf .ordered)) (omega arith) (omega arith),
+        ap (λ x. decided (segmentsOf p c) (length (p .code)) x) (same (length (p .code))),
+      )
+    where
+      same : (t : ℕ) → t - 0 + 0 ≡ t
+      same t = omega arith

@@ -1,0 +1,58 @@
+-- The recording as finish gets it, its constants pooled: document 01, "Pool constants in order of asking", and its paragraph on a fresh assembly.
+use mathlib.Core.Bool.{cond}
+use mathlib.Core.List.{List, [], _∷_, _++_}
+use Prim.Native.Nat.{ℕ, zero, suc, _+_}
+use lib.Dec.{eqb, leb}
+use lib.ListN.{length, getD, set, replicate}
+use Rattle.encoder.specs.Padding.{paddingLength}
+use Rattle.relax.specs.declared.LayoutEvent.{LayoutEvent}
+use Rattle.relax.specs.declared.LayoutEvent.the-variants.{Align}
+use Rattle.buffer.specs.State.{none}
+use Rattle.buffer.specs.Calls.{padding}
+use Rattle.recording.specs.View.{Use, Ref, Constant, View}
+
+-- a constant of n bytes is "aligned on 8 up to 8 bytes, else 16"
+abbrev pub constantAlignment : ℕ → ℕ
+constantAlignment n = cond (leb n 8) 8 16
+
+-- a constant in the pool: where it stands, and its bytes
+pub record Placed : Type 0 where
+  pub offset : ℕ
+  pub bytes : List ℕ
+
+pub record Pooled : Type 0 where
+  pub code : List ℕ
+  pub events : List LayoutEvent
+  pub labels : List ℕ
+  pub uses : List Use
+  pub refs : List Ref
+  pub pool : List Placed
+
+-- One constant more: the end of the code is aligned for it (an event, on X64), its label is bound there, and room is left for its bytes, which are
+-- written last.
+unfoldable pub pooledOne : ℕ → Pooled → Constant → Pooled
+pooledOne arch p k =
+    let start = length (p .code) in
+    let multiple = constantAlignment (length (k .bytes)) in
+    let len = paddingLength start multiple in
+    record {
+      code = p .code ++ (padding arch len ++ replicate (length (k .bytes)) 0);
+      events = p .events ++ cond (eqb arch 2) (Align start len multiple ∷ []) [];
+      labels = set (p .labels) (k .label) (start + len);
+      uses = p .uses;
+      refs = p .refs;
+      pool = p .pool ++ (record { offset = start + len; bytes = k .bytes } ∷ []);
+    }
+
+-- the constant that was asked for as number j, from 0
+abbrev pub askedConstant : View → ℕ → Constant
+askedConstant v j = getD (v .constants) (getD (v .asked) j 0) (record { bytes = []; label = none })
+
+-- the first n of the constants asked for are pooled
+abbrev pub pooledTo : ℕ → View → ℕ → Pooled
+pooledTo arch v zero = record { code = v .code; events = v .events; labels = v .labels; uses = v .uses; refs = v .refs; pool = [] }
+pooledTo arch v (suc n) = pooledOne arch (pooledTo arch v n) (askedConstant v n)
+
+-- all of them; "a constant never asked for is not pooled"
+abbrev pub pooled : ℕ → View → Pooled
+pooled arch v = pooledTo arch v (length (v .asked))
