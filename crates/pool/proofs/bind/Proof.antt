@@ -1,0 +1,63 @@
+-- `bind` meets its contract: after j turns the labels of the first j constants are bound, and `at` is where constant j's alignment starts.
+use mathlib.Core.Path.{_≡_, refl, _∙_}
+use Prim.Native.Nat.{_+_, _*_, _-_, _≤_}
+use native.Mathlib.Omega.{arith}
+use lib.ListN.{length}
+use Rattle.words.proofs.Laws.{length-setWord}
+use Rattle.pool.specs.Pool.{poolStart, poolBound}
+use Rattle.pool.proofs.Pool.{pad-small, start-turn, offset-turn, bound-turn}
+use borrow.Author.Needs.{needs}
+use Rattle.pool.proofs.bind.Statement.{statement}
+use Rattle.pool.proofs.bind.Tie as tie
+
+abbrev Inv-loop : tie.InvT-loop
+Inv-loop from labels₀ constants asked n at₀ j₀ labels at j = (j ≤ n) × (at ≡ poolStart from constants asked j) × (at ≤ from + j * 79) × (length labels ≡ length labels₀) × (labels ≡ poolBound from labels₀ constants asked j)
+
+abbrev μ-loop : tie.MeasureT-loop
+μ-loop from labels₀ constants asked n at₀ j₀ labels at j = n - j
+
+loop-holds : tie.Need-loop-holds Inv-loop μ-loop
+unfolding poolStart poolBound
+loop-holds c = (omega arith, refl, omega arith, refl, refl)
+
+size-at-requires : tie.Need-size-at-requires Inv-loop μ-loop
+size-at-requires c κs = omega (arith, c .before .before .before .before .before .pre .0 .listed _ (c .loop-test .taken))
+
+label-at-requires : tie.Need-label-at-requires Inv-loop μ-loop
+label-at-requires c κs = omega (arith, c .before .before .before .before .before .before .pre .0 .listed _ (c .before .loop-test .taken))
+
+add-offset : tie.Need-add-offset Inv-loop μ-loop
+add-offset c = omega (arith, pad-small _ (c .before .before .before .size-at .result) _ _ (c .before .constant-alignment .ensures) (c .padding-len .ensures), c .before .before .before .before .before .before .before .before .before .pre .0 .few)
+
+put-word-requires : tie.Need-put-word-requires Inv-loop μ-loop
+put-word-requires c κs = omega (arith, c .before .before .before .before .before .before .before .before .before .before .pre .1 .0 .known _ (c .before .before .before .before .before .loop-test .taken), c .before .before .before .label-at .ensures)
+
+add-at : tie.Need-add-at Inv-loop μ-loop
+add-at c = omega (arith, pad-small _ (c .before .before .before .before .before .before .before .size-at .result) _ _ (c .before .before .before .before .before .constant-alignment .ensures) (c .before .before .before .before .padding-len .ensures), c .before .before .before .before .before .before .before .before .before .before .before .before .before .pre .0 .few, c .before .before .before .before .before .before .before .before .before .before .before .before .before .pre .0 .sized _ (c .before .before .before .before .before .before .before .before .loop-test .taken), c .before .before .before .before .before .before .before .size-at .ensures)
+
+loop-again : tie.Need-loop-again Inv-loop μ-loop
+loop-again c = let offset = offset-turn _ _ _ _ _ (c .before .before .before .before .before .before .before .size-at .result) _ _ (c .before .before .before .before .before .before .before .before .before .loop .inv .1) (c .before .before .before .before .before .before .before .size-at .ensures) (c .before .before .before .before .before .constant-alignment .ensures) (c .before .before .before .before .padding-len .ensures) in (omega arith, start-turn _ _ _ _ _ (c .before .before .before .before .before .before .before .size-at .result) _ _ (c .before .before .before .before .before .before .before .before .before .loop .inv .1) (c .before .before .before .before .before .before .before .size-at .ensures) (c .before .before .before .before .before .constant-alignment .ensures) (c .before .before .before .before .padding-len .ensures), omega (arith, pad-small _ (c .before .before .before .before .before .before .before .size-at .result) _ _ (c .before .before .before .before .before .constant-alignment .ensures) (c .before .before .before .before .padding-len .ensures), c .before .before .before .before .before .before .before .before .before .before .before .before .before .pre .0 .sized _ (c .before .before .before .before .before .before .before .before .loop-test .taken), c .before .before .before .before .before .before .before .size-at .ensures), rw (c .before .before .put-word .ensures) (length-setWord _ _ _ ∙ c .before .before .before .before .before .before .before .before .before .loop .inv .3), c .before .before .put-word .ensures ∙ bound-turn _ _ _ _ _ _ _ _ (c .before .before .before .before .before .before .before .before .before .loop .inv .4) (c .before .before .before .before .before .before .label-at .ensures) offset)
+
+returns : tie.Need-returns Inv-loop μ-loop
+returns c = let all : c .before .loop .j ≡ c .before .before .before .before .before .args .n = omega arith in rw all at (c .before .loop .inv .4)
+
+pub bind-spec : {M : Type 1} → statement M
+bind-spec =
+    tie.close
+    (tie.spec
+    Inv-loop
+    μ-loop
+    loop-holds
+    size-at-requires
+    label-at-requires
+    (λ c. search needs)
+    (λ c κs. search needs)
+    (λ c κs. search needs)
+    add-offset
+    put-word-requires
+    add-at
+    (λ c. search needs)
+    (λ c. search needs)
+    loop-again
+    (λ c. search needs)
+    returns)

@@ -1,0 +1,52 @@
+-- `is_bound` meets its contract: none of the labels passed is bound.
+use mathlib.Core.Path.{_≡_, refl, sym}
+use mathlib.Core.Bool.{false}
+use Prim.Native.Nat.{_-_, _≤_}
+use native.Mathlib.Omega.{arith}
+use borrow.Author.Tests.{eq-eqb, ne-eqb}
+use Rattle.pool.specs.Pool.{poolIsBound}
+use Rattle.pool.proofs.Pool.{one-bound, none-bound}
+use borrow.Author.Needs.{needs}
+use Rattle.pool.proofs.is_bound.Statement.{statement}
+use Rattle.pool.proofs.is_bound.Tie as tie
+
+abbrev Inv-loop : tie.InvT-loop
+Inv-loop labels constants asked n j₀ j = (j ≤ n) × (poolIsBound labels constants asked j ≡ false)
+
+abbrev μ-loop : tie.MeasureT-loop
+μ-loop labels constants asked n j₀ j = n - j
+
+loop-holds : tie.Need-loop-holds Inv-loop μ-loop
+unfolding poolIsBound
+loop-holds c = (omega arith, refl)
+
+label-at-requires : tie.Need-label-at-requires Inv-loop μ-loop
+label-at-requires c κs = omega (arith, c .before .before .before .before .before .pre .0 .listed _ (c .loop-test .taken))
+
+word-at-requires : tie.Need-word-at-requires Inv-loop μ-loop
+word-at-requires c κs = omega (arith, c .before .before .before .before .before .before .pre .1 .known _ (c .before .loop-test .taken), c .label-at .ensures)
+
+returns : tie.Need-returns Inv-loop μ-loop
+returns c = sym (one-bound _ _ _ (c .before .before .before .before .loop .j) _ (omega arith) (rw (← c .before .before .label-at .ensures, ← c .before .word-at .ensures, ne-eqb _ _ (c .if1 .taken))))
+
+loop-again : tie.Need-loop-again Inv-loop μ-loop
+loop-again c = (omega arith, none-bound _ _ _ _ (c .before .before .before .before .loop .inv .1) (rw (← c .before .before .label-at .ensures, ← c .before .word-at .ensures, eq-eqb _ _ (c .if1 .left))))
+
+returns-2 : tie.Need-returns-2 Inv-loop μ-loop
+returns-2 c = let all : c .before .loop .j ≡ c .before .before .before .before .before .args .n = omega arith in sym (rw all at (c .before .loop .inv .1))
+
+pub is-bound-spec : {M : Type 1} → statement M
+is-bound-spec =
+    tie.close
+    (tie.spec
+    Inv-loop
+    μ-loop
+    loop-holds
+    label-at-requires
+    (λ c. search needs)
+    word-at-requires
+    returns
+    (λ c. search needs)
+    (λ c. search needs)
+    loop-again
+    returns-2)

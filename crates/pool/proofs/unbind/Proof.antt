@@ -1,0 +1,49 @@
+-- `unbind` meets its contract: after j turns the labels of the first j constants are unbound.
+use mathlib.Core.Path.{_≡_, refl, _∙_}
+use Prim.Native.Nat.{_-_, _≤_}
+use native.Mathlib.Omega.{arith}
+use lib.ListN.{length}
+use Rattle.words.proofs.Laws.{length-setWord}
+use Rattle.pool.specs.Pool.{poolUnbound}
+use Rattle.pool.proofs.Pool.{unbound-turn}
+use borrow.Author.Needs.{needs}
+use Rattle.pool.proofs.unbind.Statement.{statement}
+use Rattle.pool.proofs.unbind.Tie as tie
+
+abbrev Inv-loop : tie.InvT-loop
+Inv-loop labels₀ constants asked n j₀ labels j = (j ≤ n) × (length labels ≡ length labels₀) × (labels ≡ poolUnbound labels₀ constants asked j)
+
+abbrev μ-loop : tie.MeasureT-loop
+μ-loop labels₀ constants asked n j₀ labels j = n - j
+
+loop-holds : tie.Need-loop-holds Inv-loop μ-loop
+unfolding poolUnbound
+loop-holds c = (omega arith, refl, refl)
+
+label-at-requires : tie.Need-label-at-requires Inv-loop μ-loop
+label-at-requires c κs = omega (arith, c .before .before .before .before .before .pre .0 .listed _ (c .loop-test .taken))
+
+put-word-requires : tie.Need-put-word-requires Inv-loop μ-loop
+put-word-requires c κs = omega (arith, c .before .before .before .before .before .before .before .pre .1 .known _ (c .before .before .loop-test .taken), c .before .label-at .ensures)
+
+loop-again : tie.Need-loop-again Inv-loop μ-loop
+loop-again c = (omega arith, rw (c .before .before .put-word .ensures) (length-setWord _ _ _ ∙ c .before .before .before .before .before .before .loop .inv .1), c .before .before .put-word .ensures ∙ unbound-turn _ _ _ _ _ _ (c .before .before .before .before .before .before .loop .inv .2) (c .before .before .before .before .label-at .ensures))
+
+returns : tie.Need-returns Inv-loop μ-loop
+returns c = let all : c .before .loop .j ≡ c .before .before .before .before .before .args .n = omega arith in rw all at (c .before .loop .inv .2)
+
+pub unbind-spec : {M : Type 1} → statement M
+unbind-spec =
+    tie.close
+    (tie.spec
+    Inv-loop
+    μ-loop
+    loop-holds
+    label-at-requires
+    (λ c. search needs)
+    put-word-requires
+    (λ c. search needs)
+    (λ c. search needs)
+    loop-again
+    (λ c. search needs)
+    returns)

@@ -1,0 +1,79 @@
+-- `write` meets its contract: after j turns the bytes of the first j constants are written.
+use mathlib.Core.Path.{_≡_, refl}
+use Prim.Native.Nat.{_-_, _≤_}
+use native.Mathlib.Omega.{arith}
+use lib.ListN.{length}
+use Rattle.pool.specs.Pool.{poolWritten}
+use Rattle.pool.proofs.Pool.{from-turn, room-turn, written-turn, length-poolWritten}
+use borrow.Author.Needs.{needs}
+use Rattle.pool.proofs.write.Statement.{statement}
+use Rattle.pool.proofs.write.Tie as tie
+
+abbrev Inv-loop : tie.InvT-loop
+Inv-loop output₀ labels constants asked n j₀ output j = (j ≤ n) × (length output ≡ length output₀) × (output ≡ poolWritten output₀ labels constants asked j)
+
+abbrev μ-loop : tie.MeasureT-loop
+μ-loop output₀ labels constants asked n j₀ output j = n - j
+
+loop-holds : tie.Need-loop-holds Inv-loop μ-loop
+unfolding poolWritten
+loop-holds c = (omega arith, refl, refl)
+
+size-at-requires : tie.Need-size-at-requires Inv-loop μ-loop
+size-at-requires c κs = omega (arith, c .before .before .before .before .before .before .pre .0 .listed _ (c .loop-test .taken))
+
+label-at-requires : tie.Need-label-at-requires Inv-loop μ-loop
+label-at-requires c κs = omega (arith, c .before .before .before .before .before .before .before .pre .0 .listed _ (c .before .loop-test .taken))
+
+word-at-requires : tie.Need-word-at-requires Inv-loop μ-loop
+word-at-requires c κs = omega (arith, c .before .before .before .before .before .before .before .before .pre .1 .0 .known _ (c .before .before .loop-test .taken), c .label-at .ensures)
+
+word-at-requires-2 : tie.Need-word-at-requires-2 Inv-loop μ-loop
+word-at-requires-2 c κs = omega (arith, c .before .before .before .before .before .before .before .before .before .pre .0 .listed _ (c .before .before .before .loop-test .taken))
+
+part-copy-end : tie.Need-part-copy-end Inv-loop μ-loop
+part-copy-end c = omega (arith, from-turn _ _ _ _ _ _ (c .before .before .before .before .before .before .before .before .before .before .pre .0) (c .before .before .before .before .loop-test .taken) (c .word-at2 .ensures) (c .before .before .before .size-at .ensures))
+
+part-copy-end-2 : tie.Need-part-copy-end-2 Inv-loop μ-loop
+part-copy-end-2 c = omega (arith, room-turn _ _ _ _ _ _ _ _ _ (c .before .before .before .before .before .before .before .before .before .before .before .pre .1 .1) (c .before .before .before .before .before .loop-test .taken) (c .before .before .before .label-at .ensures) (c .before .before .word-at .ensures) (c .before .before .before .before .size-at .ensures))
+
+loop-again : tie.Need-loop-again Inv-loop μ-loop
+loop-again c =
+    let room = room-turn _ _ _ _ _ _ _ _ _ (c .before .before .before .before .before .before .before .before .before .before .before .before .before .before .before .pre .1 .1) (c .before .before .before .before .before .before .before .before .before .loop-test .taken) (c .before .before .before .before .before .before .before .label-at .ensures) (c .before .before .before .before .before .before .word-at .ensures) (c .before .before .before .before .before .before .before .before .size-at .ensures) in
+    let turn = written-turn _ _ _ _ _ _ _ _ _ _ _ (c .before .before .before .before .before .before .before .before .before .before .loop .inv .2) (c .before .before .before .before .before .before .before .before .size-at .ensures) (c .before .before .before .before .before .before .before .label-at .ensures) (c .before .before .before .before .before .before .word-at .ensures) (c .before .before .before .before .before .word-at2 .ensures) (from-turn _ _ _ _ _ _ (c .before .before .before .before .before .before .before .before .before .before .before .before .before .before .before .pre .0) (c .before .before .before .before .before .before .before .before .before .loop-test .taken) (c .before .before .before .before .before .word-at2 .ensures) (c .before .before .before .before .before .before .before .before .size-at .ensures)) (omega arith) (c .before .before .copy .ensures) in
+    (omega arith, rw turn (length-poolWritten _ _ _ _ _), turn)
+
+returns : tie.Need-returns Inv-loop μ-loop
+returns c = let all : c .before .loop .j ≡ c .before .before .before .before .before .before .args .n = omega arith in rw all at (c .before .loop .inv .2)
+
+pub write-spec : {M : Type 1} → statement M
+write-spec =
+    tie.close
+    (tie.spec
+    Inv-loop
+    μ-loop
+    loop-holds
+    size-at-requires
+    (λ c. search needs)
+    label-at-requires
+    (λ c. search needs)
+    word-at-requires
+    (λ c. search needs)
+    word-at-requires-2
+    (λ c. search needs)
+    (λ c. search needs)
+    (λ c. search needs)
+    (λ c. search needs)
+    (λ c. search needs)
+    (λ c. search needs)
+    part-copy-end
+    (λ c. search needs)
+    (λ c. search needs)
+    (λ c. search needs)
+    part-copy-end-2
+    (λ c κs. search needs)
+    (λ c. search needs)
+    (λ c. search needs)
+    loop-again
+    (λ c. search needs)
+    returns)
