@@ -1,0 +1,222 @@
+-- The alignments of the pool, laid out one after another, and how they join the recorded events.
+use mathlib.Core.Path.{_≡_, refl, sym, _∙_, ap}
+use mathlib.Core.Bool.{Bool, true, false, cond}
+use mathlib.Core.List.{List, [], _∷_, _++_, append-assoc, append-nil}
+use Prim.Native.Nat.{ℕ, zero, suc, _+_, _-_, _*_, _≤_, _<_}
+use native.Mathlib.Omega.{arith}
+use lib.Dec.{leb}
+use lib.ListN.{length, getD, set, length-append}
+use Rattle.seqs.specs.Over.{over}
+use Rattle.seqs.proofs.Overwrites.{over-nil, over-snoc, over-append}
+use Rattle.encoder.specs.Padding.{paddingLength}
+use Rattle.encoder.proofs.Padding.{padding-below}
+use Rattle.relax.specs.declared.LayoutEvent.{LayoutEvent}
+use Rattle.relax.specs.declared.LayoutEvent.the-variants.{Jump, Align}
+use Rattle.relax.specs.declared.Segment.{Segment}
+use Rattle.relax.specs.Events.{eventAt, endOf}
+use Rattle.recording.specs.View.{entries}
+use Rattle.fresh.specs.Pooled.{constantAlignment}
+use Rattle.fresh.specs.Fresh.{Choice, startOf}
+use Rattle.fresh.specs.Segments.{segment, segments}
+use Rattle.fresh.proofs.Shape.{size, Ordered, Modest, Cursor, after}
+use Rattle.fresh.proofs.Forms.{width-size}
+use Rattle.pool.specs.Pool.{sizeAt, poolStart, poolPadding, poolEvent, PoolFits}
+use Rattle.layout.specs.Layout.{rowOf, rowsFrom, endFrom, finishedLength, allEvents, Recorded}
+use Rattle.layout.proofs.Entries.{length-entries}
+use Rattle.layout.proofs.Turns.{after-snoc, rows-snoc, length-rows}
+
+alignment-range : (n : ℕ) → (0 < constantAlignment n) × (constantAlignment n ≤ 16)
+alignment-range n = by (leb n 8)
+  where
+    by : (b : Bool) → (0 < cond b 8 16) × (cond b 8 16 ≤ 16)
+    by true = omega arith
+    by false = omega arith
+
+-- A constant's padding is at most 15 bytes.
+pub pool-padding : (offset n multiple r : ℕ) → multiple ≡ constantAlignment n → r ≡ paddingLength offset multiple → r ≤ 15
+pool-padding offset n multiple r h e =
+    let range = alignment-range n in
+    let some : 0 < multiple = omega (arith, h, range) in
+    omega (arith, h, e, range, padding-below offset multiple some)
+
+-- the segment of an alignment that starts at the recorded offset t, whose new offset is u
+align-segment : (old new t u len multiple : ℕ) (long : Bool) → u ≡ new + (t - old)
+    → segment old new (Align t len multiple) long
+    ≡ record { «old_start» = t; «old_end» = t + len; «new_start» = u; «new_end» = u + paddingLength u multiple }
+unfolding size
+align-segment old new t u len multiple long h = rw (h, width-size) refl
+
+-- The rows of the first j alignments stand over a table's from row n on, and the loop stands at the recorded offset `old` and the new offset `new`.
+pub record PoolLaid (before rows : List (List ℕ)) (constants asked : List ℕ) (n from to j old new : ℕ) : Type 0 where
+  pub table : rows ≡ over before n (rowsFrom from to (entries (poolEvent from constants asked) j) [])
+  pub start : old ≡ poolStart from constants asked j
+  pub sum : new ≡ endFrom from to (entries (poolEvent from constants asked) j) [] old
+  pub near : old ≤ from + 79 * j
+  pub small : new ≤ to + 79 * j
+
+pub pool-none : (before : List (List ℕ)) (constants asked : List ℕ) (n from to : ℕ) → PoolLaid before before constants asked n from to 0 from to
+unfolding after segments poolStart
+pool-none before constants asked n from to = record {
+  table = sym (over-nil before n);
+  start = refl;
+  sum = omega arith;
+  near = omega arith;
+  small = omega arith;
+}
+
+module _ (before rows : List (List ℕ)) (constants asked : List ℕ) (n from to j old new m : ℕ) (laid : PoolLaid before rows constants asked n from to j old new)
+    (fits : PoolFits constants asked m) (more : j < m) (sz a b : ℕ) (s : sz ≡ sizeAt constants asked j)
+    (p : a ≡ paddingLength old (constantAlignment sz)) (q : b ≡ paddingLength new (constantAlignment sz)) where
+  es : List LayoutEvent
+  es = entries (poolEvent from constants asked) j
+
+  there : Cursor
+  there = after (length (entries (poolEvent from constants asked) j)) from to (entries (poolEvent from constants asked) j) []
+
+  the-segment : segment (there .old) (there .new) (poolEvent from constants asked j) (getD [] (length es) false)
+      ≡ record { «old_start» = old; «old_end» = old + a; «new_start» = new; «new_end» = new + b }
+  unfolding there
+  the-segment =
+      rw (p, q, s, laid .start)
+      (align-segment (there .old) (there .new) (poolStart from constants asked j) new (poolPadding from constants asked j) (constantAlignment (sizeAt constants asked j)) _
+      (laid .sum ∙ rw (laid .start) refl)
+      ∙ refl)
+
+  next : after (length (entries (poolEvent from constants asked) (suc j))) from to (entries (poolEvent from constants asked) (suc j)) []
+      ≡ record { old = poolStart from constants asked j + poolPadding from constants asked j; new = new + b }
+  unfolding there es
+  next =
+      after-snoc es from to [] (poolEvent from constants asked j)
+      ∙ ap (λ (x : Segment). record { old = poolStart from constants asked j + poolPadding from constants asked j; new = x .«new_end» }) the-segment
+
+  pub pool-more : PoolLaid before (set rows (n + j) (old ∷ (old + a) ∷ new ∷ (new + b) ∷ [])) constants asked n from to (suc j) (old + a + sz) (new + b + sz)
+  unfolding poolStart there es
+  pool-more =
+      let o : poolStart from constants asked j + poolPadding from constants asked j ≡ old + a = rw (p, s, laid .start) refl in
+      record {
+        table =
+            rw (laid .table)
+            (over-snoc before n (rowsFrom from to es []) (n + j) _ (omega (arith, length-rows es from to [], length-entries (poolEvent from constants asked) j))
+            ∙ ap (over before n) (sym (rows-snoc es from to [] (poolEvent from constants asked j) ∙ ap (λ (x : Segment). rowsFrom from to es [] ++ (rowOf x ∷ [])) the-segment)));
+        start = rw (p, s, laid .start) refl;
+        sum = rw next (omega (arith, o));
+        near = omega (arith, laid .near, p, s, pool-padding old sz _ a refl p, fits .sized j more);
+        small = omega (arith, laid .small, q, s, pool-padding new sz _ b refl q, fits .sized j more);
+      }
+
+-- Events in order, one more.
+ordered-snoc : (es : List LayoutEvent) (o n k : ℕ) (e : LayoutEvent) → Ordered o n es → n ≤ startOf e → endOf e ≤ k → Ordered o k (es ++ (e ∷ []))
+unfolding Ordered
+ordered-snoc [] o n k e h a b = (omega arith, b)
+ordered-snoc (x ∷ es) o n k e h a b = (h .0, ordered-snoc es (endOf x) n k e (h .1) a b)
+
+modest-snoc : (es : List LayoutEvent) (e : LayoutEvent) → Modest es → Modest (e ∷ []) → Modest (es ++ (e ∷ []))
+unfolding Modest
+modest-snoc [] e h k = k
+modest-snoc (Jump j ∷ es) e h k = (h .0, h .1, modest-snoc es e (h .2) k)
+modest-snoc (Align start len align ∷ es) e h k = (h .0, h .1, modest-snoc es e (h .2) k)
+
+modest-pool : (from : ℕ) (constants asked : List ℕ) (j : ℕ) → Modest (poolEvent from constants asked j ∷ [])
+unfolding Modest
+modest-pool from constants asked j = let r = alignment-range (sizeAt constants asked j) in (r .0, omega (arith, r), tt)
+
+module _ (events : List ℕ) (n code : ℕ) (constants asked : List ℕ) where
+  -- one alignment more
+  pub all-suc : (j : ℕ) → allEvents events n code constants asked (suc j) ≡ allEvents events n code constants asked j ++ (poolEvent code constants asked j ∷ [])
+  all-suc j = sym (append-assoc (entries (eventAt events) n) (entries (poolEvent code constants asked) j) (poolEvent code constants asked j ∷ []))
+
+  pub all-none : allEvents events n code constants asked 0 ≡ entries (eventAt events) n
+  all-none = append-nil (entries (eventAt events) n)
+
+  module _ (rec : Recorded events n code) where
+    -- All events follow one another, and end where the pool ends.
+    pub all-ordered : (j : ℕ) → Ordered 0 (poolStart code constants asked j) (allEvents events n code constants asked j)
+    unfolding poolStart
+    all-ordered zero = rw all-none (rec .ordered)
+    all-ordered (suc j) =
+        rw (all-suc j)
+        (ordered-snoc (allEvents events n code constants asked j) 0 (poolStart code constants asked j) _ (poolEvent code constants asked j) (all-ordered j) (omega arith) (omega arith))
+
+    pub all-modest : (j : ℕ) → Modest (allEvents events n code constants asked j)
+    all-modest zero = rw all-none (rec .modest)
+    all-modest (suc j) = rw (all-suc j) (modest-snoc (allEvents events n code constants asked j) (poolEvent code constants asked j) (all-modest j) (modest-pool code constants asked j))
+
+  pub length-all : (j : ℕ) → length (allEvents events n code constants asked j) ≡ n + j
+  length-all j =
+      length-append (entries (eventAt events) n) (entries (poolEvent code constants asked) j)
+      ∙ omega (arith, length-entries (eventAt events) n, length-entries (poolEvent code constants asked) j)
+
+  pub pool-near : (m j : ℕ) → PoolFits constants asked m → j ≤ m → poolStart code constants asked j ≤ code + 79 * j
+  unfolding poolStart
+  pool-near m zero fits h = omega arith
+  pool-near m (suc j) fits h =
+      omega (arith, pool-near m j fits (omega arith), fits .sized j h, pool-padding (poolStart code constants asked j) (sizeAt constants asked j) _ _ refl refl)
+
+  -- What follows the recorded events is laid out as if it began where the code ends.
+  module _ (c : Choice) (old new to : ℕ) (here : after (length (entries (eventAt events) n)) 0 0 (entries (eventAt events) n) c ≡ record { old = old; new = new })
+      (low : old ≤ code) (at : to ≡ new + (code - old)) where
+    abbrev one : ℕ → Cursor
+    one j = after (length (allEvents events n code constants asked j)) 0 0 (allEvents events n code constants asked j) c
+
+    abbrev two : ℕ → Cursor
+    two j = after (length (entries (poolEvent code constants asked) j)) code to (entries (poolEvent code constants asked) j) []
+
+    record Joined (j : ℕ) : Type 0 where
+      rows : rowsFrom 0 0 (allEvents events n code constants asked j) c
+          ≡ rowsFrom 0 0 (entries (eventAt events) n) c ++ rowsFrom code to (entries (poolEvent code constants asked) j) []
+      same : (t : ℕ) → poolStart code constants asked j ≤ t → (one j) .new + (t - (one j) .old) ≡ (two j) .new + (t - (two j) .old)
+
+    joined : (j : ℕ) → Joined j
+    unfolding poolStart segments after
+    joined zero =
+        let a = ap (λ (x : Cursor). x .old) here in
+        let b = ap (λ (x : Cursor). x .new) here in
+        record {
+          rows = rw all-none (sym (append-nil (rowsFrom 0 0 (entries (eventAt events) n) c)));
+          same = λ t h. rw all-none (omega (arith, a, b));
+        }
+    joined (suc j) =
+        let q = joined j in
+        let t = poolStart code constants asked j in
+        let e = poolEvent code constants asked j in
+        let first = rowsFrom 0 0 (entries (eventAt events) n) c in
+        let u = (one j) .new + (t - (one j) .old) in
+        let len = poolPadding code constants asked j in
+        let multiple = constantAlignment (sizeAt constants asked j) in
+        let s : Segment = record { «old_start» = t; «old_end» = t + len; «new_start» = u; «new_end» = u + paddingLength u multiple } in
+        let s1 = align-segment ((one j) .old) ((one j) .new) t u len multiple (getD c (length (allEvents events n code constants asked j)) false) refl in
+        let s2 = align-segment ((two j) .old) ((two j) .new) t u len multiple (getD [] (length (entries (poolEvent code constants asked) j)) false) (q .same t (omega arith)) in
+        let next-one : one (suc j) ≡ record { old = t + len; new = s .«new_end» }
+        = rw (all-suc j) (after-snoc (allEvents events n code constants asked j) 0 0 c e ∙ ap (λ (x : Segment). record { old = t + len; new = x .«new_end» }) s1) in
+        let next-two : two (suc j) ≡ record { old = t + len; new = s .«new_end» }
+        = after-snoc (entries (poolEvent code constants asked) j) code to [] e ∙ ap (λ (x : Segment). record { old = t + len; new = x .«new_end» }) s2 in
+        record {
+          rows =
+              rw (all-suc j)
+              (rows-snoc (allEvents events n code constants asked j) 0 0 c e
+              ∙ (ap (λ (x : Segment). rowsFrom 0 0 (allEvents events n code constants asked j) c ++ (rowOf x ∷ [])) s1
+              ∙ (ap (λ (l : List (List ℕ)). l ++ (rowOf s ∷ [])) (q .rows)
+              ∙ (append-assoc first (rowsFrom code to (entries (poolEvent code constants asked) j) []) (rowOf s ∷ [])
+              ∙ sym (ap (λ (l : List (List ℕ)). first ++ l)
+              (rows-snoc (entries (poolEvent code constants asked) j) code to [] e
+              ∙ ap (λ (x : Segment). rowsFrom code to (entries (poolEvent code constants asked) j) [] ++ (rowOf x ∷ [])) s2))))));
+          same = λ v h. rw (next-one, next-two) refl;
+        }
+
+    -- Both together are the layout of all events,
+    pub rows-join : (before rows rows′ : List (List ℕ)) (m : ℕ) → rows ≡ over before 0 (rowsFrom 0 0 (entries (eventAt events) n) c)
+        → rows′ ≡ over rows n (rowsFrom code to (entries (poolEvent code constants asked) m) [])
+        → rows′ ≡ over before 0 (rowsFrom 0 0 (allEvents events n code constants asked m) c)
+    rows-join before rows rows′ m h k =
+        let first = rowsFrom 0 0 (entries (eventAt events) n) c in
+        let e : n ≡ 0 + length first = omega (arith, length-rows (entries (eventAt events) n) 0 0 c, length-entries (eventAt events) n) in
+        k
+        ∙ (ap (λ (x : List (List ℕ)). over x n (rowsFrom code to (entries (poolEvent code constants asked) m) [])) h
+        ∙ (ap (λ (x : ℕ). over (over before 0 first) x (rowsFrom code to (entries (poolEvent code constants asked) m) [])) e
+        ∙ (over-append before 0 first (rowsFrom code to (entries (poolEvent code constants asked) m) [])
+        ∙ ap (λ (l : List (List ℕ)). over before 0 l) (sym ((joined m) .rows)))))
+
+    -- and they end together.
+    pub ends-join : (m : ℕ) → endFrom code to (entries (poolEvent code constants asked) m) [] (poolStart code constants asked m)
+        ≡ finishedLength (allEvents events n code constants asked m) c (poolStart code constants asked m)
+    ends-join m = sym ((joined m) .same (poolStart code constants asked m) (omega arith))

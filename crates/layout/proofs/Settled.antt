@@ -1,0 +1,195 @@
+-- The rounds by segments: they end, and settle where the rounds of a fresh assembly do.
+use mathlib.Core.Path.{_≡_, refl, sym, _∙_, ap}
+use mathlib.Core.Logic.{⊎-elim}
+use mathlib.Core.Bool.{Bool, true, false, _||_}
+use mathlib.Core.List.{List, [], _∷_, _++_}
+use Prim.Native.Nat.{ℕ, zero, suc, _+_, _-_, _≤_, _<_}
+use native.Mathlib.Omega.{arith}
+use lib.ListN.{length, getD, drop, replicate, length-append, length-drop, List·getD-append}
+use lib.Seq.{getD-append-add}
+use Rattle.seqs.proofs.Numbers.{lt-or-ge}
+use Rattle.words.specs.Words.{wordAt}
+use Rattle.relax.specs.declared.LayoutEvent.{LayoutEvent}
+use Rattle.relax.specs.declared.LayoutEvent.the-variants.{Jump, Align}
+use Rattle.relax.specs.declared.RelaxableJump.{RelaxableJump}
+use Rattle.relax.specs.Events.{eventAt}
+use Rattle.buffer.specs.State.{none}
+use Rattle.recording.specs.View.{entries}
+use Rattle.fresh.specs.Pooled.{Pooled}
+use Rattle.fresh.specs.Fresh.{Choice, isLong, others, placed}
+use Rattle.fresh.specs.Rounds.{allShort, jumps, isFar, firstEnd, otherEnds, farOf, far, any, join, longer, Settled, settle, settled}
+use Rattle.fresh.specs.Segments.{segments, mapOffset}
+use Rattle.fresh.proofs.Shape.{WellFormed, newEnds, after, runsTo}
+use Rattle.fresh.proofs.Tests.{split, no-confusion}
+use Rattle.fresh.proofs.Segments.{far-segments, placed-runs}
+use Rattle.fresh.proofs.Loops.{runs-all, length-runsTo}
+use Rattle.pool.specs.Pool.{poolEvent}
+use Rattle.layout.specs.Layout.{allEvents, farBy, relaxing, relaxedBy, relaxed, finishedLength}
+use Rattle.layout.proofs.Entries.{length-entries, getD-entries}
+
+abbrev short : Bool → ℕ
+short true = 0
+short false = 1
+
+-- how many jumps are short
+pub shorts : List LayoutEvent → Choice → ℕ
+shorts [] c = 0
+shorts (Jump j ∷ es) c = short (isLong c) + shorts es (others c)
+shorts (Align start len align ∷ es) c = shorts es (others c)
+
+short-le : (a f : Bool) → short (a || f) ≤ short a
+short-le true f = omega arith
+short-le false true = omega arith
+short-le false false = omega arith
+
+shorts-le : (at : ℕ → ℕ) (es : List LayoutEvent) (c : Choice) (ends : List ℕ) → shorts es (join c (farOf at es c ends)) ≤ shorts es c
+unfolding shorts join farOf
+shorts-le at [] c ends = omega arith
+shorts-le at (Jump j ∷ es) c ends =
+    omega (arith, short-le (isLong c) (isFar at (Jump j) (isLong c) (firstEnd ends)), shorts-le at es (others c) (otherEnds ends))
+shorts-le at (Align start len align ∷ es) c ends = shorts-le at es (others c) (otherEnds ends)
+
+-- a jump that a round lengthens was short
+far-short : (at : ℕ → ℕ) (j : RelaxableJump) (long : Bool) (end : ℕ) → isFar at (Jump j) long end ≡ true
+    → short (long || isFar at (Jump j) long end) < short long
+unfolding isFar
+far-short at j true end h = no-confusion h
+far-short at j false end h = rw h (omega arith)
+
+-- A round that lengthens a jump leaves fewer short ones.
+pub shorts-lt : (at : ℕ → ℕ) (es : List LayoutEvent) (c : Choice) (ends : List ℕ) → any (farOf at es c ends) ≡ true
+    → shorts es (join c (farOf at es c ends)) < shorts es c
+unfolding shorts join farOf any isFar
+shorts-lt at [] c ends h = no-confusion h
+shorts-lt at (Jump j ∷ es) c ends h = go (isFar at (Jump j) (isLong c) (firstEnd ends)) refl h (shorts-lt at es (others c) (otherEnds ends))
+  where
+    go : (f : Bool) → isFar at (Jump j) (isLong c) (firstEnd ends) ≡ f → (f || any (farOf at es (others c) (otherEnds ends))) ≡ true
+        → (any (farOf at es (others c) (otherEnds ends)) ≡ true → shorts es (join (others c) (farOf at es (others c) (otherEnds ends))) < shorts es (others c))
+        → short (isLong c || isFar at (Jump j) (isLong c) (firstEnd ends)) + shorts es (join (others c) (farOf at es (others c) (otherEnds ends)))
+        < short (isLong c) + shorts es (others c)
+    go true e a ih = omega (arith, far-short at j (isLong c) (firstEnd ends) e, shorts-le at es (others c) (otherEnds ends))
+    go false e a ih = omega (arith, short-le (isLong c) (isFar at (Jump j) (isLong c) (firstEnd ends)), ih a)
+shorts-lt at (Align start len align ∷ es) c ends h = shorts-lt at es (others c) (otherEnds ends) h
+
+pub shorts-all : (es : List LayoutEvent) → shorts es (allShort es) ≡ jumps es
+unfolding shorts
+shorts-all [] = refl
+shorts-all (Jump j ∷ es) = ap (λ x. 1 + x) (shorts-all es)
+shorts-all (Align start len align ∷ es) = shorts-all es
+
+pub jumps-le : (es : List LayoutEvent) → jumps es ≤ length es
+jumps-le [] = omega arith
+jumps-le (Jump j ∷ es) = omega (arith, jumps-le es)
+jumps-le (Align start len align ∷ es) = omega (arith, jumps-le es)
+
+pub all-short : (es : List LayoutEvent) → replicate (length es) false ≡ allShort es
+all-short [] = refl
+all-short (e ∷ es) = ap (λ (l : Choice). false ∷ l) (all-short es)
+
+-- One round.
+pub relaxing-last : (k : ℕ) (es : List LayoutEvent) (at : ℕ → ℕ) (c : Choice) → any (farBy es at c) ≡ false → relaxing k es at c ≡ record { choice = c; rounds = 1 }
+unfolding relaxing
+relaxing-last zero es at c h = refl
+relaxing-last (suc k) es at c h = rw (h, relaxing) refl
+
+pub relaxing-again : (k : ℕ) (es : List LayoutEvent) (at : ℕ → ℕ) (c : Choice) → any (farBy es at c) ≡ true
+    → relaxing (suc k) es at c
+    ≡ record { choice = (relaxing k es at (join c (farBy es at c))) .choice; rounds = suc ((relaxing k es at (join c (farBy es at c))) .rounds) }
+unfolding relaxing
+relaxing-again k es at c h = rw (h, relaxing) refl
+
+-- a round more
+abbrev more : Settled → Settled
+more s = record { choice = s .choice; rounds = suc (s .rounds) }
+
+-- The rounds by segments are those of a fresh assembly.
+relaxing-settle : (p : Pooled) → WellFormed p → (k : ℕ) (c : Choice) → relaxing k (p .events) (λ (l : ℕ). getD (p .labels) l none) c ≡ settle k p c
+unfolding relaxing settle
+relaxing-settle p wf zero c = refl
+relaxing-settle p wf (suc k) c =
+    let at : ℕ → ℕ = λ l. getD (p .labels) l none in
+    let f : far p c ≡ farBy (p .events) at c = far-segments p c wf in
+    split (any (far p c))
+    (λ e.
+    let rest = relaxing-settle p wf k (join c (farBy (p .events) at c)) ∙ ap (λ (x : Choice). settle k p (join c x)) (sym f) in
+    let step : settle (suc k) p c ≡ more (settle k p (longer p c)) = rw (e, settle) refl in
+    relaxing-again k (p .events) at c (ap any (sym f) ∙ e) ∙ (ap more rest ∙ sym step))
+    (λ e.
+    let step : settle (suc k) p c ≡ record { choice = c; rounds = 1 } = rw (e, settle) refl in
+    relaxing-last (suc k) (p .events) at c (ap any (sym f) ∙ e) ∙ sym step)
+
+pub relaxed-settled : (p : Pooled) → WellFormed p → relaxed (p .events) (p .labels) ≡ settled p
+relaxed-settled p wf = relaxing-settle p wf (jumps (p .events)) (allShort (p .events))
+
+-- The finished length is that of a fresh assembly.
+pub finished-placed : (p : Pooled) (c : Choice) → WellFormed p → finishedLength (p .events) c (length (p .code)) ≡ length (placed p c)
+finished-placed p c wf =
+    let old = (after (length (p .events)) 0 0 (p .events) c) .old in
+    let first = runsTo (length (p .events)) 0 0 (p .code) (p .events) c in
+    omega (
+      arith,
+      length-runsTo (p .events) 0 0 (p .code) c (length (p .events)) (wf .ordered) (omega arith),
+      ap length (placed-runs p c wf ∙ runs-all (p .events) 0 0 (p .code) c),
+      length-append first (drop old (p .code)),
+      length-drop old (p .code),
+    )
+
+-- Labels that jumps name are read alike from a table and from the list of its entries.
+far-same : (g h : ℕ → ℕ) (es : List LayoutEvent) (c : Choice) (ends : List ℕ)
+    → ((i : ℕ) (j : RelaxableJump) → i < length es → getD es i (Align 0 0 0) ≡ Jump j → g (j .label) ≡ h (j .label)) → farOf g es c ends ≡ farOf h es c ends
+unfolding farOf isFar
+far-same g h [] c ends k = refl
+far-same g h (Jump j ∷ es) c ends k =
+    rw (far-same g h es (others c) (otherEnds ends) (λ i w l e. k (suc i) w (omega arith) e)) (ap (λ (b : Bool). b ∷ farOf h es (others c) (otherEnds ends)) (first (isLong c)))
+  where
+    first : (long : Bool) → isFar g (Jump j) long (firstEnd ends) ≡ isFar h (Jump j) long (firstEnd ends)
+    first true = refl
+    first false = rw (k 0 j (omega arith) refl) refl
+far-same g h (Align start len align ∷ es) c ends k =
+    rw (far-same g h es (others c) (otherEnds ends) (λ i w l e. k (suc i) w (omega arith) e)) refl
+
+relaxing-same : (k : ℕ) (es : List LayoutEvent) (at at′ : ℕ → ℕ) (c : Choice)
+    → ((i : ℕ) (j : RelaxableJump) → i < length es → getD es i (Align 0 0 0) ≡ Jump j → at (j .label) ≡ at′ (j .label)) → relaxing k es at c ≡ relaxing k es at′ c
+unfolding relaxing
+relaxing-same zero es at at′ c h = refl
+relaxing-same (suc k) es at at′ c h =
+    let f : farBy es at c ≡ farBy es at′ c
+    = far-same (λ (l : ℕ). mapOffset (segments 0 0 es c) (at l)) (λ (l : ℕ). mapOffset (segments 0 0 es c) (at′ l)) es c (newEnds (segments 0 0 es c))
+    (λ i j l e. ap (mapOffset (segments 0 0 es c)) (h i j l e)) in
+    split (any (farBy es at c))
+    (λ e.
+    let rest = relaxing-same k es at at′ (join c (farBy es at c)) h ∙ ap (λ (x : Choice). relaxing k es at′ (join c x)) f in
+    relaxing-again k es at c e ∙ (ap more rest ∙ sym (relaxing-again k es at′ c (ap any (sym f) ∙ e))))
+    (λ e. relaxing-last (suc k) es at c e ∙ sym (relaxing-last (suc k) es at′ c (ap any (sym f) ∙ e)))
+
+-- The label that an event of the whole names, if it is a jump, is named by one of the recorded events.
+all-below : (events : List ℕ) (n code : ℕ) (constants asked : List ℕ) (m count : ℕ)
+    → ((i : ℕ) (j : RelaxableJump) → i < n → eventAt events i ≡ Jump j → j .label < count)
+    → (i : ℕ) (j : RelaxableJump) → i < length (allEvents events n code constants asked m) → getD (allEvents events n code constants asked m) i (Align 0 0 0) ≡ Jump j
+    → j .label < count
+all-below events n code constants asked m count h i j k e =
+    let first = entries (eventAt events) n in
+    let rest = entries (poolEvent code constants asked) m in
+    let lf = length-entries (eventAt events) n in
+    ⊎-elim
+    (λ lt.
+    let at : eventAt events i ≡ getD (first ++ rest) i (Align 0 0 0)
+    = sym (List·getD-append first rest (Align 0 0 0) i (omega (arith, lf)) ∙ getD-entries (eventAt events) n i (Align 0 0 0) lt) in
+    h i j lt (at ∙ e))
+    (λ ge.
+    let lr = length-entries (poolEvent code constants asked) m in
+    let k′ : i - n < m = omega (arith, length-append first rest, lf, lr) in
+    let at : i ≡ length first + (i - n) = omega (arith, lf) in
+    let p : Jump j ≡ poolEvent code constants asked (i - n)
+    = sym e ∙ (ap (λ (x : ℕ). getD (first ++ rest) x (Align 0 0 0)) at ∙ (getD-append-add first rest (i - n) (Align 0 0 0) ∙ getD-entries (poolEvent code constants asked) m (i - n) (Align 0 0 0) k′)) in
+    let z : _≡_ {A = ℕ} 0 1 = cc in
+    omega arith)
+    (lt-or-ge i n)
+
+pub relaxed-entries : (events : List ℕ) (n code : ℕ) (constants asked : List ℕ) (m : ℕ) (labels : List ℕ) (count : ℕ)
+    → ((i : ℕ) (j : RelaxableJump) → i < n → eventAt events i ≡ Jump j → j .label < count)
+    → relaxedBy (allEvents events n code constants asked m) (wordAt labels) ≡ relaxed (allEvents events n code constants asked m) (entries (wordAt labels) count)
+relaxed-entries events n code constants asked m labels count h =
+    let es = allEvents events n code constants asked m in
+    relaxing-same (jumps es) es (wordAt labels) (λ (l : ℕ). getD (entries (wordAt labels) count) l none) (allShort es)
+    (λ i j k e. sym (getD-entries (wordAt labels) count (j .label) none (all-below events n code constants asked m count h i j k e)))

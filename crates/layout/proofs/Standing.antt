@@ -1,0 +1,207 @@
+-- The loop of the rounds: where it stands, and what a round leaves.
+use mathlib.Core.Path.{_≡_, refl, sym, _∙_, ap}
+use mathlib.Core.Bool.{Bool, true, false, _||_, or-false}
+use mathlib.Core.List.{List, [], _∷_, _++_}
+use Prim.Native.Nat.{ℕ, zero, suc, _+_, _-_, _≤_, _<_}
+use native.Mathlib.Omega.{arith}
+use lib.ListN.{length, getD, take, replicate, length-replicate}
+use lib.Seq.{take-all, take-suc}
+use Rattle.seqs.specs.Over.{over}
+use Rattle.seqs.proofs.Overwrites.{length-over, take-over-end, getD-over-after}
+use Rattle.relax.specs.declared.LayoutEvent.{LayoutEvent}
+use Rattle.relax.specs.declared.LayoutEvent.the-variants.{Align}
+use Rattle.relax.specs.Events.{eventAt}
+use Rattle.recording.specs.View.{entries}
+use Rattle.fresh.specs.Fresh.{Choice, isLong, others}
+use Rattle.fresh.specs.Rounds.{Settled, jumps, isFar, firstEnd, otherEnds, farOf, any, join}
+use Rattle.fresh.specs.Segments.{segments, mapOffset}
+use Rattle.fresh.proofs.Shape.{newEnds}
+use Rattle.fresh.proofs.Tests.{no-confusion}
+use Rattle.fresh.proofs.Choices.{isLong-getD, others-getD, length-farOf, length-join}
+use Rattle.pool.specs.Pool.{poolStart, PoolFits}
+use Rattle.layout.specs.Layout.{tableOf, allEvents, rowsFrom, finishedLength, farIn, farBy, relaxing, relaxedBy, Relaxed, Recorded, Rising}
+use Rattle.layout.proofs.Entries.{length-entries}
+use Rattle.layout.proofs.Turns.{length-rows}
+use Rattle.layout.proofs.Pooling.{all-none, all-suc, length-all, all-ordered, all-modest, pool-near}
+use Rattle.layout.proofs.Rows.{table-laid, rising-laid}
+use Rattle.layout.proofs.Settled.{shorts, shorts-lt, shorts-all, jumps-le, all-short, relaxing-last, relaxing-again}
+
+-- An alignment is never lengthened.
+far-snoc : (g : ℕ → ℕ) (es : List LayoutEvent) (c : Choice) (ends : List ℕ) (start len align : ℕ)
+    → farOf g (es ++ (Align start len align ∷ [])) c ends ≡ farOf g es c ends ++ (false ∷ [])
+unfolding farOf isFar
+far-snoc g [] c ends start len align = refl
+far-snoc g (e ∷ es) c ends start len align = ap (λ (l : Choice). isFar g e (isLong c) (firstEnd ends) ∷ l) (far-snoc g es (others c) (otherEnds ends) start len align)
+
+any-snoc : (f : Choice) → any (f ++ (false ∷ [])) ≡ any f
+unfolding any
+any-snoc [] = refl
+any-snoc (x ∷ f) = ap (λ (b : Bool). x || b) (any-snoc f)
+
+join-snoc : (c f : Choice) → join c (f ++ (false ∷ [])) ≡ join c f ++ (getD c (length f) false ∷ [])
+unfolding join
+join-snoc c [] = rw (isLong-getD c, or-false (getD c 0 false)) refl
+join-snoc c (x ∷ f) = ap (λ (l : Choice). (isLong c || x) ∷ l) (join-snoc (others c) f ∙ rw (others-getD c (length f)) refl)
+
+join-none : (c f : Choice) → length c ≡ length f → any f ≡ false → join c f ≡ c
+unfolding join any
+join-none [] [] h e = refl
+join-none [] (y ∷ f) h e = absurd (omega arith)
+join-none (x ∷ c) [] h e = absurd (omega arith)
+join-none (x ∷ c) (true ∷ f) h e = no-confusion (sym e)
+join-none (x ∷ c) (false ∷ f) h e = rw (or-false x, join-none c f (omega arith) e) refl
+
+over-again : {A : Type 0} (xs ys zs : List A) → length ys ≡ length zs → over (over xs 0 ys) 0 zs ≡ over xs 0 zs
+unfolding over
+over-again [] ys zs h = refl
+over-again (x ∷ xs) [] [] h = refl
+over-again (x ∷ xs) [] (z ∷ zs) h = absurd (omega arith)
+over-again (x ∷ xs) (y ∷ ys) [] h = absurd (omega arith)
+over-again (x ∷ xs) (y ∷ ys) (z ∷ zs) h = ap (λ (l : List _). z ∷ l) (over-again xs ys zs (omega arith))
+
+module _ (events : List ℕ) (n code : ℕ) (constants asked : List ℕ) where
+  module _ (g : ℕ → ℕ) (c : Choice) (ends : List ℕ) where
+    any-all : (j : ℕ) → any (farOf g (allEvents events n code constants asked j) c ends) ≡ any (farOf g (entries (eventAt events) n) c ends)
+    any-all zero = rw (all-none events n code constants asked) refl
+    any-all (suc j) =
+        rw (all-suc events n code constants asked j) (ap any (far-snoc g (allEvents events n code constants asked j) c ends _ _ _) ∙ (any-snoc _ ∙ any-all j))
+
+    count : length (farOf g (entries (eventAt events) n) c ends) ≡ n
+    count = length-farOf g (entries (eventAt events) n) c ends ∙ length-entries (eventAt events) n
+
+    join-all : (j : ℕ) → n + j ≤ length c
+        → join c (farOf g (allEvents events n code constants asked j) c ends) ≡ take (n + j) (over c 0 (join c (farOf g (entries (eventAt events) n) c ends)))
+    join-all zero h =
+        let f = farOf g (entries (eventAt events) n) c ends in
+        let a : 0 + length (join c f) ≡ n + 0 = omega (arith, length-join c f, count) in
+        rw (all-none events n code constants asked, ← a) (sym (take-over-end c 0 (join c f) (omega arith)))
+    join-all (suc j) h =
+        let f = farOf g (entries (eventAt events) n) c ends in
+        let F = farOf g (allEvents events n code constants asked j) c ends in
+        let x = over c 0 (join c f) in
+        let k : n + suc j ≡ suc (n + j) = omega arith in
+        let lF : length F ≡ n + j = length-farOf g (allEvents events n code constants asked j) c ends ∙ length-all events n code constants asked j in
+        let last : getD x (n + j) false ≡ getD c (n + j) false = getD-over-after c 0 (join c f) (n + j) false (omega (arith, length-join c f, count)) in
+        rw (all-suc events n code constants asked j)
+        (ap (join c) (far-snoc g (allEvents events n code constants asked j) c ends _ _ _)
+        ∙ (join-snoc c F
+        ∙ (ap (λ (l : Choice). l ++ (getD c (length F) false ∷ [])) (join-all j (omega arith))
+        ∙ (ap (λ (i : ℕ). take (n + j) x ++ (getD c i false ∷ [])) lF
+        ∙ sym (rw k (take-suc x (n + j) false (omega (arith, length-over c 0 (join c f))) ∙ ap (λ (b : Bool). take (n + j) x ++ (b ∷ [])) last))))))
+
+  -- What the scan finds among the recorded events is what the round lengthens of all.
+  round-is : (m : ℕ) (at : ℕ → ℕ) (c c′ : Choice) (grew : Bool) (rows rows′ : List (List ℕ)) → length c ≡ n + m → n + m ≤ length rows
+      → rows′ ≡ over rows 0 (rowsFrom 0 0 (allEvents events n code constants asked m) c)
+      → c′ ≡ over c 0 (join c (farIn (tableOf rows′ (n + m)) at (entries (eventAt events) n) c))
+      → grew ≡ any (farIn (tableOf rows′ (n + m)) at (entries (eventAt events) n) c)
+      → (c′ ≡ join c (farBy (allEvents events n code constants asked m) at c)) × (grew ≡ any (farBy (allEvents events n code constants asked m) at c))
+  round-is m at c c′ grew rows rows′ sized room laid next says =
+      let es = allEvents events n code constants asked m in
+      let ss = segments 0 0 es c in
+      let g : ℕ → ℕ = λ l. mapOffset ss (at l) in
+      let table : tableOf rows′ (n + m) ≡ ss
+      = ap (λ (k : ℕ). tableOf rows′ k) (sym (length-all events n code constants asked m))
+      ∙ table-laid rows rows′ es c laid (omega (arith, length-all events n code constants asked m)) in
+      let x = over c 0 (join c (farOf g (entries (eventAt events) n) c (newEnds ss))) in (
+        next
+            ∙ (rw table refl
+            ∙ (sym (take-all (n + m) x (omega (arith, length-over c 0 (join c (farOf g (entries (eventAt events) n) c (newEnds ss))))))
+            ∙ sym (join-all g c (newEnds ss) m (omega arith)))),
+        says ∙ (rw table refl ∙ sym (any-all g c (newEnds ss) m)),
+      )
+
+-- The rounds stand at the choice c, with so many layouts made: what is left of them is what k more rounds make, k jumps less the layouts made.
+pub record Standing (es : List LayoutEvent) (at : ℕ → ℕ) (before rows : List (List ℕ)) (c : Choice) (layouts : ℕ) : Type 0 where
+  pub sized : length c ≡ length es
+  pub few : shorts es c + layouts ≤ jumps es
+  pub choice : (relaxing (jumps es - layouts) es at c) .choice ≡ (relaxedBy es at) .choice
+  pub rounds : layouts + (relaxing (jumps es - layouts) es at c) .rounds ≡ (relaxedBy es at) .rounds
+  pub past : (ys : List (List ℕ)) → length ys ≡ length es → over rows 0 ys ≡ over before 0 ys
+
+pub standing-none : (es : List LayoutEvent) (at : ℕ → ℕ) (before : List (List ℕ)) (c : Choice) (n : ℕ) → length es ≡ n → c ≡ replicate n false
+    → Standing es at before before c 0
+standing-none es at before c n size h =
+    let e = h ∙ (ap (λ (k : ℕ). replicate k false) (sym size) ∙ all-short es) in
+    let z : jumps es - 0 ≡ jumps es = omega arith in
+    record {
+      sized = ap length h ∙ (length-replicate n false ∙ sym size);
+      few = rw e (omega (arith, shorts-all es));
+      choice = rw (e, z) refl;
+      rounds = rw (e, z) (omega arith);
+      past = λ ys k. refl;
+    }
+
+module _ (es : List LayoutEvent) (at : ℕ → ℕ) (before rows : List (List ℕ)) (c : Choice) (layouts : ℕ) (q : Standing es at before rows c layouts) where
+  pub layouts-few : layouts ≤ length es
+  layouts-few = omega (arith, q .few, jumps-le es)
+
+  module _ (rows′ : List (List ℕ)) (c′ : Choice) (grew : Bool) (laid : rows′ ≡ over rows 0 (rowsFrom 0 0 es c))
+      (round : (c′ ≡ join c (farBy es at c)) × (grew ≡ any (farBy es at c))) where
+    far-count : length (farBy es at c) ≡ length es
+    far-count = length-farOf _ es c _
+
+    fewer : grew ≡ true → shorts es c′ < shorts es c
+    fewer t = rw (round .0) (shorts-lt _ es c _ (sym (round .1) ∙ t))
+
+    standing-less : grew ≡ true → layouts < jumps es
+    standing-less t = omega (arith, q .few, fewer t)
+
+    standing-more : grew ≡ true → Standing es at before rows′ c′ (layouts + 1)
+    standing-more t =
+        let k : jumps es - layouts ≡ suc (jumps es - (layouts + 1)) = omega (arith, standing-less t) in
+        let rest : Settled = relaxing (jumps es - (layouts + 1)) es at (join c (farBy es at c)) in
+        let step : relaxing (jumps es - layouts) es at c ≡ record { choice = rest .choice; rounds = suc (rest .rounds) }
+        = ap (λ (x : ℕ). relaxing x es at c) k ∙ relaxing-again (jumps es - (layouts + 1)) es at c (sym (round .1) ∙ t) in
+        record {
+          sized = ap length (round .0) ∙ (length-join c (farBy es at c) ∙ far-count);
+          few = omega (arith, q .few, fewer t);
+          choice = rw (round .0) (sym (ap (λ (s : Settled). s .choice) step) ∙ q .choice);
+          rounds = rw (round .0) (omega (arith, ap (λ (s : Settled). s .rounds) step, q .rounds));
+          past = λ ys h.
+              ap (λ (x : List (List ℕ)). over x 0 ys) laid
+              ∙ (over-again rows (rowsFrom 0 0 es c) ys (length-rows es 0 0 c ∙ sym h) ∙ q .past ys h);
+        }
+
+    standing-done : grew ≡ false → (total len : ℕ) → len ≡ finishedLength es c total → Relaxed es at total before rows′ c′ (layouts + 1) len
+    standing-done t total len finished =
+        let none = sym (round .1) ∙ t in
+        let same : c′ ≡ c = round .0 ∙ join-none c (farBy es at c) (q .sized ∙ sym far-count) none in
+        let step = relaxing-last (jumps es - layouts) es at c none in
+        let here : c ≡ (relaxedBy es at) .choice = sym (ap (λ (s : Settled). s .choice) step) ∙ q .choice in
+        record {
+          choice = same ∙ here;
+          rounds = omega (arith, ap (λ (s : Settled). s .rounds) step, q .rounds);
+          table = laid ∙ (q .past (rowsFrom 0 0 es c) (length-rows es 0 0 c) ∙ ap (λ (x : Choice). over before 0 (rowsFrom 0 0 es x)) here);
+          finished = finished ∙ ap (λ (x : Choice). finishedLength es x total) here;
+        }
+
+-- A round as the program makes it: all events are laid out, and the recorded ones are scanned.
+module _ (events : List ℕ) (n code : ℕ) (constants asked : List ℕ) (m : ℕ) (at : ℕ → ℕ) (before rows : List (List ℕ)) (c : Choice) (layouts : ℕ)
+    (q : Standing (allEvents events n code constants asked m) at before rows c layouts) (room : n + m ≤ length rows) (rows′ : List (List ℕ)) (c′ : Choice)
+    (grew : Bool) (laid : rows′ ≡ over rows 0 (rowsFrom 0 0 (allEvents events n code constants asked m) c))
+    (next : c′ ≡ over c 0 (join c (farIn (tableOf rows′ (n + m)) at (entries (eventAt events) n) c)))
+    (says : grew ≡ any (farIn (tableOf rows′ (n + m)) at (entries (eventAt events) n) c)) where
+  round : (c′ ≡ join c (farBy (allEvents events n code constants asked m) at c)) × (grew ≡ any (farBy (allEvents events n code constants asked m) at c))
+  round =
+      round-is events n code constants asked m at c c′ grew rows rows′ (q .sized ∙ length-all events n code constants asked m) room laid next says
+
+  pub round-less : grew ≡ true → layouts < jumps (allEvents events n code constants asked m)
+  round-less = standing-less (allEvents events n code constants asked m) at before rows c layouts q rows′ c′ grew laid round
+
+  pub round-more : grew ≡ true → Standing (allEvents events n code constants asked m) at before rows′ c′ (layouts + 1)
+  round-more = standing-more (allEvents events n code constants asked m) at before rows c layouts q rows′ c′ grew laid round
+
+  pub round-done : grew ≡ false → (total len : ℕ) → len ≡ finishedLength (allEvents events n code constants asked m) c total
+      → Relaxed (allEvents events n code constants asked m) at total before rows′ c′ (layouts + 1) len
+  round-done = standing-done (allEvents events n code constants asked m) at before rows c layouts q rows′ c′ grew laid round
+
+-- The table of a layout is as the scan wants it.
+pub rising-all : (events : List ℕ) (n code : ℕ) (constants asked : List ℕ) (m : ℕ) (c : Choice) (rows rows′ : List (List ℕ)) → Recorded events n code
+    → PoolFits constants asked m → n + m ≤ 65536 → n + m ≤ length rows → rows′ ≡ over rows 0 (rowsFrom 0 0 (allEvents events n code constants asked m) c)
+    → Rising rows′ (n + m)
+rising-all events n code constants asked m c rows rows′ rec fits few room laid =
+    let size = length-all events n code constants asked m in
+    rw (← size)
+    (rising-laid rows rows′ (allEvents events n code constants asked m) c laid (omega (arith, size)) (poolStart code constants asked m)
+    (all-ordered events n code constants asked rec m)
+    (all-modest events n code constants asked rec m) (omega (arith, rec .small, pool-near events n code constants asked m m fits (omega arith))) (omega (arith, size)))

@@ -1,0 +1,55 @@
+-- `find` meets its contract: the search narrows to where the starts pass the offset.
+use mathlib.Core.Path.{_≡_, ap}
+use Prim.Native.Nat.{_-_}
+use native.Mathlib.Omega.{arith}
+use borrow.Author.Needs.{needs}
+use Rattle.relax.specs.declared.Segment.{Segment}
+use Rattle.layout.specs.Layout.{Between}
+use Rattle.layout.proofs.Search.{between-all, between-right, between-left}
+use Rattle.layout.proofs.find.Statement.{statement}
+use Rattle.layout.proofs.find.Tie as tie
+
+abbrev Inv-loop : tie.InvT-loop
+Inv-loop segments n offset low₀ high₀ low high = Between segments n offset low high
+
+abbrev μ-loop : tie.MeasureT-loop
+μ-loop segments n offset low₀ high₀ low high = high - low
+
+loop-holds : tie.Need-loop-holds Inv-loop μ-loop
+loop-holds c = between-all _ _ _
+
+segment-at-requires : tie.Need-segment-at-requires Inv-loop μ-loop
+segment-at-requires c κs = omega (arith, c .before .before .pre .fits, c .before .loop .inv .within)
+
+loop-again : tie.Need-loop-again Inv-loop μ-loop
+loop-again c =
+    let l = c .before .before .before .before .loop in
+    let start = ap (λ (s : Segment). s .«old_start») (c .before .before .segment-at .ensures) in
+    between-right _ _ _ (c .before .before .before .before .before .pre) _ _ _ (l .inv) (omega arith) (omega arith) (omega (arith, start, c .if1 .taken))
+
+loop-again-2 : tie.Need-loop-again-2 Inv-loop μ-loop
+loop-again-2 c =
+    let l = c .before .before .before .before .loop in
+    let start = ap (λ (s : Segment). s .«old_start») (c .before .before .segment-at .ensures) in
+    between-left _ _ _ (c .before .before .before .before .before .pre) _ _ _ (l .inv) (omega arith) (omega arith) (omega (arith, start, c .if1 .left))
+
+returns : tie.Need-returns Inv-loop μ-loop
+returns c =
+    let e : c .before .loop .high ≡ c .before .loop .low = omega (arith, c .before .loop .inv .order) in rw e at (c .before .loop .inv)
+
+pub find-spec : {M : Type 1} → statement M
+find-spec =
+    tie.close
+    (tie.spec
+    Inv-loop
+    μ-loop
+    loop-holds
+    (λ c. search needs)
+    (λ c. search needs)
+    segment-at-requires
+    (λ c. search needs)
+    (λ c. search needs)
+    loop-again
+    (λ c. search needs)
+    loop-again-2
+    returns)

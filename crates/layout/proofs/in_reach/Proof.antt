@@ -1,0 +1,19 @@
+-- `in_reach` meets its contract: its tests are those of `reaches`, in order.
+use mathlib.Core.Path.{refl}
+use Prim.Native.Nat.{_+_}
+use borrow.Author.Tests.{le-leb, lt-leb}
+use Rattle.fresh.specs.Rounds.{reaches}
+use borrow.Author.Needs.{needs}
+use Rattle.layout.proofs.in_reach.Statement.{statement}
+use Rattle.layout.proofs.in_reach.Tie as tie
+
+returns : tie.Need-returns
+unfolding reaches
+returns c = rw (le-leb (c .before .args .end) (c .before .args .label + 128) (c .if1 .taken), reaches) refl
+
+returns-2 : tie.Need-returns-2
+unfolding reaches
+returns-2 c = rw (lt-leb (c .before .args .end) (c .before .args .label + 128) (c .if1 .left), reaches) refl
+
+pub in-reach-spec : {M : Type 1} → statement M
+in-reach-spec = tie.close (tie.spec (λ c. search needs) (λ c. search needs) returns returns-2)

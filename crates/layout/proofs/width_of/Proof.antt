@@ -1,0 +1,31 @@
+-- `width_of` meets its contract: a form's length, by cases.
+use mathlib.Core.Path.{refl}
+use Rattle.fresh.proofs.Shape.{size}
+use Rattle.fresh.proofs.Forms.{width-size}
+use borrow.Author.Needs.{needs}
+use Rattle.layout.proofs.width_of.Statement.{statement}
+use Rattle.layout.proofs.width_of.Tie as tie
+
+returns : tie.Need-returns
+unfolding size
+returns c = rw (c .before .before .before .event .given .1, c .before .if1 .taken, width-size) (c .long-size .ensures)
+
+returns-2 : tie.Need-returns-2
+unfolding size
+returns-2 c = rw (c .before .before .event .given .1, c .if1 .left, width-size) refl
+
+returns-3 : tie.Need-returns-3
+unfolding size
+returns-3 c = rw (c .before .before .event2 .given .1, width-size) (c .padding-len .ensures)
+
+pub width-of-spec : {M : Type 1} → statement M
+width-of-spec =
+    tie.close
+    (tie.spec
+    (λ c. search needs)
+    (λ c κs. search needs)
+    (λ c. search needs)
+    (λ c κs. search needs)
+    returns
+    returns-2
+    returns-3)

@@ -1,0 +1,128 @@
+-- The table of segments, what a layout leaves in it, and the rounds by segments.
+use mathlib.Core.Path.{_≡_}
+use mathlib.Core.Logic.{_≢_}
+use mathlib.Core.Bool.{true, false}
+use mathlib.Core.List.{List, [], _∷_, _++_, map}
+use Prim.Native.Nat.{ℕ, zero, suc, _+_, _-_, _*_, _≤_, _<_}
+use lib.ListN.{length, getD, take}
+use Rattle.seqs.specs.Over.{over}
+use Rattle.words.specs.Words.{wordAt}
+use Rattle.relax.specs.declared.LayoutEvent.{LayoutEvent}
+use Rattle.relax.specs.declared.LayoutEvent.the-variants.{Jump}
+use Rattle.relax.specs.declared.RelaxableJump.{RelaxableJump}
+use Rattle.relax.specs.declared.Segment.{Segment}
+use Rattle.relax.specs.Events.{eventAt, endOf}
+use Rattle.buffer.specs.State.{none}
+use Rattle.recording.specs.View.{entries}
+use Rattle.fresh.specs.Fresh.{Choice, startOf}
+use Rattle.fresh.specs.Rounds.{Settled, allShort, jumps, farOf, any, join}
+use Rattle.fresh.specs.Segments.{segments, mapOffset}
+use Rattle.fresh.proofs.Shape.{Ordered, Modest, newEnds, after}
+use Rattle.pool.specs.Pool.{poolEvent}
+
+-- a segment as a row of the table, and back
+abbrev pub rowOf : Segment → List ℕ
+rowOf s = s .«old_start» ∷ s .«old_end» ∷ s .«new_start» ∷ s .«new_end» ∷ []
+
+abbrev pub segmentOf : List ℕ → Segment
+segmentOf row =
+    record { «old_start» = getD row 0 0; «old_end» = getD row 1 0; «new_start» = getD row 2 0; «new_end» = getD row 3 0 }
+
+-- the segments in the first n rows
+abbrev pub tableOf : List (List ℕ) → ℕ → List Segment
+tableOf rows n = map segmentOf (take n rows)
+
+-- where the segment in row i starts in the recording
+abbrev pub startAt : List (List ℕ) → ℕ → ℕ
+startAt rows i = (segmentOf (getD rows i [])) .«old_start»
+
+-- what `map` is handed: the recorded starts of the first n segments rise, and new offsets are small
+pub record Rising (rows : List (List ℕ)) (n : ℕ) : Type 0 where
+  pub fits : n ≤ length rows
+  pub rises : (i j : ℕ) → i ≤ j → j < n → startAt rows i ≤ startAt rows j
+  pub small : (i : ℕ) → i < n → ((segmentOf (getD rows i [])) .«new_start» ≤ 300000000) × ((segmentOf (getD rows i [])) .«new_end» ≤ 300000000)
+
+-- of the first n segments those before lo start at or before an offset, those from hi on after it
+pub record Between (rows : List (List ℕ)) (n offset lo hi : ℕ) : Type 0 where
+  pub order : lo ≤ hi
+  pub within : hi ≤ n
+  pub under : (j : ℕ) → j < lo → startAt rows j ≤ offset
+  pub above : (j : ℕ) → hi ≤ j → j < n → offset < startAt rows j
+
+-- an event of modest size that follows the recorded offset `old`, where its new offsets are small
+pub record Follows (event : LayoutEvent) (old new : ℕ) : Type 0 where
+  pub order : old ≤ startOf event
+  pub modest : Modest (event ∷ [])
+  pub ends : endOf event ≤ 300000000
+  pub small : new + (startOf event - old) ≤ 300000000
+
+-- what a layout is handed for the recorded events: n entries that lie in their table, follow one another in `code` bytes, and are modest
+pub record Recorded (events : List ℕ) (n code : ℕ) : Type 0 where
+  pub room : n * 20 ≤ length events
+  pub ordered : Ordered 0 code (entries (eventAt events) n)
+  pub modest : Modest (entries (eventAt events) n)
+  pub small : code ≤ 16777216
+
+-- the recorded events, and after them the alignments of the pool that starts where the code ends
+abbrev pub allEvents : List ℕ → ℕ → ℕ → List ℕ → List ℕ → ℕ → List LayoutEvent
+allEvents events n code constants asked m = entries (eventAt events) n ++ entries (poolEvent code constants asked) m
+
+-- the rows of a layout, where the event before these ended at the recorded offset o and the new offset n
+abbrev pub rowsFrom : ℕ → ℕ → List LayoutEvent → Choice → List (List ℕ)
+rowsFrom o n es c = map rowOf (segments o n es c)
+
+-- the new offset of what was recorded at `total`, past the last event
+abbrev pub endFrom : ℕ → ℕ → List LayoutEvent → Choice → ℕ → ℕ
+endFrom o n es c total = (after (length es) o n es c) .new + (total - (after (length es) o n es c) .old)
+
+-- the finished length, of a recording of `total` bytes
+abbrev pub finishedLength : List LayoutEvent → Choice → ℕ → ℕ
+finishedLength es c total = endFrom 0 0 es c total
+
+-- the rows of these events stand over the first of a table, and the last event ends at the recorded offset `old` and the new offset `new`
+pub record Laid (before rows : List (List ℕ)) (es : List LayoutEvent) (c : Choice) (old new : ℕ) : Type 0 where
+  pub table : rows ≡ over before 0 (rowsFrom 0 0 es c)
+  pub here : after (length es) 0 0 es c ≡ record { old = old; new = new }
+
+-- the label of an event, if it is a jump, lies in its table, and is unbound or small
+pub record Known (event : LayoutEvent) (labels : List ℕ) : Type 0 where
+  pub room : (j : RelaxableJump) → event ≡ Jump j → j .label * 4 + 4 ≤ length labels
+  pub small : (j : RelaxableJump) → event ≡ Jump j → wordAt labels (j .label) ≢ none → wordAt labels (j .label) ≤ 300000000
+
+-- so for each of the first n events
+pub record Labelled (events labels : List ℕ) (n : ℕ) : Type 0 where
+  pub known : (i : ℕ) → i < n → Known (eventAt events i) labels
+
+-- which events a round lengthens, as segments say; `at` knows the recorded offset of a label by its number
+abbrev pub farIn : List Segment → (ℕ → ℕ) → List LayoutEvent → Choice → Choice
+farIn ss at es c = farOf (λ (l : ℕ). mapOffset ss (at l)) es c (newEnds ss)
+
+-- the same by the layout of the choice
+abbrev pub farBy : List LayoutEvent → (ℕ → ℕ) → Choice → Choice
+farBy es at c = farIn (segments 0 0 es c) at es c
+
+-- The rounds by segments, as `settle` has them by the walk: at most k of them lengthen a jump.
+unfoldable pub relaxing : ℕ → List LayoutEvent → (ℕ → ℕ) → Choice → Settled
+relaxing zero es at c = record { choice = c; rounds = 1 }
+relaxing (suc k) es at c = elim (any (farBy es at c)) [
+  | false ↦ record { choice = c; rounds = 1 }
+  | true ↦ record {
+    choice = (relaxing k es at (join c (farBy es at c))) .choice;
+    rounds = suc ((relaxing k es at (join c (farBy es at c))) .rounds);
+  }
+]
+
+-- all rounds, of labels that `at` knows, and of a list of labels
+abbrev pub relaxedBy : List LayoutEvent → (ℕ → ℕ) → Settled
+relaxedBy es at = relaxing (jumps es) es at (allShort es)
+
+abbrev pub relaxed : List LayoutEvent → List ℕ → Settled
+relaxed es labels = relaxedBy es (λ (l : ℕ). getD labels l none)
+
+-- What the rounds leave of these events, `at` knowing the recorded offsets of labels and `total` being the recorded length: the settled choice, its
+-- layout in the table, the number of layouts made, and the finished length.
+pub record Relaxed (es : List LayoutEvent) (at : ℕ → ℕ) (total : ℕ) (before rows : List (List ℕ)) (long : Choice) (layouts len : ℕ) : Type 0 where
+  pub choice : long ≡ (relaxedBy es at) .choice
+  pub rounds : layouts ≡ (relaxedBy es at) .rounds
+  pub table : rows ≡ over before 0 (rowsFrom 0 0 es ((relaxedBy es at) .choice))
+  pub finished : len ≡ finishedLength es ((relaxedBy es at) .choice) total
