@@ -1,0 +1,38 @@
+-- The tests of one entry, where the code tests in another order than the definitions.
+use mathlib.Core.Path.{_≡_, refl}
+use mathlib.Core.Logic.{_≢_}
+use mathlib.Core.Bool.{Bool, true, false, _&&_, _||_}
+use mathlib.Core.List.{List}
+use Prim.Native.Nat.{ℕ, _≤_, _<_}
+use borrow.Author.Tests.{eq-eqb, ne-eqb, le-leb, lt-leb}
+use lib.Dec.{eqb, leb, ltb}
+use Rattle.encoder.specs.Padding.{paddingLength}
+use Rattle.buffer.specs.State.{none}
+use Rattle.buffer.specs.Refusals.{isAlignment}
+use Rattle.checks.specs.Entries.{formFits, outside, labelFits}
+
+or-false : (t : Bool) → t ≡ (t || false)
+or-false true = refl
+or-false false = refl
+
+pub form-jump : (labels kind start len what cc : ℕ) → kind ≡ 1 → (leb 2 len && leb len 15 && (ltb what labels && leb cc 16)) ≡ formFits labels kind start len what cc
+unfolding formFits
+form-jump labels kind start len what cc e = rw e (or-false (leb 2 len && leb len 15 && (ltb what labels && leb cc 16)))
+
+pub form-alignment : (labels kind start len what cc : ℕ) → kind ≢ 1
+    → (eqb kind 2 && (isAlignment what && eqb len (paddingLength start what))) ≡ formFits labels kind start len what cc
+unfolding formFits
+form-alignment labels kind start len what cc h = rw (ne-eqb kind 1 h)
+
+-- a label that is not bound, one past the code, and any other
+pub label-none : (events : List ℕ) (n code offset : ℕ) → offset ≡ none → true ≡ labelFits events n code offset
+unfolding labelFits
+label-none events n code offset e = rw (eq-eqb offset none e)
+
+pub label-past : (events : List ℕ) (n code offset : ℕ) → offset ≢ none → code < offset → false ≡ labelFits events n code offset
+unfolding labelFits
+label-past events n code offset h l = rw (ne-eqb offset none h, lt-leb offset code l)
+
+pub label-within : (events : List ℕ) (n code offset : ℕ) → offset ≢ none → offset ≤ code → outside events n offset ≡ labelFits events n code offset
+unfolding labelFits
+label-within events n code offset h l = rw (ne-eqb offset none h, le-leb offset code l)

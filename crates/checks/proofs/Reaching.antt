@@ -1,0 +1,127 @@
+-- Labels that are named, fields that are clear, and the first use that does not reach.
+use mathlib.Core.Path.{_≡_, refl, sym, _∙_}
+use mathlib.Core.Logic.{_≢_, ⊎-elim}
+use mathlib.Core.Bool.{Bool, true, false, not}
+use mathlib.Core.List.{List}
+use Prim.Native.Nat.{ℕ, zero, suc, _+_, _-_, _*_, _≤_, _<_}
+use native.Mathlib.Nat.{not-suc-le-zero}
+use native.Mathlib.Numerals.{add-one}
+use native.Mathlib.Omega.{arith}
+use borrow.Author.Tests.{eq-eqb, ne-eqb, lt-ltb, le-ltb, le-leb, lt-leb}
+use lib.Dec.{eqb}
+use Rattle.seqs.proofs.Numbers.{eq-or-ne}
+use Rattle.seqs.proofs.Picking.{yes-eq, no-eq}
+use Rattle.words.specs.Words.{wordAt}
+use Rattle.fields.specs.Kinds.{decoded, patchSize}
+use Rattle.fields.specs.declared.Decoded.{Decoded}
+use Rattle.fields.specs.declared.Decoded.the-variants.{Use, Unsupported, Unknown}
+use Rattle.fields.specs.declared.LabelUse.{LabelUse}
+use Rattle.fields.specs.declared.LabelUse.the-variants.{
+  X86JmpRel32,
+  X86BranchRel8,
+  A64Branch14,
+  A64Branch19,
+  A64Branch26,
+  A64Ldr19,
+  A64Adr21,
+  A64Adrp21,
+  A64AddAbsLo12,
+}
+use Rattle.pool.specs.Pool.{poolStart}
+use Rattle.checks.specs.Entries.{all}
+use Rattle.checks.specs.Fields.{isBound, hasJump, sizeOf, clearOfEvents, clearOfPool, refClear, whyUnreached, whyUses}
+use Rattle.checks.specs.Handed.{jumpBound, targetBound}
+use Rattle.checks.proofs.Scans.{all-fails, all-step}
+
+-- the first n events are no jumps
+abbrev pub still : List ℕ → ℕ → Bool
+still events i = not (eqb (wordAt events (i * 5)) 1)
+
+pub one-jump : (events : List ℕ) (n i kind : ℕ) → i < n → kind ≡ wordAt events (i * 5) → kind ≡ 1 → true ≡ hasJump events n
+unfolding hasJump
+one-jump events n i kind l e h =
+    rw (all-fails (still events) n i l (rw (eq-eqb (wordAt events (i * 5)) 1 (sym e ∙ h))))
+
+pub no-jump-yet : (events : List ℕ) (i kind : ℕ) → all (still events) i ≡ true → kind ≡ wordAt events (i * 5) → kind ≢ 1 → all (still events) (i + 1) ≡ true
+no-jump-yet events i kind a e h = all-step (still events) i a (rw (ne-eqb (wordAt events (i * 5)) 1 (λ (q : wordAt events (i * 5) ≡ 1). h (e ∙ q))))
+
+pub no-jump : (events : List ℕ) (n i : ℕ) → i ≤ n → n ≤ i → all (still events) i ≡ true → false ≡ hasJump events n
+unfolding hasJump
+no-jump events n i h l a = let same : n ≡ i = omega arith in rw (same, a)
+
+pub jump-none : (events labels : List ℕ) (i kind : ℕ) → kind ≡ wordAt events (i * 5) → kind ≢ 1 → true ≡ jumpBound events labels i
+jump-none events labels i kind e h = rw (ne-eqb (wordAt events (i * 5)) 1 (λ (q : wordAt events (i * 5) ≡ 1). h (e ∙ q)))
+
+pub jump-named : (events labels : List ℕ) (i kind : ℕ) → kind ≡ wordAt events (i * 5) → kind ≡ 1
+    → isBound labels (wordAt events (i * 5 + 3)) ≡ jumpBound events labels i
+jump-named events labels i kind e h = rw (eq-eqb (wordAt events (i * 5)) 1 (sym e ∙ h))
+
+pub target-symbol : (relocs labels : List ℕ) (i target : ℕ) → target ≡ wordAt relocs (i * 6 + 2) → target < 2147483648 → true ≡ targetBound relocs labels i
+target-symbol relocs labels i target e h = rw (lt-ltb (wordAt relocs (i * 6 + 2)) 2147483648 (rw e at h))
+
+pub target-label : (relocs labels : List ℕ) (i target : ℕ) → target ≡ wordAt relocs (i * 6 + 2) → 2147483648 ≤ target
+    → isBound labels (target - 2147483648) ≡ targetBound relocs labels i
+target-label relocs labels i target e h = rw (e, le-ltb (wordAt relocs (i * 6 + 2)) 2147483648 (rw e at h))
+
+-- no field has more than four bytes
+patch-small : (k : LabelUse) → patchSize k ≤ 4
+patch-small X86JmpRel32 = omega arith
+patch-small X86BranchRel8 = omega arith
+patch-small A64Branch14 = omega arith
+patch-small A64Branch19 = omega arith
+patch-small A64Branch26 = omega arith
+patch-small A64Ldr19 = omega arith
+patch-small A64Adr21 = omega arith
+patch-small A64Adrp21 = omega arith
+patch-small A64AddAbsLo12 = omega arith
+
+size-small : (d : Decoded) → sizeOf d ≤ 4
+size-small (Use k) = patch-small k
+size-small Unsupported = omega arith
+size-small Unknown = omega arith
+
+pub sized : (size code : ℕ) → size ≡ sizeOf (decoded code) → (size ≡ sizeOf (decoded code)) × (size ≤ 4)
+sized size code e = (e, rw e (size-small (decoded code)))
+
+-- a ref past the end of the code, one that overlaps an event, and any other
+module _ (refs events : List ℕ) (n code : ℕ) (constants asked : List ℕ) (m i from size len : ℕ) where
+  pub record RefAt : Type 0 where
+    pub at : from ≡ wordAt refs (i * 4)
+    pub long : size ≡ sizeOf (decoded (wordAt refs (i * 4 + 2)))
+    pub end : len ≡ poolStart code constants asked m
+
+  pub ref-past : RefAt → len < from + size → false ≡ refClear refs events n code constants asked m i
+  unfolding refClear
+  ref-past r h = rw (← r .at, ← r .long, ← r .end, lt-leb (from + size) len h)
+
+  pub ref-over : RefAt → from + size ≤ len → clearOfEvents events n from (from + size) ≡ false → false ≡ refClear refs events n code constants asked m i
+  unfolding refClear
+  ref-over r h e = rw (← r .at, ← r .long, ← r .end, le-leb (from + size) len h, e)
+
+  pub ref-rest : RefAt → from + size ≤ len → clearOfEvents events n from (from + size) ≡ true
+      → clearOfPool code constants asked m from (from + size) ≡ refClear refs events n code constants asked m i
+  unfolding refClear
+  ref-rest r h e = rw (← r .at, ← r .long, ← r .end, le-leb (from + size) len h, e)
+
+module _ (uses labels : List ℕ) (len : ℕ) where
+  pub why-none : whyUses uses labels len 0 ≡ 0
+  unfolding whyUses
+  why-none = refl
+
+  pub why-next : (i why : ℕ) → whyUses uses labels len i ≡ 0 → why ≡ whyUnreached uses labels len i → why ≡ 0 → whyUses uses labels len (i + 1) ≡ 0
+  unfolding whyUses
+  why-next i why h e z = rw (add-one i, h) (yes-eq 0 0 _ _ refl ∙ sym e ∙ z)
+
+  pub why-first : (n i why : ℕ) → i < n → whyUses uses labels len i ≡ 0 → why ≡ whyUnreached uses labels len i → why ≢ 0 → why ≡ whyUses uses labels len n
+  unfolding whyUses
+  why-first zero i why l h e z = absurd (not-suc-le-zero l)
+  why-first (suc n) i why l h e z =
+      ⊎-elim
+      (λ (same : i ≡ n). e ∙ rw same (sym (yes-eq (whyUses uses labels len n) 0 _ _ (rw same at h))))
+      (λ other.
+      let before = why-first n i why (omega arith) h e z in
+      before ∙ sym (no-eq (whyUses uses labels len n) 0 _ _ (λ (q : whyUses uses labels len n ≡ 0). z (before ∙ q))))
+      (eq-or-ne i n)
+
+  pub why-end : (n i : ℕ) → i ≤ n → n ≤ i → whyUses uses labels len i ≡ 0 → 0 ≡ whyUses uses labels len n
+  why-end n i h l e = let same : i ≡ n = omega arith in sym (rw same at e)

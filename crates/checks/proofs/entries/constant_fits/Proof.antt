@@ -1,0 +1,22 @@
+-- `constant_fits` meets its contract: its tests are those of `constantFits`.
+use Rattle.checks.specs.Entries.{constantFits}
+use borrow.Author.Needs.{needs}
+use Rattle.checks.proofs.entries.constant_fits.Statement.{statement}
+use Rattle.checks.proofs.entries.constant_fits.Tie as tie
+
+returns : tie.Need-returns
+unfolding constantFits
+returns c = rw (c .both .ensures, c .before .either .ensures, c .before .before .word-at2 .ensures, c .before .before .before .word-at .ensures)
+
+pub constant-fits-spec : {M : Type 1} → statement M
+constant-fits-spec =
+    tie.close
+    (tie.spec
+    (λ c. search needs)
+    (λ c κs. search needs)
+    (λ c. search needs)
+    (λ c. search needs)
+    (λ c κs. search needs)
+    (λ c κs. search needs)
+    (λ c κs. search needs)
+    returns)

@@ -1,0 +1,45 @@
+-- `is_new` meets its contract: what is not marked is new.
+use native.Mathlib.Omega.{arith}
+use mathlib.Core.Path.{sym, _∙_}
+use Rattle.checks.proofs.Marking.{new-unknown, new-unlabelled, new-marked}
+use borrow.Author.Needs.{needs}
+use Rattle.checks.proofs.entries.is_new.Statement.{statement}
+use Rattle.checks.proofs.entries.is_new.Tie as tie
+
+returns : tie.Need-returns
+returns c = new-unknown _ _ _ _ (rw (c .before .word-at .ensures) at (c .if1 .taken))
+
+returns-2 : tie.Need-returns-2
+returns-2 c = new-unlabelled _ _ _ _ (sym (rw (c .before .before .before .word-at .ensures) at (c .before .word-at2 .ensures)) ∙ c .if2 .taken)
+
+shared-slice-read-shared : tie.Need-shared-slice-read-shared
+shared-slice-read-shared c =
+    let a = c .before .before .before .before .before .before .before .before .before .before .pre in
+    let label = rw (c .before .before .before .before .before .word-at .ensures) at (c .before .before .before .word-at2 .ensures) in
+    let known = a .1 .0 .label _ (rw (c .before .before .before .before .before .word-at .ensures) at (c .before .before .before .before .if1 .left)) (λ e. c .before .before .if2 .left (label ∙ e)) in
+    omega (arith, label, known, a .1 .1 .1 .size)
+
+returns-3 : tie.Need-returns-3
+returns-3 c =
+    let p = c .before .before .before .before .before .before .before .before .before .before .before .pre in
+    let constant = c .before .before .before .before .before .before .word-at .ensures in
+    let label = rw constant at (c .before .before .before .before .word-at2 .ensures) in
+    rw (c .both .ensures, label, constant) (new-marked _ _ _ _ _ _ (p .1 .1 .0) (p .1 .1 .1) (p .1 .0) (rw constant at (c .before .before .before .before .before .if1 .left)) (λ e. c .before .before .before .if2 .left (label ∙ e)))
+
+pub is-new-spec : {M : Type 1} → statement M
+is-new-spec =
+    tie.close
+    (tie.spec
+    (λ c κs. search needs)
+    returns
+    (λ c. search needs)
+    (λ c. search needs)
+    (λ c. search needs)
+    (λ c κs. search needs)
+    returns-2
+    (λ c. search needs)
+    (λ c. search needs)
+    (λ c. search needs)
+    shared-slice-read-shared
+    (λ c κs. search needs)
+    returns-3)

@@ -1,0 +1,17 @@
+-- `label_fits` meets its contract: its tests are those of `labelFits`, in order.
+use Rattle.checks.proofs.Forms.{label-none, label-past, label-within}
+use borrow.Author.Needs.{needs}
+use Rattle.checks.proofs.entries.label_fits.Statement.{statement}
+use Rattle.checks.proofs.entries.label_fits.Tie as tie
+
+returns : tie.Need-returns
+returns c = label-none _ _ _ _ (c .if1 .taken)
+
+returns-2 : tie.Need-returns-2
+returns-2 c = label-past _ _ _ _ (c .before .if1 .left) (c .if2 .taken)
+
+returns-3 : tie.Need-returns-3
+returns-3 c = rw (c .is-outside .ensures) (label-within _ _ _ _ (c .before .before .if1 .left) (c .before .if2 .left))
+
+pub label-fits-spec : {M : Type 1} → statement M
+label-fits-spec = tie.close (tie.spec returns returns-2 (λ c κs. search needs) returns-3)

@@ -1,0 +1,31 @@
+-- `order_fits` meets its contract: what is marked is what is asked for.
+use mathlib.Core.Path.{sym, _∙_}
+use borrow.Author.Tests.{not-true, not-false}
+use Rattle.checks.proofs.Marking.{marks-blank, order-fails, order-holds}
+use borrow.Author.Needs.{needs}
+use Rattle.checks.proofs.entries.order_fits.Statement.{statement}
+use Rattle.checks.proofs.entries.order_fits.Tie as tie
+
+mark-asked-requires : tie.Need-mark-asked-requires
+mark-asked-requires c κs = (c .before .before .before .before .pre .0, (c .before .before .before .before .pre .1, (marks-blank _, marks-blank _)))
+
+returns : tie.Need-returns
+returns c = order-fails _ _ _ _ (sym (c .before .before .before .mark-asked .ensures .0) ∙ not-true _ (c .if1 .taken))
+
+returns-2 : tie.Need-returns-2
+returns-2 c =
+    let held = not-false _ (c .before .before .if1 .left) in
+    let marked = c .before .before .before .before .before .mark-asked .ensures in
+    rw (c .is-each-marked .ensures) (order-holds _ _ _ _ _ (c .before .before .before .before .before .before .before .before .before .before .pre .1 .limit) (marked .1 held) (sym (marked .0) ∙ held))
+
+pub order-fits-spec : {M : Type 1} → statement M
+order-fits-spec =
+    tie.close
+    (tie.spec
+    (λ c. search needs)
+    (λ c. search needs)
+    mark-asked-requires
+    returns
+    (λ c. search needs)
+    (λ c κs. search needs)
+    returns-2)

@@ -1,0 +1,12 @@
+-- `refs_fit` meets its contract.
+use Rattle.checks.specs.Entries.{refsFit}
+use borrow.Author.Needs.{needs}
+use Rattle.checks.proofs.entries.refs_fit.Statement.{statement}
+use Rattle.checks.proofs.entries.refs_fit.Tie as tie
+
+returns : tie.Need-returns
+unfolding refsFit
+returns c = rw (c .both .ensures, c .before .each-ref-fits .ensures, c .before .before .is-kept .ensures)
+
+pub refs-fit-spec : {M : Type 1} → statement M
+refs-fit-spec = tie.close (tie.spec (λ c κs. search needs) (λ c κs. search needs) (λ c κs. search needs) returns)

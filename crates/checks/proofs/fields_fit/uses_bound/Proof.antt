@@ -1,0 +1,52 @@
+-- `uses_bound` meets its contract: all the uses passed name bound labels.
+use Rattle.checks.specs.Handed.{useLabel}
+use Rattle.checks.specs.Fields.{isBound, usesBound}
+use native.Mathlib.Omega.{arith}
+use Prim.Native.Nat.{ℕ, _≤_, _-_}
+use mathlib.Core.Path.{_≡_}
+use mathlib.Core.Bool.{true}
+use Rattle.checks.specs.Entries.{all}
+use Rattle.checks.proofs.Scans.{all-none, scan-fails, scan-goes, scan-ends}
+use borrow.Author.Needs.{needs}
+use Rattle.checks.proofs.fields_fit.uses_bound.Statement.{statement}
+use Rattle.checks.proofs.fields_fit.uses_bound.Tie as tie
+
+abbrev Inv-loop : tie.InvT-loop
+Inv-loop uses n labels i₀ i = (i ≤ n) × (all (λ (k : ℕ). isBound labels (useLabel uses k)) i ≡ true)
+
+abbrev μ-loop : tie.MeasureT-loop
+μ-loop uses n labels i₀ i = n - i
+
+loop-holds : tie.Need-loop-holds Inv-loop μ-loop
+loop-holds c = (omega arith, all-none _)
+
+is-bound-requires : tie.Need-is-bound-requires Inv-loop μ-loop
+is-bound-requires c κs = rw (c .word-at .ensures) (c .before .before .before .before .before .pre .1 .known (c .before .before .loop .i) (omega arith))
+
+returns : tie.Need-returns Inv-loop μ-loop
+unfolding usesBound
+returns c = let l = c .before .before .before .before .loop in scan-fails _ _ (l .i) _ (omega arith) (rw (c .before .before .word-at .ensures) at (c .before .is-bound .ensures)) (c .if1 .taken)
+
+loop-again : tie.Need-loop-again Inv-loop μ-loop
+loop-again c = let l = c .before .before .before .before .loop in (omega arith, scan-goes _ (l .i) _ (l .inv .1) (rw (c .before .before .word-at .ensures) at (c .before .is-bound .ensures)) (c .if1 .left))
+
+returns-2 : tie.Need-returns-2 Inv-loop μ-loop
+unfolding usesBound
+returns-2 c = let l = c .before .loop in scan-ends _ _ (l .i) (omega arith) (omega arith) (l .inv .1)
+
+pub uses-bound-spec : {M : Type 1} → statement M
+uses-bound-spec =
+    tie.close
+    (tie.spec
+    Inv-loop
+    μ-loop
+    loop-holds
+    (λ c. search needs)
+    (λ c. search needs)
+    (λ c κs. search needs)
+    is-bound-requires
+    returns
+    (λ c. search needs)
+    (λ c. search needs)
+    loop-again
+    returns-2)

@@ -1,0 +1,44 @@
+-- `why_uses` meets its contract: all the uses passed reach.
+use native.Mathlib.Omega.{arith}
+use Prim.Native.Nat.{_≤_, _-_}
+use mathlib.Core.Path.{_≡_}
+use Rattle.checks.specs.Fields.{whyUses}
+use Rattle.checks.proofs.Reaching.{why-none, why-next, why-first, why-end}
+use borrow.Author.Needs.{needs}
+use Rattle.checks.proofs.fields_fit.why_uses.Statement.{statement}
+use Rattle.checks.proofs.fields_fit.why_uses.Tie as tie
+
+abbrev Inv-loop : tie.InvT-loop
+Inv-loop uses n labels len i₀ i = (i ≤ n) × (whyUses uses labels len i ≡ 0)
+
+abbrev μ-loop : tie.MeasureT-loop
+μ-loop uses n labels len i₀ i = n - i
+
+loop-holds : tie.Need-loop-holds Inv-loop μ-loop
+loop-holds c = (omega arith, why-none _ _ _)
+
+why-unreached-requires : tie.Need-why-unreached-requires Inv-loop μ-loop
+why-unreached-requires c κs = (omega arith, c .before .before .before .before .pre .1 .known (c .before .loop .i) (omega arith))
+
+returns : tie.Need-returns Inv-loop μ-loop
+returns c = why-first _ _ _ _ (c .before .before .before .loop .i) _ (omega arith) (c .before .before .before .loop .inv .1) (c .before .why-unreached .ensures) (c .if1 .taken)
+
+loop-again : tie.Need-loop-again Inv-loop μ-loop
+loop-again c = (omega arith, why-next _ _ _ _ _ (c .before .before .before .loop .inv .1) (c .before .why-unreached .ensures) (c .if1 .left))
+
+returns-2 : tie.Need-returns-2 Inv-loop μ-loop
+returns-2 c = why-end _ _ _ _ (c .before .loop .i) (omega arith) (omega arith) (c .before .loop .inv .1)
+
+pub why-uses-spec : {M : Type 1} → statement M
+why-uses-spec =
+    tie.close
+    (tie.spec
+    Inv-loop
+    μ-loop
+    loop-holds
+    why-unreached-requires
+    returns
+    (λ c. search needs)
+    (λ c. search needs)
+    loop-again
+    returns-2)

@@ -1,0 +1,16 @@
+-- `clear_of_events` meets its contract: the last event that starts before the end decides.
+use native.Mathlib.Omega.{arith}
+use Rattle.checks.proofs.Clear.{clear-none, clear-last}
+use borrow.Author.Needs.{needs}
+use Rattle.checks.proofs.search.clear_of_events.Statement.{statement}
+use Rattle.checks.proofs.search.clear_of_events.Tie as tie
+
+returns : tie.Need-returns
+returns c = clear-none _ _ _ _ _ (c .if1 .taken) (c .before .events-before .ensures)
+
+returns-2 : tie.Need-returns-2
+returns-2 c = rw (c .end-at .ensures) (clear-last _ _ _ _ _ (omega arith) (c .before .before .before .before .pre .1) (c .before .before .events-before .ensures))
+
+pub clear-of-events-spec : {M : Type 1} → statement M
+clear-of-events-spec =
+    tie.close (tie.spec (λ c κs. search needs) returns (λ c. search needs) (λ c κs. search needs) returns-2)

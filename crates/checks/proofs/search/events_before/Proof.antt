@@ -1,0 +1,49 @@
+-- `events_before` meets its contract: each turn halves what is not told apart yet.
+use native.Mathlib.Omega.{arith}
+use Prim.Native.Nat.{_+_, _-_, _/_}
+use Rattle.recording.specs.Sound.{startAt, endAt}
+use Rattle.checks.proofs.Clear.{Halved, halved-first, halved-low, halved-high, halved-last}
+use borrow.Author.Needs.{needs}
+use Rattle.checks.proofs.search.events_before.Statement.{statement}
+use Rattle.checks.proofs.search.events_before.Tie as tie
+
+abbrev Inv-loop : tie.InvT-loop
+Inv-loop events n to low₀ high₀ low high = Halved (startAt events) (endAt events) n to low high
+
+abbrev μ-loop : tie.MeasureT-loop
+μ-loop events n to low₀ high₀ low high = high - low
+
+loop-holds : tie.Need-loop-holds Inv-loop μ-loop
+loop-holds c = halved-first _ _ _ _
+
+loop-again : tie.Need-loop-again Inv-loop μ-loop
+loop-again c =
+    let l = c .before .before .before .loop in
+    let mid = l .low + (l .high - l .low) / 2 in
+    halved-low _ _ _ _ (l .low) (l .high) mid (c .before .before .before .before .before .pre .1) (l .inv) (omega arith) (rw (c .before .start-at .ensures) at (c .if1 .taken)) (omega arith)
+
+loop-again-2 : tie.Need-loop-again-2 Inv-loop μ-loop
+loop-again-2 c =
+    let l = c .before .before .before .loop in
+    let mid = l .low + (l .high - l .low) / 2 in
+    halved-high _ _ _ _ (l .low) (l .high) mid (c .before .before .before .before .before .pre .1) (l .inv) (omega arith) (rw (c .before .start-at .ensures) at (c .if1 .left)) (omega arith)
+
+returns : tie.Need-returns Inv-loop μ-loop
+returns c = let l = c .before .loop in halved-last _ _ _ _ (l .low) (l .high) (l .inv) (omega arith)
+
+pub events-before-spec : {M : Type 1} → statement M
+events-before-spec =
+    tie.close
+    (tie.spec
+    Inv-loop
+    μ-loop
+    loop-holds
+    (λ c. search needs)
+    (λ c. search needs)
+    (λ c κs. search needs)
+    (λ c. search needs)
+    (λ c. search needs)
+    loop-again
+    (λ c. search needs)
+    loop-again-2
+    returns)

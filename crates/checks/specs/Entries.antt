@@ -1,0 +1,115 @@
+-- The table entries that finish takes; it answers 1 to any other: document 01, "An entry meant by 1 is a value outside the ranges here or foreign to the
+-- architecture; a number past its count; ..". `Sound` (recording/specs/Sound) says the same of every recording that calls make (`sound-fits`).
+use mathlib.Core.Bool.{Bool, true, not, _&&_, _||_}
+use mathlib.Core.List.{List}
+use Prim.Native.Nat.{ℕ, zero, suc, _+_, _*_}
+use lib.Dec.{eqb, leb, ltb}
+use Rattle.words.specs.Words.{wordAt}
+use Rattle.encoder.specs.Padding.{paddingLength}
+use Rattle.fields.specs.Kinds.{decoded}
+use Rattle.buffer.specs.declared.CodeBuffer.{CodeBuffer}
+use Rattle.buffer.specs.State.{none}
+use Rattle.buffer.specs.Refusals.{isAlignment, foreign, foreignReloc, targetKnown, lastEnd}
+use Rattle.recording.specs.Calls.{Recording}
+use Rattle.recording.specs.Sound.{startAt, endAt, labelOf}
+
+-- it holds of every number below n
+unfoldable pub all : (ℕ → Bool) → ℕ → Bool
+all f zero = true
+all f (suc n) = all f n && f n
+
+-- The columns of an event: a jump (length 2..15, a known label, a condition up to 16), or an alignment (a power of two up to 4,096, "of least length").
+unfoldable pub formFits : ℕ → ℕ → ℕ → ℕ → ℕ → ℕ → Bool
+formFits labels kind start len what cc =
+    eqb kind 1 && (leb 2 len && leb len 15 && (ltb what labels && leb cc 16))
+    || eqb kind 2 && (isAlignment what && eqb len (paddingLength start what))
+
+-- "an event past that end or starting before the last one's end"
+unfoldable pub eventFits : List ℕ → ℕ → ℕ → ℕ → Bool
+eventFits events labels code j =
+    formFits labels (wordAt events (j * 5)) (wordAt events (j * 5 + 1)) (wordAt events (j * 5 + 2)) (wordAt events (j * 5 + 3)) (wordAt events (j * 5 + 4))
+    && (leb (endAt events j) code && leb (lastEnd events j) (startAt events j))
+
+-- only X64 keeps events and refs
+unfoldable pub keptOnly : ℕ → ℕ → Bool
+keptOnly arch n = eqb arch 2 || eqb n 0
+
+unfoldable pub eventsFit : ℕ → List ℕ → ℕ → ℕ → ℕ → Bool
+eventsFit arch events n labels code = keptOnly arch n && all (eventFits events labels code) n
+
+-- the offset lies strictly inside none of the events
+unfoldable pub outside : List ℕ → ℕ → ℕ → Bool
+outside events n offset = all (λ (j : ℕ). leb offset (startAt events j) || leb (endAt events j) offset) n
+
+-- "a label bound past the code's end or strictly inside an event"
+unfoldable pub labelFits : List ℕ → ℕ → ℕ → ℕ → Bool
+labelFits events n code offset = eqb offset none || leb offset code && outside events n offset
+
+unfoldable pub labelsFit : List ℕ → ℕ → List ℕ → ℕ → ℕ → Bool
+labelsFit labels n events m code = all (λ (i : ℕ). labelFits events m code (wordAt labels i)) n
+
+-- a use: offset, label, code
+unfoldable pub useFits : List ℕ → ℕ → ℕ → ℕ → Bool
+useFits uses arch labels i =
+    leb (wordAt uses (i * 3 + 2)) 16
+    && (not (eqb (wordAt uses (i * 3 + 2)) 15) && (not (foreign (decoded (wordAt uses (i * 3 + 2))) arch) && ltb (wordAt uses (i * 3 + 1)) labels))
+
+unfoldable pub usesFit : List ℕ → ℕ → ℕ → ℕ → Bool
+usesFit uses n arch labels = all (useFits uses arch labels) n
+
+-- a ref: offset, label, code, addend
+unfoldable pub refFits : List ℕ → ℕ → ℕ → ℕ → Bool
+refFits refs arch labels i = not (foreign (decoded (wordAt refs (i * 4 + 2))) arch) && ltb (wordAt refs (i * 4 + 1)) labels
+
+unfoldable pub refsFit : List ℕ → ℕ → ℕ → ℕ → Bool
+refsFit refs n arch labels = keptOnly arch n && all (refFits refs arch labels) n
+
+-- a relocation: offset, kind, target
+unfoldable pub relocFits : CodeBuffer → List ℕ → ℕ → Bool
+relocFits b relocs i =
+    leb (wordAt relocs (i * 6)) 16777215
+    && (leb (wordAt relocs (i * 6 + 1)) 27
+    && (not (foreignReloc (wordAt relocs (i * 6 + 1)) (b .arch)) && targetKnown b (wordAt relocs (i * 6 + 2))))
+
+unfoldable pub relocsFit : CodeBuffer → List ℕ → Bool
+relocsFit b relocs = all (relocFits b relocs) (b .relocs)
+
+-- a constant: size, label
+unfoldable pub constantFits : List ℕ → ℕ → ℕ → Bool
+constantFits constants labels i = leb (wordAt constants (i * 18)) 64 && (eqb (labelOf constants i) none || ltb (labelOf constants i) labels)
+
+unfoldable pub constantsFit : List ℕ → ℕ → ℕ → Bool
+constantsFit constants n labels = all (constantFits constants labels) n
+
+-- a constant that is asked for is known and has a label
+unfoldable pub askedFits : List ℕ → List ℕ → ℕ → ℕ → Bool
+askedFits asked constants known i = ltb (wordAt asked i) known && not (eqb (labelOf constants (wordAt asked i)) none)
+
+-- none before it is the same constant ("asked for twice") or has the same label ("sharing its label")
+unfoldable pub askedOnce : List ℕ → List ℕ → ℕ → Bool
+askedOnce asked constants j =
+    all
+    (λ (i : ℕ).
+    not (eqb (wordAt asked i) (wordAt asked j)) && not (eqb (labelOf constants (wordAt asked i)) (labelOf constants (wordAt asked j))))
+    j
+
+-- the order of asking lists the constant
+unfoldable pub isAsked : List ℕ → ℕ → ℕ → Bool
+isAsked asked n k = not (all (λ (i : ℕ). not (eqb (wordAt asked i) k)) n)
+
+-- every constant that has a label is listed, and every listed one has a label of its own
+unfoldable pub orderFits : List ℕ → ℕ → List ℕ → ℕ → Bool
+orderFits asked n constants known =
+    all (λ (i : ℕ). askedFits asked constants known i && askedOnce asked constants i) n
+    && all (λ (k : ℕ). eqb (labelOf constants k) none || isAsked asked n k) known
+
+-- every entry of a recording's tables
+unfoldable pub entriesFit : Recording → Bool
+entriesFit r =
+    let b = r .buffer in
+    eventsFit (b .arch) (r .events) (b .events) (b .labels) (b .code)
+    && (labelsFit (r .labels) (b .labels) (r .events) (b .events) (b .code)
+    && (usesFit (r .uses) (b .uses) (b .arch) (b .labels)
+    && (refsFit (r .refs) (b .refs) (b .arch) (b .labels)
+    && (constantsFit (r .constants) (b .constants) (b .labels)
+    && (orderFits (r .asked) (b .asked) (r .constants) (b .constants) && relocsFit b (r .relocs))))))

@@ -1,0 +1,81 @@
+-- What finish checks of the labels that are named, and of fields, before it lays out: document 01's list of refusals, 15, 17 and 19 to 22. `labels` is the
+-- table with the pool's labels bound, `len` the length of the pooled code.
+use mathlib.Core.Bool.{Bool, not, _&&_, _||_}
+use mathlib.Core.List.{List}
+use Prim.Native.Nat.{ℕ, zero, suc, _+_, _-_, _*_}
+use lib.Dec.{eqb, leb, ltb}
+use Rattle.seqs.specs.Pick.{pick}
+use Rattle.words.specs.Words.{wordAt}
+use Rattle.fields.specs.declared.Decoded.{Decoded}
+use Rattle.fields.specs.declared.Decoded.the-variants.{Use, Unsupported, Unknown}
+use Rattle.fields.specs.Kinds.{decoded, patchSize}
+use Rattle.fields.specs.Reach.{reachRefusal}
+use Rattle.buffer.specs.State.{none}
+use Rattle.recording.specs.Sound.{startAt, endAt}
+use Rattle.pool.specs.Pool.{poolStart, poolOffset}
+use Rattle.checks.specs.Entries.{all}
+
+unfoldable pub isBound : List ℕ → ℕ → Bool
+isBound labels label = not (eqb (wordAt labels label) none)
+
+-- 15: "a use, label relocation, ref or jump names an unbound label"; each of these holds where none does
+unfoldable pub usesBound : List ℕ → ℕ → List ℕ → Bool
+usesBound uses n labels = all (λ (i : ℕ). isBound labels (wordAt uses (i * 3 + 1))) n
+
+unfoldable pub refsBound : List ℕ → ℕ → List ℕ → Bool
+refsBound refs n labels = all (λ (i : ℕ). isBound labels (wordAt refs (i * 4 + 1))) n
+
+-- an event of kind 1 is a jump
+unfoldable pub jumpsBound : List ℕ → ℕ → List ℕ → Bool
+jumpsBound events n labels = all (λ (i : ℕ). not (eqb (wordAt events (i * 5)) 1) || isBound labels (wordAt events (i * 5 + 3))) n
+
+-- a target from 2^31 on is a label's
+unfoldable pub relocsBound : List ℕ → ℕ → List ℕ → Bool
+relocsBound relocs n labels =
+    all (λ (i : ℕ). ltb (wordAt relocs (i * 6 + 2)) 2147483648 || isBound labels (wordAt relocs (i * 6 + 2) - 2147483648)) n
+
+-- one of the events is a jump
+unfoldable pub hasJump : List ℕ → ℕ → Bool
+hasJump events n = not (all (λ (i : ℕ). not (eqb (wordAt events (i * 5)) 1)) n)
+
+-- a field's size, by its code
+abbrev pub sizeOf : Decoded → ℕ
+sizeOf (Use k) = patchSize k
+sizeOf Unsupported = 0
+sizeOf Unknown = 0
+
+-- what lies from one offset to another "starts before an event's end and ends after that event's start" for none of the recorded events, nor of the
+-- alignments of the pool
+unfoldable pub clearOfEvents : List ℕ → ℕ → ℕ → ℕ → Bool
+clearOfEvents events n from to = all (λ (j : ℕ). leb (endAt events j) from || leb to (startAt events j)) n
+
+unfoldable pub clearOfPool : ℕ → List ℕ → List ℕ → ℕ → ℕ → ℕ → Bool
+clearOfPool code constants asked m from to =
+    all (λ (j : ℕ). leb (poolOffset code constants asked j) from || leb to (poolStart code constants asked j)) m
+
+-- 17, turned round: the field lies within the pooled code, and clear of every event
+unfoldable pub refClear : List ℕ → List ℕ → ℕ → ℕ → List ℕ → List ℕ → ℕ → ℕ → Bool
+refClear refs events n code constants asked m i =
+    let from = wordAt refs (i * 4) in
+    let to = from + sizeOf (decoded (wordAt refs (i * 4 + 2))) in
+    leb to (poolStart code constants asked m) && (clearOfEvents events n from to && clearOfPool code constants asked m from to)
+
+unfoldable pub refsClear : List ℕ → ℕ → List ℕ → ℕ → ℕ → List ℕ → List ℕ → ℕ → Bool
+refsClear refs count events n code constants asked m = all (refClear refs events n code constants asked m) count
+
+-- 19 to 22 for one use: "a use's field passes the pooled code's end", or it can't reach
+abbrev pub reachOf : Decoded → ℕ → ℕ → ℕ
+reachOf (Use k) offset label = reachRefusal k offset label
+reachOf Unsupported offset label = 0
+reachOf Unknown offset label = 0
+
+unfoldable pub whyUnreached : List ℕ → List ℕ → ℕ → ℕ → ℕ
+whyUnreached uses labels len i =
+    let offset = wordAt uses (i * 3) in
+    let kind = decoded (wordAt uses (i * 3 + 2)) in
+    pick (ltb len (offset + sizeOf kind)) 19 (reachOf kind offset (wordAt labels (wordAt uses (i * 3 + 1))))
+
+-- "tried together for each use in order": the first refusal of the first n uses
+unfoldable pub whyUses : List ℕ → List ℕ → ℕ → ℕ → ℕ
+whyUses uses labels len zero = 0
+whyUses uses labels len (suc n) = pick (eqb (whyUses uses labels len n) 0) (whyUnreached uses labels len n) (whyUses uses labels len n)

@@ -1,0 +1,86 @@
+-- What the checks are handed: counts that fit the tables, labels that lie in theirs, and marks.
+use mathlib.Core.Path.{_≡_}
+use mathlib.Core.Logic.{_≢_}
+use mathlib.Core.Bool.{Bool, false, not, _&&_, _||_}
+use mathlib.Core.List.{List, []}
+use Prim.Native.Nat.{ℕ, _+_, _-_, _*_, _≤_, _<_}
+use lib.Dec.{eqb, ltb}
+use lib.ListN.{length, getD}
+use Rattle.words.specs.Words.{wordAt}
+use Rattle.buffer.specs.declared.CodeBuffer.{CodeBuffer}
+use Rattle.buffer.specs.State.{none}
+use Rattle.recording.specs.Calls.{Recording}
+use Rattle.recording.specs.Sound.{labelOf}
+use Rattle.checks.specs.Entries.{all, askedFits, askedOnce}
+use Rattle.checks.specs.Fields.{isBound}
+
+-- the counts of a recording, but that of its code, fit its tables; those of labels and constants are within the limit
+pub record CountsFit (b : CodeBuffer) (labels events uses refs constants asked relocs : List ℕ) : Type 0 where
+  pub labels-room : b .labels * 4 ≤ length labels
+  pub labels-limit : b .labels ≤ 65536
+  pub events-room : b .events * 20 ≤ length events
+  pub uses-room : b .uses * 12 ≤ length uses
+  pub refs-room : b .refs * 16 ≤ length refs
+  pub constants-room : b .constants * 72 ≤ length constants
+  pub constants-limit : b .constants ≤ 65536
+  pub asked-room : b .asked * 4 ≤ length asked
+  pub relocs-room : b .relocs * 24 ≤ length relocs
+
+-- the recording of these tables, its code left out: no entry is judged by the code's bytes
+abbrev pub tables : CodeBuffer → List ℕ → List ℕ → List ℕ → List ℕ → List ℕ → List ℕ → List ℕ → Recording
+tables b labels events uses refs constants asked relocs =
+    record { buffer = b; code = []; labels = labels; events = events; uses = uses; refs = refs; constants = constants; asked = asked; relocs = relocs }
+
+-- the label that a use names, and a ref
+abbrev pub useLabel : List ℕ → ℕ → ℕ
+useLabel uses i = wordAt uses (i * 3 + 1)
+
+abbrev pub refLabel : List ℕ → ℕ → ℕ
+refLabel refs i = wordAt refs (i * 4 + 1)
+
+-- event i is no jump, or its label is bound
+abbrev pub jumpBound : List ℕ → List ℕ → ℕ → Bool
+jumpBound events labels i = not (eqb (wordAt events (i * 5)) 1) || isBound labels (wordAt events (i * 5 + 3))
+
+-- relocation i names a symbol, or a label that is bound
+abbrev pub targetBound : List ℕ → List ℕ → ℕ → Bool
+targetBound relocs labels i = ltb (wordAt relocs (i * 6 + 2)) 2147483648 || isBound labels (wordAt relocs (i * 6 + 2) - 2147483648)
+
+-- the labels that the first n entries name lie in the table of labels
+pub record Named (label : ℕ → ℕ) (n : ℕ) (labels : List ℕ) : Type 0 where
+  pub known : (i : ℕ) → i < n → label i * 4 + 4 ≤ length labels
+
+-- those of the jumps among the first n events
+pub record JumpsNamed (events : List ℕ) (n : ℕ) (labels : List ℕ) : Type 0 where
+  pub known : (i : ℕ) → i < n → wordAt events (i * 5) ≡ 1 → wordAt events (i * 5 + 3) * 4 + 4 ≤ length labels
+
+-- those of the targets among the first n relocations
+pub record TargetsNamed (relocs : List ℕ) (n : ℕ) (labels : List ℕ) : Type 0 where
+  pub known : (i : ℕ) → i < n → 2147483648 ≤ wordAt relocs (i * 6 + 2) → (wordAt relocs (i * 6 + 2) - 2147483648) * 4 + 4 ≤ length labels
+
+-- the first n constants lie in the table, and have labels below 65,536, or none
+pub record Labelled (constants : List ℕ) (n : ℕ) : Type 0 where
+  pub room : n * 72 ≤ length constants
+  pub limit : n ≤ 65536
+  pub label : (i : ℕ) → i < n → labelOf constants i ≢ none → labelOf constants i < 65536
+
+-- the label of the constant that was asked for as number i
+abbrev pub askedLabel : List ℕ → List ℕ → ℕ → ℕ
+askedLabel constants asked i = labelOf constants (wordAt asked i)
+
+-- one of the first n numbers is k
+unfoldable pub occurs : (ℕ → ℕ) → ℕ → ℕ → Bool
+occurs f n k = not (all (λ (i : ℕ). not (eqb (f i) k)) n)
+
+-- marks for 65,536 numbers: those that occur are marked
+pub record Marks (marks : List Bool) (f : ℕ → ℕ) (n : ℕ) : Type 0 where
+  pub size : length marks ≡ 65536
+  pub marked : (k : ℕ) → k < 65536 → getD marks k false ≡ occurs f n k
+
+-- entry i of the order of asking is fit and new
+abbrev pub newAt : List ℕ → List ℕ → ℕ → ℕ → Bool
+newAt asked constants known i = askedFits asked constants known i && askedOnce asked constants i
+
+-- constant k has no label, or is marked
+abbrev pub unlabelledOr : List ℕ → List Bool → ℕ → Bool
+unlabelledOr constants marks k = eqb (labelOf constants k) none || getD marks k false

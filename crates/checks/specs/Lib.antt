@@ -1,0 +1,4 @@
+pub mod Entries
+pub mod Fields
+pub mod Search
+pub mod Handed

@@ -1,0 +1,357 @@
+// Number 1: an entry that no call writes. A function for each table, the entries one by one.
+ghost use mathlib.Core.Path.{_≡_};
+ghost use mathlib.Core.Bool.{true};
+ghost use Prim.Native.Nat.{_+_, _*_, _≤_, _<_};
+ghost use lib.ListN.{length};
+ghost use Rattle.words.specs.Words.{wordAt};
+ghost use Rattle.buffer.specs.Refusals.{lastEnd};
+ghost use Rattle.recording.specs.Sound.{startAt, endAt};
+ghost use Rattle.checks.specs.Entries.{all, formFits, eventFits, keptOnly, eventsFit, outside, labelFits, labelsFit, useFits, usesFit, refFits, refsFit, relocFits, relocsFit, constantFits, constantsFit, orderFits, entriesFit};
+ghost use Rattle.checks.specs.Search.{Ordered};
+ghost use Rattle.checks.specs.Handed.{CountsFit, tables, Labelled, askedLabel, Marks, newAt, unlabelledOr};
+use crate::either;
+use buffer::CodeBuffer;
+
+// A jump has 2 to 15 bytes, a known label, and a condition up to 16; an alignment is on a power of two up to 4,096, with the least padding.
+fn form_fits(labels: u32, kind: u32, start: u32, len: u32, what: u32, cc: u32) -> bool
+    ensures { λ r. ⌜ r ≡ formFits labels kind start len what cc ⌝ }
+{
+    if kind == 1 {
+        return buffer::both(
+            buffer::both(2 <= len, len <= 15),
+            buffer::both(what < labels, cc <= 16),
+        );
+    }
+    buffer::both(
+        kind == 2,
+        buffer::both(
+            buffer::bytes::is_alignment(what),
+            len == encoder::padding_len(start, what),
+        ),
+    )
+}
+
+// The end of the event before event `j`.
+fn last_end(events: &[u8], j: usize) -> u64
+    requires { ⌜ j * 20 ≤ length (now events) ⌝ }
+    ensures { λ r. ⌜ r ≡ lastEnd (now (events .entry)) j ⌝ }
+{
+    if j == 0 {
+        return 0;
+    }
+    relax::event_end(relax::event_at(events, j - 1))
+}
+
+fn event_fits(events: &[u8], labels: u32, code: u32, j: usize) -> bool
+    requires { ⌜ j * 20 + 20 ≤ length (now events) ⌝ }
+    ensures { λ r. ⌜ r ≡ eventFits (now (events .entry)) labels code j ⌝ }
+{
+    let kind = words::word_at(events, j * 5);
+    let start = words::word_at(events, j * 5 + 1);
+    let len = words::word_at(events, j * 5 + 2);
+    let what = words::word_at(events, j * 5 + 3);
+    let cc = words::word_at(events, j * 5 + 4);
+    let formed = form_fits(labels, kind, start, len, what, cc);
+    let last = last_end(events, j);
+    buffer::both(
+        formed,
+        buffer::both(
+            start as u64 + len as u64 <= code as u64,
+            last <= start as u64,
+        ),
+    )
+}
+
+fn each_event_fits(events: &[u8], n: usize, labels: u32, code: u32) -> bool
+    requires { ⌜ n * 20 ≤ length (now events) ⌝ }
+    ensures { λ r. ⌜ r ≡ all (eventFits (now (events .entry)) labels code) n ⌝ }
+{
+    let mut i: usize = 0;
+    while i < n {
+        if !event_fits(events, labels, code, i) {
+            return false;
+        }
+        i += 1;
+    }
+    true
+}
+
+// Only X64 keeps events and refs.
+fn is_kept(arch: u32, n: usize) -> bool
+    ensures { λ r. ⌜ r ≡ keptOnly arch n ⌝ }
+{
+    either(arch == 2, n == 0)
+}
+
+pub fn events_fit(arch: u32, events: &[u8], n: usize, labels: u32, code: u32) -> bool
+    requires { ⌜ n * 20 ≤ length (now events) ⌝ }
+    ensures { λ r. ⌜ r ≡ eventsFit arch (now (events .entry)) n labels code ⌝ }
+{
+    let kept = is_kept(arch, n);
+    buffer::both(kept, each_event_fits(events, n, labels, code))
+}
+
+// Whether an offset lies strictly inside none of the events.
+fn is_outside(events: &[u8], n: usize, offset: u32) -> bool
+    requires { ⌜ n * 20 ≤ length (now events) ⌝ ∗ ⌜ Ordered (startAt (now events)) (endAt (now events)) n ⌝ }
+    ensures { λ r. ⌜ r ≡ outside (now (events .entry)) n offset ⌝ }
+{
+    crate::search::clear_of_events(events, n, offset as u64, offset as u64)
+}
+
+fn label_fits(events: &[u8], n: usize, code: u32, offset: u32) -> bool
+    requires { ⌜ n * 20 ≤ length (now events) ⌝ ∗ ⌜ Ordered (startAt (now events)) (endAt (now events)) n ⌝ }
+    ensures { λ r. ⌜ r ≡ labelFits (now (events .entry)) n code offset ⌝ }
+{
+    if offset == buffer::NONE {
+        return true;
+    }
+    if code < offset {
+        return false;
+    }
+    is_outside(events, n, offset)
+}
+
+pub fn labels_fit(labels: &[u8], n: usize, events: &[u8], m: usize, code: u32) -> bool
+    requires { ⌜ n * 4 ≤ length (now labels) ⌝ ∗ ⌜ m * 20 ≤ length (now events) ⌝ ∗ ⌜ Ordered (startAt (now events)) (endAt (now events)) m ⌝ }
+    ensures { λ r. ⌜ r ≡ labelsFit (now (labels .entry)) n (now (events .entry)) m code ⌝ }
+{
+    let mut i: usize = 0;
+    while i < n {
+        let offset = words::word_at(labels, i);
+        if !label_fits(events, m, code, offset) {
+            return false;
+        }
+        i += 1;
+    }
+    true
+}
+
+fn use_fits(uses: &[u8], arch: u32, labels: u32, i: usize) -> bool
+    requires { ⌜ i * 12 + 12 ≤ length (now uses) ⌝ }
+    ensures { λ r. ⌜ r ≡ useFits (now (uses .entry)) arch labels i ⌝ }
+{
+    let label = words::word_at(uses, i * 3 + 1);
+    let code = words::word_at(uses, i * 3 + 2);
+    let foreign = buffer::uses::is_foreign(code, arch);
+    buffer::both(
+        code <= 16,
+        buffer::both(code != 15, buffer::both(!foreign, label < labels)),
+    )
+}
+
+pub fn uses_fit(uses: &[u8], n: usize, arch: u32, labels: u32) -> bool
+    requires { ⌜ n * 12 ≤ length (now uses) ⌝ }
+    ensures { λ r. ⌜ r ≡ usesFit (now (uses .entry)) n arch labels ⌝ }
+{
+    let mut i: usize = 0;
+    while i < n {
+        if !use_fits(uses, arch, labels, i) {
+            return false;
+        }
+        i += 1;
+    }
+    true
+}
+
+fn ref_fits(refs: &[u8], arch: u32, labels: u32, i: usize) -> bool
+    requires { ⌜ i * 16 + 16 ≤ length (now refs) ⌝ }
+    ensures { λ r. ⌜ r ≡ refFits (now (refs .entry)) arch labels i ⌝ }
+{
+    let label = words::word_at(refs, i * 4 + 1);
+    let code = words::word_at(refs, i * 4 + 2);
+    let foreign = buffer::uses::is_foreign(code, arch);
+    buffer::both(!foreign, label < labels)
+}
+
+fn each_ref_fits(refs: &[u8], n: usize, arch: u32, labels: u32) -> bool
+    requires { ⌜ n * 16 ≤ length (now refs) ⌝ }
+    ensures { λ r. ⌜ r ≡ all (refFits (now (refs .entry)) arch labels) n ⌝ }
+{
+    let mut i: usize = 0;
+    while i < n {
+        if !ref_fits(refs, arch, labels, i) {
+            return false;
+        }
+        i += 1;
+    }
+    true
+}
+
+pub fn refs_fit(refs: &[u8], n: usize, arch: u32, labels: u32) -> bool
+    requires { ⌜ n * 16 ≤ length (now refs) ⌝ }
+    ensures { λ r. ⌜ r ≡ refsFit (now (refs .entry)) n arch labels ⌝ }
+{
+    let kept = is_kept(arch, n);
+    buffer::both(kept, each_ref_fits(refs, n, arch, labels))
+}
+
+fn reloc_fits(b: CodeBuffer, relocs: &[u8], i: usize) -> bool
+    requires { ⌜ i * 24 + 24 ≤ length (now relocs) ⌝ }
+    ensures { λ r. ⌜ r ≡ relocFits b (now (relocs .entry)) i ⌝ }
+{
+    let offset = words::word_at(relocs, i * 6);
+    let kind = words::word_at(relocs, i * 6 + 1);
+    let target = words::word_at(relocs, i * 6 + 2);
+    let foreign = buffer::relocs::is_foreign_kind(kind, b.arch);
+    let known = b.is_known(target);
+    buffer::both(
+        offset <= 16777215,
+        buffer::both(kind <= 27, buffer::both(!foreign, known)),
+    )
+}
+
+pub fn relocs_fit(b: CodeBuffer, relocs: &[u8]) -> bool
+    requires { ⌜ b .relocs * 24 ≤ length (now relocs) ⌝ }
+    ensures { λ r. ⌜ r ≡ relocsFit b (now (relocs .entry)) ⌝ }
+{
+    let n = b.relocs as usize;
+    let mut i: usize = 0;
+    while i < n {
+        if !reloc_fits(b, relocs, i) {
+            return false;
+        }
+        i += 1;
+    }
+    true
+}
+
+fn constant_fits(constants: &[u8], labels: u32, i: usize) -> bool
+    requires { ⌜ i * 72 + 72 ≤ length (now constants) ⌝ }
+    ensures { λ r. ⌜ r ≡ constantFits (now (constants .entry)) labels i ⌝ }
+{
+    let size = words::word_at(constants, i * 18);
+    let label = words::word_at(constants, i * 18 + 1);
+    buffer::both(size <= 64, either(label == buffer::NONE, label < labels))
+}
+
+pub fn constants_fit(constants: &[u8], n: usize, labels: u32) -> bool
+    requires { ⌜ n * 72 ≤ length (now constants) ⌝ }
+    ensures { λ r. ⌜ r ≡ constantsFit (now (constants .entry)) n labels ⌝ }
+{
+    let mut i: usize = 0;
+    while i < n {
+        if !constant_fits(constants, labels, i) {
+            return false;
+        }
+        i += 1;
+    }
+    true
+}
+
+// Whether entry `i` of the order of asking is a known constant with a label, neither of which is marked.
+fn is_new(
+    asked: &[u8],
+    constants: &[u8],
+    known: u32,
+    i: usize,
+    seen: &[bool],
+    taken: &[bool],
+) -> bool
+    requires { ⌜ i * 4 + 4 ≤ length (now asked) ⌝ ∗ ⌜ Labelled (now constants) known ⌝ ∗ ⌜ Marks (now seen) (wordAt (now asked)) i ⌝ ∗ ⌜ Marks (now taken) (askedLabel (now constants) (now asked)) i ⌝ }
+    ensures { λ r. ⌜ r ≡ newAt (now (asked .entry)) (now (constants .entry)) known i ⌝ }
+{
+    let constant = words::word_at(asked, i);
+    if known <= constant {
+        return false;
+    }
+    let label = words::word_at(constants, constant as usize * 18 + 1);
+    if label == buffer::NONE {
+        return false;
+    }
+    let again = seen[constant as usize];
+    let shared = taken[label as usize];
+    buffer::both(!again, !shared)
+}
+
+// Marks the constants that are asked for and their labels, up to the first that is marked already or has no label.
+fn mark_asked(
+    asked: &[u8],
+    n: usize,
+    constants: &[u8],
+    known: u32,
+    seen: &mut [bool],
+    taken: &mut [bool],
+) -> bool
+    requires { ⌜ n * 4 ≤ length (now asked) ⌝ ∗ ⌜ Labelled (now constants) known ⌝ ∗ ⌜ Marks (now seen) (wordAt (now asked)) 0 ⌝ ∗ ⌜ Marks (now taken) (askedLabel (now constants) (now asked)) 0 ⌝ }
+    ensures { λ r. ⌜ r ≡ all (newAt (now (asked .entry)) (now (constants .entry)) known) n ⌝ ∗ ⌜ (r ≡ true → Marks (now (seen .exit)) (wordAt (now (asked .entry))) n) ⌝ }
+{
+    let mut i: usize = 0;
+    while i < n {
+        if !is_new(asked, constants, known, i, seen, taken) {
+            return false;
+        }
+        let constant = words::word_at(asked, i) as usize;
+        let label = words::word_at(constants, constant * 18 + 1) as usize;
+        seen[constant] = true;
+        taken[label] = true;
+        i += 1;
+    }
+    true
+}
+
+// Whether every constant that has a label is marked.
+fn is_each_marked(constants: &[u8], n: u32, seen: &[bool]) -> bool
+    requires { ⌜ n * 72 ≤ length (now constants) ⌝ ∗ ⌜ n ≤ length (now seen) ⌝ }
+    ensures { λ r. ⌜ r ≡ all (unlabelledOr (now (constants .entry)) (now (seen .entry))) n ⌝ }
+{
+    let count = n as usize;
+    let mut i: usize = 0;
+    while i < count {
+        let label = words::word_at(constants, i * 18 + 1);
+        let marked = seen[i];
+        if !either(label == buffer::NONE, marked) {
+            return false;
+        }
+        i += 1;
+    }
+    true
+}
+
+// Whether the order of asking lists every constant that has a label, and no other, each once and with a label of its own.
+pub fn order_fits(asked: &[u8], n: usize, constants: &[u8], known: u32) -> bool
+    requires { ⌜ n * 4 ≤ length (now asked) ⌝ ∗ ⌜ Labelled (now constants) known ⌝ }
+    ensures { λ r. ⌜ r ≡ orderFits (now (asked .entry)) n (now (constants .entry)) known ⌝ }
+{
+    let mut seen = [false; 65536];
+    let mut taken = [false; 65536];
+    if !mark_asked(asked, n, constants, known, &mut seen, &mut taken) {
+        return false;
+    }
+    is_each_marked(constants, known, &seen)
+}
+
+// Whether every entry of the tables is one that calls write.
+pub fn entries_fit(
+    b: CodeBuffer,
+    labels: &[u8],
+    events: &[u8],
+    uses: &[u8],
+    refs: &[u8],
+    constants: &[u8],
+    asked: &[u8],
+    relocs: &[u8],
+) -> bool
+    requires { ⌜ CountsFit b (now labels) (now events) (now uses) (now refs) (now constants) (now asked) (now relocs) ⌝ }
+    ensures { λ r. ⌜ r ≡ entriesFit (tables b (now (labels .entry)) (now (events .entry)) (now (uses .entry)) (now (refs .entry)) (now (constants .entry)) (now (asked .entry)) (now (relocs .entry))) ⌝ }
+{
+    if !events_fit(b.arch, events, b.events as usize, b.labels, b.code) {
+        return false;
+    }
+    if !labels_fit(labels, b.labels as usize, events, b.events as usize, b.code) {
+        return false;
+    }
+    if !uses_fit(uses, b.uses as usize, b.arch, b.labels) {
+        return false;
+    }
+    if !refs_fit(refs, b.refs as usize, b.arch, b.labels) {
+        return false;
+    }
+    if !constants_fit(constants, b.constants as usize, b.labels) {
+        return false;
+    }
+    if !order_fits(asked, b.asked as usize, constants, b.constants) {
+        return false;
+    }
+    relocs_fit(b, relocs)
+}

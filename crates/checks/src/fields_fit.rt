@@ -1,0 +1,221 @@
+// Numbers 15, 17 and 19 to 22: labels that are named and not bound, refs that overlap an event, and uses that can't reach.
+ghost use mathlib.Core.Path.{_≡_};
+ghost use Prim.Native.Nat.{_+_, _-_, _*_, _≤_};
+ghost use lib.ListN.{length};
+ghost use Rattle.words.specs.Words.{wordAt};
+ghost use Rattle.fields.specs.Kinds.{decoded};
+ghost use Rattle.recording.specs.Sound.{startAt, endAt};
+ghost use Rattle.pool.specs.Pool.{poolStart};
+ghost use Rattle.checks.specs.Fields.{isBound, usesBound, refsBound, jumpsBound, relocsBound, hasJump, sizeOf, refClear, refsClear, reachOf, whyUnreached, whyUses};
+ghost use Rattle.checks.specs.Search.{Ordered, Placed};
+ghost use Rattle.checks.specs.Handed.{useLabel, refLabel, Named, JumpsNamed, TargetsNamed, jumpBound, targetBound};
+
+fn is_bound(labels: &[u8], label: u32) -> bool
+    requires { ⌜ label * 4 + 4 ≤ length (now labels) ⌝ }
+    ensures { λ r. ⌜ r ≡ isBound (now (labels .entry)) label ⌝ }
+{
+    words::word_at(labels, label as usize) != buffer::NONE
+}
+
+pub fn uses_bound(uses: &[u8], n: usize, labels: &[u8]) -> bool
+    requires { ⌜ n * 12 ≤ length (now uses) ⌝ ∗ ⌜ Named (useLabel (now uses)) n (now labels) ⌝ }
+    ensures { λ r. ⌜ r ≡ usesBound (now (uses .entry)) n (now (labels .entry)) ⌝ }
+{
+    let mut i: usize = 0;
+    while i < n {
+        let label = words::word_at(uses, i * 3 + 1);
+        if !is_bound(labels, label) {
+            return false;
+        }
+        i += 1;
+    }
+    true
+}
+
+pub fn refs_bound(refs: &[u8], n: usize, labels: &[u8]) -> bool
+    requires { ⌜ n * 16 ≤ length (now refs) ⌝ ∗ ⌜ Named (refLabel (now refs)) n (now labels) ⌝ }
+    ensures { λ r. ⌜ r ≡ refsBound (now (refs .entry)) n (now (labels .entry)) ⌝ }
+{
+    let mut i: usize = 0;
+    while i < n {
+        let label = words::word_at(refs, i * 4 + 1);
+        if !is_bound(labels, label) {
+            return false;
+        }
+        i += 1;
+    }
+    true
+}
+
+// An event of kind 1 is a jump.
+fn jump_bound(events: &[u8], labels: &[u8], i: usize) -> bool
+    requires { ⌜ i * 20 + 20 ≤ length (now events) ⌝ ∗ ⌜ (wordAt (now events) (i * 5) ≡ 1 → wordAt (now events) (i * 5 + 3) * 4 + 4 ≤ length (now labels)) ⌝ }
+    ensures { λ r. ⌜ r ≡ jumpBound (now (events .entry)) (now (labels .entry)) i ⌝ }
+{
+    if words::word_at(events, i * 5) != 1 {
+        return true;
+    }
+    is_bound(labels, words::word_at(events, i * 5 + 3))
+}
+
+pub fn jumps_bound(events: &[u8], n: usize, labels: &[u8]) -> bool
+    requires { ⌜ n * 20 ≤ length (now events) ⌝ ∗ ⌜ JumpsNamed (now events) n (now labels) ⌝ }
+    ensures { λ r. ⌜ r ≡ jumpsBound (now (events .entry)) n (now (labels .entry)) ⌝ }
+{
+    let mut i: usize = 0;
+    while i < n {
+        if !jump_bound(events, labels, i) {
+            return false;
+        }
+        i += 1;
+    }
+    true
+}
+
+// A target from 2^31 on is a label's.
+fn target_bound(relocs: &[u8], labels: &[u8], i: usize) -> bool
+    requires { ⌜ i * 24 + 24 ≤ length (now relocs) ⌝ ∗ ⌜ (2147483648 ≤ wordAt (now relocs) (i * 6 + 2) → (wordAt (now relocs) (i * 6 + 2) - 2147483648) * 4 + 4 ≤ length (now labels)) ⌝ }
+    ensures { λ r. ⌜ r ≡ targetBound (now (relocs .entry)) (now (labels .entry)) i ⌝ }
+{
+    let target = words::word_at(relocs, i * 6 + 2);
+    if target < 2147483648 {
+        return true;
+    }
+    is_bound(labels, target - 2147483648)
+}
+
+pub fn relocs_bound(relocs: &[u8], n: usize, labels: &[u8]) -> bool
+    requires { ⌜ n * 24 ≤ length (now relocs) ⌝ ∗ ⌜ TargetsNamed (now relocs) n (now labels) ⌝ }
+    ensures { λ r. ⌜ r ≡ relocsBound (now (relocs .entry)) n (now (labels .entry)) ⌝ }
+{
+    let mut i: usize = 0;
+    while i < n {
+        if !target_bound(relocs, labels, i) {
+            return false;
+        }
+        i += 1;
+    }
+    true
+}
+
+// Whether one of the events is a jump.
+pub fn has_jump(events: &[u8], n: usize) -> bool
+    requires { ⌜ n * 20 ≤ length (now events) ⌝ }
+    ensures { λ r. ⌜ r ≡ hasJump (now (events .entry)) n ⌝ }
+{
+    let mut i: usize = 0;
+    while i < n {
+        let kind = words::word_at(events, i * 5);
+        if kind == 1 {
+            return true;
+        }
+        i += 1;
+    }
+    false
+}
+
+// The size of the field that a code stands for.
+fn size_of(code: u32) -> u64
+    ensures { λ r. ⌜ (r ≡ sizeOf (decoded code)) × (r ≤ 4) ⌝ }
+{
+    match fields::LabelUse::from_code(code) {
+        fields::Decoded::Use(kind) => kind.patch_size() as u64,
+        fields::Decoded::Unsupported => 0,
+        fields::Decoded::Unknown => 0,
+    }
+}
+
+fn reach_of(code: u32, offset: u32, label: u32) -> u32
+    ensures { λ r. ⌜ r ≡ reachOf (decoded code) offset label ⌝ }
+{
+    match fields::LabelUse::from_code(code) {
+        fields::Decoded::Use(kind) => kind.reach_refusal(offset, label),
+        fields::Decoded::Unsupported => 0,
+        fields::Decoded::Unknown => 0,
+    }
+}
+
+// Whether the field of ref `i` lies within `len` bytes of code, and clear of the events and of the pool's alignments.
+fn ref_clear(
+    refs: &[u8],
+    events: &[u8],
+    n: usize,
+    labels: &[u8],
+    constants: &[u8],
+    asked: &[u8],
+    m: usize,
+    code: u32,
+    len: u32,
+    i: usize,
+) -> bool
+    requires { ⌜ (i * 16 + 16 ≤ length (now refs)) × (n * 20 ≤ length (now events)) × (len ≡ poolStart code (now constants) (now asked) m) ⌝ ∗ ⌜ Ordered (startAt (now events)) (endAt (now events)) n ⌝ ∗ ⌜ Placed (now labels) (now constants) (now asked) code m ⌝ }
+    ensures { λ r. ⌜ r ≡ refClear (now (refs .entry)) (now (events .entry)) n code (now (constants .entry)) (now (asked .entry)) m i ⌝ }
+{
+    let offset = words::word_at(refs, i * 4);
+    let kind = words::word_at(refs, i * 4 + 2);
+    let from = offset as u64;
+    let to = from + size_of(kind);
+    if (len as u64) < to {
+        return false;
+    }
+    if !crate::search::clear_of_events(events, n, from, to) {
+        return false;
+    }
+    crate::search::clear_of_pool(labels, constants, asked, code, m, from, to)
+}
+
+pub fn refs_clear(
+    refs: &[u8],
+    count: usize,
+    events: &[u8],
+    n: usize,
+    labels: &[u8],
+    constants: &[u8],
+    asked: &[u8],
+    m: usize,
+    code: u32,
+    len: u32,
+) -> bool
+    requires { ⌜ (count * 16 ≤ length (now refs)) × (n * 20 ≤ length (now events)) × (len ≡ poolStart code (now constants) (now asked) m) ⌝ ∗ ⌜ Ordered (startAt (now events)) (endAt (now events)) n ⌝ ∗ ⌜ Placed (now labels) (now constants) (now asked) code m ⌝ }
+    ensures { λ r. ⌜ r ≡ refsClear (now (refs .entry)) count (now (events .entry)) n code (now (constants .entry)) (now (asked .entry)) m ⌝ }
+{
+    let mut i: usize = 0;
+    while i < count {
+        if !ref_clear(refs, events, n, labels, constants, asked, m, code, len, i) {
+            return false;
+        }
+        i += 1;
+    }
+    true
+}
+
+// 19: the field of use `i` passes the end of the code, of which there are `len` bytes; 20 to 22: it can't reach its label.
+fn why_unreached(uses: &[u8], labels: &[u8], len: u32, i: usize) -> u32
+    requires { ⌜ (i * 12 + 12 ≤ length (now uses)) × (useLabel (now uses) i * 4 + 4 ≤ length (now labels)) ⌝ }
+    ensures { λ r. ⌜ r ≡ whyUnreached (now (uses .entry)) (now (labels .entry)) len i ⌝ }
+{
+    let offset = words::word_at(uses, i * 3);
+    let label = words::word_at(uses, i * 3 + 1);
+    let kind = words::word_at(uses, i * 3 + 2);
+    let target = words::word_at(labels, label as usize);
+    if (len as u64) < offset as u64 + size_of(kind) {
+        return 19;
+    }
+    reach_of(kind, offset, target)
+}
+
+// The refusal of the first use that has one, or 0.
+pub fn why_uses(uses: &[u8], n: usize, labels: &[u8], len: u32) -> u32
+    requires { ⌜ n * 12 ≤ length (now uses) ⌝ ∗ ⌜ Named (useLabel (now uses)) n (now labels) ⌝ }
+    ensures { λ r. ⌜ r ≡ whyUses (now (uses .entry)) (now (labels .entry)) len n ⌝ }
+{
+    let mut i: usize = 0;
+    while i < n {
+        let why = why_unreached(uses, labels, len, i);
+        if why != 0 {
+            return why;
+        }
+        i += 1;
+    }
+    0
+}
