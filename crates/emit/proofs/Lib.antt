@@ -1,0 +1,4 @@
+pub mod Jumps
+pub mod Fields
+pub mod Turns
+pub mod Runs

@@ -1,0 +1,236 @@
+-- The loop that writes events and the runs between them: what a segment says of where an event stands, one turn, and the end.
+use mathlib.Core.Path.{_≡_, refl, sym, ap, _∙_}
+use mathlib.Core.Logic.{⊎-elim}
+use mathlib.Core.Bool.{Bool, false}
+use mathlib.Core.List.{List, [], _∷_, _++_, map, append-assoc}
+use Prim.Native.Nat.{ℕ, zero, suc, _+_, _-_, _≤_, _<_}
+use native.Mathlib.Nat.{not-suc-le-zero, sub-zero}
+use native.Mathlib.Numerals.{add-one}
+use native.Mathlib.Omega.{arith}
+use lib.ListN.{length, getD, take, drop, length-append, length-take, length-drop, length-map, List·getD-map}
+use lib.Seq.{length-take-le, getD-take, take-take, take-nil}
+use Rattle.seqs.specs.Over.{over}
+use Rattle.seqs.proofs.Numbers.{eq-or-ne}
+use Rattle.seqs.proofs.Lists.{getD-any}
+use Rattle.seqs.proofs.Overwrites.{over-append, over-mid, over-all}
+use Rattle.relax.specs.declared.LayoutEvent.{LayoutEvent}
+use Rattle.relax.specs.declared.LayoutEvent.the-variants.{Align}
+use Rattle.relax.specs.declared.Segment.{Segment}
+use Rattle.relax.specs.Events.{eventAt, endOf}
+use Rattle.recording.specs.View.{entries}
+use Rattle.fresh.specs.Forms.{form, width}
+use Rattle.fresh.specs.Fresh.{isLong, others, startOf}
+use Rattle.fresh.specs.Segments.{segment, segments}
+use Rattle.fresh.proofs.Shape.{Ordered, runs, Cursor, after, segmentAt, runsTo}
+use Rattle.fresh.proofs.Loops.{length-segments, segments-getD, after-suc, runsTo-suc, runs-all, length-runsTo, length-runs, after-start, after-mono}
+use Rattle.fresh.proofs.Events.{end-is, ordered-le}
+use Rattle.layout.specs.Layout.{rowOf, segmentOf}
+use Rattle.emit.specs.Emit.{Emits}
+
+-- lists
+pub length-entries : {A : Type 0} (f : ℕ → A) (n : ℕ) → length (entries f n) ≡ n
+length-entries f zero = refl
+length-entries f (suc n) = omega (arith, length-append (entries f n) (f n ∷ []), length-entries f n)
+
+getD-before : {A : Type 0} (xs ys : List A) (i : ℕ) (d : A) → i < length xs → getD (xs ++ ys) i d ≡ getD xs i d
+getD-before [] ys i d h = absurd (not-suc-le-zero h)
+getD-before (x ∷ xs) ys zero d h = refl
+getD-before (x ∷ xs) ys (suc i) d h = getD-before xs ys i d (omega arith)
+
+getD-seam : {A : Type 0} (xs : List A) (y : A) (d : A) → getD (xs ++ (y ∷ [])) (length xs) d ≡ y
+getD-seam [] y d = refl
+getD-seam (x ∷ xs) y d = getD-seam xs y d
+
+pub getD-entries : {A : Type 0} (f : ℕ → A) (n i : ℕ) (d : A) → i < n → getD (entries f n) i d ≡ f i
+getD-entries f zero i d h = absurd (not-suc-le-zero h)
+getD-entries f (suc n) i d h =
+    ⊎-elim
+    (λ (same : i ≡ n). rw same (ap (λ (k : ℕ). getD (entries f n ++ (f n ∷ [])) k d) (sym (length-entries f n)) ∙ getD-seam (entries f n) (f n) d))
+    (λ other. getD-before (entries f n) (f n ∷ []) i d (omega (arith, length-entries f n)) ∙ getD-entries f n i d (omega arith))
+    (eq-or-ne i n)
+
+drop-take : (o n : ℕ) (l : List ℕ) → drop o (take n l) ≡ take (n - o) (drop o l)
+drop-take zero n l = rw (sub-zero n)
+drop-take (suc o) zero l = let z : 0 - suc o ≡ 0 = omega arith in rw z
+drop-take (suc o) (suc n) [] = sym (take-nil (suc n - suc o))
+drop-take (suc o) (suc n) (x ∷ l) = let e : suc n - suc o ≡ n - o = omega arith in rw e (drop-take o n l)
+
+-- a run that ends within the code
+run-is : (o s n : ℕ) (l : List ℕ) → s ≤ n → take (s - o) (drop o (take n l)) ≡ take (s - o) (drop o l)
+run-is o s n l h = rw (drop-take o n l) (take-take (s - o) (n - o) (drop o l) (omega arith))
+
+-- a part that a copy of its length was made into
+pub copied : (xs part bytes : List ℕ) (at k : ℕ) → length bytes ≡ k → at + k ≤ length xs → part ≡ over (take (at + k - at) (drop at xs)) 0 bytes
+    → take at xs ++ (part ++ drop (at + k - at) (drop at xs)) ≡ over xs at bytes
+copied xs part bytes at k e h f =
+    let m : at + k - at ≡ k = omega arith in
+    let l : length (take (at + k - at) (drop at xs)) ≡ k = rw m (length-take-le k (drop at xs) (rw (length-drop at xs) (omega arith))) in
+    let whole : part ≡ bytes = f ∙ over-all (take (at + k - at) (drop at xs)) bytes (e ∙ sym l) in
+    rw whole (over-mid xs at (at + k - at) bytes (e ∙ sym m) (omega arith))
+
+pub run-copied : (xs part code : List ℕ) (old start new : ℕ) → old ≤ start → start ≤ length code → new + (start - old) ≤ length xs
+    → let k = new + (start - old) - new in part ≡ over (take k (drop new xs)) 0 (take (start - old) (drop old code))
+    → take new xs ++ (part ++ drop k (drop new xs)) ≡ over xs new (take (start - old) (drop old code))
+run-copied xs part code old start new a b h f =
+    copied xs part (take (start - old) (drop old code)) new (start - old) (length-take-le (start - old) (drop old code) (rw (length-drop old code) (omega arith))) h f
+
+-- an event's form in the part that its segment has
+pub form-back : (xs part : List ℕ) (event : LayoutEvent) (long : Bool) (start end : ℕ) → end ≡ start + width event long start → end ≤ length xs
+    → part ≡ form event long start → take start xs ++ (part ++ drop (end - start) (drop start xs)) ≡ over xs start (form event long start)
+unfolding width
+form-back xs part event long start end e h f = rw f (over-mid xs start (end - start) (form event long start) (omega arith) (omega arith))
+
+pub form-room : (xs : List ℕ) (event : LayoutEvent) (long : Bool) (start end : ℕ) → end ≡ start + width event long start → end ≤ length xs
+    → length (take (end - start) (drop start xs)) ≡ width event long start
+form-room xs event long start end e h =
+    length-take-le (end - start) (drop start xs) (rw (length-drop start xs) (omega arith)) ∙ omega arith
+
+-- the table has a row for each event
+table-size : (rows : List (List ℕ)) (es : List LayoutEvent) (n : ℕ) (c : List Bool) → length es ≡ n → take n rows ≡ map rowOf (segments 0 0 es c) → n ≤ length rows
+table-size rows es n c l e =
+    omega (arith, ap length e, length-take n rows, length-map (segments 0 0 es c) rowOf, length-segments es 0 0 c)
+
+row-at : (rows : List (List ℕ)) (es : List LayoutEvent) (n : ℕ) (c : List Bool) (i : ℕ) → length es ≡ n → i < n
+    → take n rows ≡ map rowOf (segments 0 0 es c) → segmentOf (getD rows i []) ≡ segmentAt i 0 0 es c
+row-at rows es n c i l h e =
+    let z : Segment = record { «old_start» = 0; «old_end» = 0; «new_start» = 0; «new_end» = 0 } in
+    let k : length (map rowOf (segments 0 0 es c)) ≡ n = length-map (segments 0 0 es c) rowOf ∙ length-segments es 0 0 c ∙ l in
+    let row : getD rows i [] ≡ rowOf (getD (segments 0 0 es c) i z) =
+    sym (getD-take n rows i [] h)
+    ∙ ap (λ (t : List (List ℕ)). getD t i []) e
+    ∙ getD-any (map rowOf (segments 0 0 es c)) i [] (rowOf z) (omega arith)
+    ∙ List·getD-map rowOf (segments 0 0 es c) i z in
+    ap segmentOf row ∙ segments-getD es 0 0 c i z (omega arith)
+
+-- a layout stands within the code
+after-old : (es : List LayoutEvent) (o n len : ℕ) (c : List Bool) (i : ℕ) → Ordered o len es → (after i o n es c) .old ≤ len
+unfolding after Ordered
+after-old es o n len c zero h = ordered-le o len es h
+after-old [] o n len c (suc i) h = h
+after-old (e ∷ es) o n len c (suc i) h = after-old es (endOf e) ((segment o n e (isLong c)) .«new_end») len (others c) i (h .1)
+
+module _ (output code events : List ℕ) (long : List Bool) (rows : List (List ℕ)) (n len : ℕ) (emits : Emits output code events long rows n len) where
+  abbrev es : List LayoutEvent
+  es = entries (eventAt events) n
+
+  size : length es ≡ n
+  size = length-entries (eventAt events) n
+
+  code-size : length (take len code) ≡ len
+  code-size = length-take-le len code (emits .coded)
+
+  pub rows-size : n ≤ length rows
+  rows-size = table-size rows es n long size (emits .laid)
+
+  in-order : Ordered 0 (length (take len code)) es
+  in-order = rw code-size (emits .ordered)
+
+  -- where the layout stands after i events
+  reached : (i old new : ℕ) → after i 0 0 es long ≡ record { old = old; new = new } → i ≤ n → new ≤ length (runs 0 0 (take len code) es long)
+  reached i old new here h =
+      let last = after-mono es 0 0 long i (length es) (omega (arith, size)) in
+      let at : (after i 0 0 es long) .new ≡ new = ap (λ (k : Cursor). k .new) here in
+      omega (arith, last, at, length-runs es 0 0 (take len code) long in-order)
+
+  so-far : (i old new : ℕ) → after i 0 0 es long ≡ record { old = old; new = new } → i ≤ n → length (runsTo i 0 0 (take len code) es long) ≡ new
+  so-far i old new here h =
+      omega (arith, length-runsTo es 0 0 (take len code) long i in-order (omega (arith, size)), ap (λ (k : Cursor). k .new) here)
+
+  -- event i, and its segment s
+  module _ (i old new : ℕ) (here : after i 0 0 es long ≡ record { old = old; new = new }) where
+    module _ (h : i < n) (s : Segment) (e : s ≡ segmentOf (getD rows i [])) where
+      abbrev event : LayoutEvent
+      event = eventAt events i
+
+      stands : s ≡ segment old new event (getD long i false)
+      unfolding segmentAt
+      stands =
+          e ∙ row-at rows es n long i size h (emits .laid)
+          ∙ rw (here, getD-entries (eventAt events) n i (Align 0 0 0) h)
+
+      next : after (suc i) 0 0 es long ≡ record { old = s .«old_end»; new = s .«new_end» }
+      unfolding segmentAt
+      next =
+          after-suc es 0 0 long i (omega (arith, size))
+          ∙ rw (here, getD-entries (eventAt events) n i (Align 0 0 0) h, stands)
+
+      pub order : old ≤ s .«old_start»
+      order =
+          let w = after-start es 0 0 len long i (emits .ordered) (omega (arith, size)) in
+          rw stands (rw (here, getD-entries (eventAt events) n i (Align 0 0 0) h) at (w .0))
+
+      pub within : s .«old_end» ≤ len
+      within =
+          let w = after-start es 0 0 len long i (emits .ordered) (omega (arith, size)) in
+          rw stands (rw (getD-entries (eventAt events) n i (Align 0 0 0) h) at (w .1))
+
+      pub starts : s .«old_start» ≤ len
+      starts =
+          let a : s .«old_end» ≡ endOf event = rw stands in
+          let b : s .«old_start» ≡ startOf event = rw stands in
+          omega (arith, within, end-is event, a, b)
+
+      pub begins : s .«new_start» ≡ new + (s .«old_start» - old)
+      begins = rw stands
+
+      pub ends : s .«new_end» ≡ s .«new_start» + width event (getD long i false) (s .«new_start»)
+      ends = rw stands
+
+      pub inside : s .«new_end» ≤ length output
+      inside = omega (arith, reached (suc i) (s .«old_end») (s .«new_end») next h, emits .room)
+
+      pub arrived : after (i + 1) 0 0 es long ≡ record { old = s .«old_end»; new = s .«new_end» }
+      arrived = rw (add-one i) next
+
+      one-more : runsTo (suc i) 0 0 (take len code) es long
+          ≡ runsTo i 0 0 (take len code) es long
+          ++ (take (s .«old_start» - old) (drop old code) ++ form event (getD long i false) (s .«new_start»))
+      one-more =
+          let b : s .«old_start» ≡ startOf event = rw stands in
+          let seg : segmentAt i 0 0 es long ≡ s = sym (e ∙ row-at rows es n long i size h (emits .laid)) in
+          runsTo-suc es 0 0 (take len code) long i (omega (arith, size))
+          ∙ rw (here, getD-entries (eventAt events) n i (Align 0 0 0) h, seg, run-is old (startOf event) len code (omega (arith, starts, b)), b)
+
+      pub turn : (now run after : List ℕ) → now ≡ over output 0 (runsTo i 0 0 (take len code) es long)
+          → run ≡ over now new (take (s .«old_start» - old) (drop old code)) → after ≡ over run (s .«new_start») (form event (getD long i false) (s .«new_start»))
+          → after ≡ over output 0 (runsTo (i + 1) 0 0 (take len code) es long)
+      turn now run after a b d =
+          let done = runsTo i 0 0 (take len code) es long in
+          let bytes = take (s .«old_start» - old) (drop old code) in
+          let written = form event (getD long i false) (s .«new_start») in
+          let l : length bytes ≡ s .«old_start» - old =
+          length-take-le (s .«old_start» - old) (drop old code) (rw (length-drop old code) (omega (arith, starts, emits .coded))) in
+          let at : new ≡ 0 + length done = omega (arith, so-far i old new here (omega arith)) in
+          let to : s .«new_start» ≡ 0 + length (done ++ bytes) = omega (arith, begins, at, l, length-append done bytes) in
+          let copied : run ≡ over output 0 (done ++ bytes) = b ∙ rw (a, at) (over-append output 0 done bytes) in
+          d ∙ ap (λ (k : ℕ). over run k written) to ∙ rw copied (over-append output 0 (done ++ bytes) written)
+          ∙ ap (λ (x : List ℕ). over output 0 x) (append-assoc done bytes written ∙ sym one-more ∙ ap (λ (k : ℕ). runsTo k 0 0 (take len code) es long) (sym (add-one i)))
+
+  -- past the last event
+  module _ (i old new : ℕ) (here : after i 0 0 es long ≡ record { old = old; new = new }) (all : i ≡ n) where
+    last : after (length es) 0 0 es long ≡ record { old = old; new = new }
+    last = ap (λ (k : ℕ). after k 0 0 es long) (size ∙ sym all) ∙ here
+
+    pub last-old : old ≤ len
+    last-old = omega (arith, after-old es 0 0 len long (length es) (emits .ordered), ap (λ (k : Cursor). k .old) last)
+
+    pub last-room : new + (len - old) ≤ length output
+    last-room =
+        omega (
+          arith,
+          length-runs es 0 0 (take len code) long in-order,
+          ap (λ (k : Cursor). k .old) last,
+          ap (λ (k : Cursor). k .new) last,
+          code-size,
+          emits .room,
+        )
+
+    pub finished : (now end : List ℕ) → now ≡ over output 0 (runsTo i 0 0 (take len code) es long)
+        → end ≡ over now new (take (len - old) (drop old code)) → end ≡ over output 0 (runs 0 0 (take len code) es long)
+    finished now end a b =
+        let done = runsTo i 0 0 (take len code) es long in
+        let at : new ≡ 0 + length done = omega (arith, so-far i old new here (omega arith)) in
+        let each : runsTo (length es) 0 0 (take len code) es long ≡ done = ap (λ (k : ℕ). runsTo k 0 0 (take len code) es long) (size ∙ sym all) in
+        let whole : runs 0 0 (take len code) es long ≡ done ++ take (len - old) (drop old code) =
+        runs-all es 0 0 (take len code) long ∙ rw (last, each, drop-take old len code) in
+        b ∙ rw (a, at) (over-append output 0 done (take (len - old) (drop old code))) ∙ ap (λ (x : List ℕ). over output 0 x) (sym whole)

@@ -1,0 +1,97 @@
+-- One turn of each loop over entries.
+use mathlib.Core.Path.{_≡_, refl, _∙_}
+use mathlib.Core.Logic.{_≢_, ⊎-elim}
+use mathlib.Core.Bool.{Bool, true, false, _&&_}
+use mathlib.Core.List.{List}
+use Prim.Native.Nat.{ℕ, zero, suc, _+_, _*_, _-_, _≤_, _<_}
+use native.Mathlib.Nat.{not-suc-le-zero, mul-lt-mul-of-pos-right}
+use native.Mathlib.Numerals.{add-one}
+use native.Mathlib.Omega.{arith}
+use lib.ListN.{length, getD}
+use Rattle.seqs.specs.Over.{over}
+use Rattle.seqs.proofs.Numbers.{eq-or-ne}
+use Rattle.seqs.proofs.Overwrites.{length-over}
+use Rattle.words.specs.Words.{wordAt, setWord}
+use Rattle.words.proofs.Laws.{wordAt-other}
+use Rattle.relax.specs.declared.RelaxableJump.{RelaxableJump}
+use Rattle.relax.specs.declared.LayoutEvent.{LayoutEvent}
+use Rattle.relax.specs.declared.LayoutEvent.the-variants.{Jump, Align}
+use Rattle.relax.specs.Events.{eventAt}
+use Rattle.fresh.specs.Fill.{displacementSize, displacement}
+use Rattle.emit.specs.Emit.{useFilled, usesFilled, refFilled, refsFilled, refReaches, refsReach, jumpFilled, jumpsFilled, endAt, JumpWithin, mappedWords}
+
+pub uses-turn : (output uses labels : List ℕ) (i : ℕ) (now next : List ℕ) → now ≡ usesFilled output uses labels i → next ≡ useFilled uses labels i now
+    → next ≡ usesFilled output uses labels (i + 1)
+unfolding usesFilled
+uses-turn output uses labels i now next e f = f ∙ rw (e, add-one i)
+
+pub refs-turn : (output refs labels : List ℕ) (rows : List (List ℕ)) (n i : ℕ) (now next : List ℕ) → now ≡ refsFilled output refs labels rows n i
+    → next ≡ refFilled refs labels rows n i now → next ≡ refsFilled output refs labels rows n (i + 1)
+unfolding refsFilled
+refs-turn output refs labels rows n i now next e f = f ∙ rw (e, add-one i)
+
+pub jumps-turn : (output events labels : List ℕ) (long : List Bool) (rows : List (List ℕ)) (i : ℕ) (now next : List ℕ)
+    → now ≡ jumpsFilled output events labels long rows i → next ≡ jumpFilled labels (eventAt events i) (getD long i false) (endAt rows i) now
+    → next ≡ jumpsFilled output events labels long rows (i + 1)
+unfolding jumpsFilled
+jumps-turn output events labels long rows i now next e f = f ∙ rw (e, add-one i)
+
+pub length-jumpFilled : (labels : List ℕ) (event : LayoutEvent) (long : Bool) (end : ℕ) (l : List ℕ) → length (jumpFilled labels event long end l) ≡ length l
+unfolding jumpFilled
+length-jumpFilled labels (Jump j) long end l = length-over l (end - displacementSize long) (displacement long end (wordAt labels (j .label)))
+length-jumpFilled labels (Align start len align) long end l = refl
+
+and-false : (t : Bool) → (t && false) ≡ false
+and-false true = refl
+and-false false = refl
+
+pub one-short : (refs labels : List ℕ) (rows : List (List ℕ)) (n i count : ℕ) → i < count → refReaches refs labels rows n i ≡ false
+    → refsReach refs labels rows n count ≡ false
+unfolding refsReach
+one-short refs labels rows n i zero h e = absurd (not-suc-le-zero h)
+one-short refs labels rows n i (suc count) h e =
+    ⊎-elim
+    (λ (same : i ≡ count). rw (← same, e) (and-false (refsReach refs labels rows n i)))
+    (λ other. rw (one-short refs labels rows n i count (omega arith) e))
+    (eq-or-ne i count)
+
+pub all-reach : (refs labels : List ℕ) (rows : List (List ℕ)) (n i : ℕ) → refsReach refs labels rows n i ≡ true → refReaches refs labels rows n i ≡ true
+    → refsReach refs labels rows n (i + 1) ≡ true
+unfolding refsReach
+all-reach refs labels rows n i h e = rw (add-one i, h, e)
+
+-- a word that is none of those mapped
+mapped-other : (f : ℕ → ℕ) (t : List ℕ) (stride i k : ℕ) → ((j : ℕ) → j < i → k ≢ j * stride) → wordAt (mappedWords f t stride i) k ≡ wordAt t k
+unfolding mappedWords
+mapped-other f t stride zero k h = refl
+mapped-other f t stride (suc i) k h =
+    wordAt-other (mappedWords f t stride i) (i * stride) (f (wordAt t (i * stride))) k (h i (omega arith))
+    ∙ mapped-other f t stride i k (λ j l. h j (omega arith))
+
+-- the next one is not mapped yet
+pub mapped-next : (f : ℕ → ℕ) (t : List ℕ) (stride i : ℕ) (now : List ℕ) → now ≡ mappedWords f t stride i → 0 < stride
+    → wordAt now (i * stride) ≡ wordAt t (i * stride)
+mapped-next f t stride i now e h =
+    rw e (mapped-other f t stride i (i * stride) (λ j l q. omega (arith, mul-lt-mul-of-pos-right {m = j} {n = i} {k = stride} l h)))
+
+pub mapped-turn : (f : ℕ → ℕ) (t : List ℕ) (stride i : ℕ) (now next : List ℕ) (offset mapped : ℕ) → now ≡ mappedWords f t stride i → 0 < stride
+    → offset ≡ wordAt now (i * stride) → mapped ≡ f offset → next ≡ setWord now (i * stride) mapped → next ≡ mappedWords f t stride (i + 1)
+unfolding mappedWords
+mapped-turn f t stride i now next offset mapped e h o m n =
+    let k : offset ≡ wordAt t (i * stride) = o ∙ mapped-next f t stride i now e h in
+    n ∙ rw (m, k, e, add-one i)
+
+-- a jump's label and displacement, and an alignment, which is passed over
+pub jump-fits : (event : LayoutEvent) (j : RelaxableJump) (long : Bool) (end : ℕ) (labels : List ℕ) (room : ℕ) → event ≡ Jump j
+    → JumpWithin event long end labels room → (j .label * 4 + 4 ≤ length labels) × (displacementSize long ≤ end) × (end ≤ room)
+jump-fits event j long end labels room e h = rw e at h
+
+pub jump-filled : (labels : List ℕ) (event : LayoutEvent) (j : RelaxableJump) (long : Bool) (end : ℕ) (l : List ℕ) → event ≡ Jump j
+    → over l (end - displacementSize long) (displacement long end (wordAt labels (j .label))) ≡ jumpFilled labels event long end l
+unfolding jumpFilled
+jump-filled labels event j long end l e = rw e
+
+pub align-filled : (labels : List ℕ) (event : LayoutEvent) (start len align : ℕ) (long : Bool) (end : ℕ) (l : List ℕ) → event ≡ Align start len align
+    → l ≡ jumpFilled labels event long end l
+unfolding jumpFilled
+align-filled labels event start len align long end l e = rw e

@@ -1,0 +1,13 @@
+-- `distance` meets its contract: the sums wrap.
+use native.Mathlib.Omega.{arith}
+use borrow.Author.Needs.{needs}
+use Rattle.emit.proofs.distance.Statement.{statement}
+use Rattle.emit.proofs.distance.Tie as tie
+
+returns : tie.Need-returns
+returns c = rw (← c .before .before .sign-extend-32 .ensures, ← c .before .wrapping-add-u64 .ensures) (omega arith)
+
+pub distance-spec : {M : Type 1} → statement M
+distance-spec =
+    tie.close
+    (tie.spec (λ c κs. search needs) (λ c κs. search needs) (λ c κs. search needs) returns)

@@ -1,0 +1,58 @@
+-- `map_words` meets its contract: after i turns the first i of the words are mapped.
+use mathlib.Core.Path.{_≡_, refl, _∙_}
+use Prim.Native.Nat.{_-_, _≤_}
+use native.Mathlib.Omega.{arith}
+use lib.ListN.{length}
+use Rattle.words.proofs.Laws.{length-setWord}
+use Rattle.fresh.specs.Segments.{mapOffset}
+use Rattle.layout.specs.Layout.{tableOf}
+use Rattle.emit.specs.Emit.{mappedWords}
+use Rattle.emit.proofs.Turns.{mapped-next, mapped-turn}
+use borrow.Author.Needs.{needs}
+use Rattle.emit.proofs.map_words.Statement.{statement}
+use Rattle.emit.proofs.map_words.Tie as tie
+
+abbrev Inv-loop : tie.InvT-loop
+Inv-loop table₀ segments stride count n i₀ table i = (i ≤ count) × (length table ≡ length table₀) × (table ≡ mappedWords (mapOffset (tableOf segments n)) table₀ stride i)
+
+abbrev μ-loop : tie.MeasureT-loop
+μ-loop table₀ segments stride count n i₀ table i = count - i
+
+loop-holds : tie.Need-loop-holds Inv-loop μ-loop
+unfolding mappedWords
+loop-holds c = (omega arith, refl, refl)
+
+mul-k : tie.Need-mul-k Inv-loop μ-loop
+mul-k c = omega (arith, c .before .before .before .pre .1 .entry _ (c .loop-test .taken))
+
+word-at-requires : tie.Need-word-at-requires Inv-loop μ-loop
+word-at-requires c κs = omega (arith, c .before .before .before .before .pre .1 .entry _ (c .before .loop-test .taken))
+
+map-requires : tie.Need-map-requires Inv-loop μ-loop
+map-requires c κs = (c .before .before .before .before .before .before .pre .0, rw (c .before .word-at .ensures, mapped-next _ _ _ _ _ (c .before .before .before .before .loop .inv .2) (c .before .before .before .before .before .before .pre .1 .some)) (c .before .before .before .before .before .before .pre .1 .recorded _ (c .before .before .before .loop-test .taken)))
+
+put-word-requires : tie.Need-put-word-requires Inv-loop μ-loop
+put-word-requires c κs = omega (arith, c .before .before .before .before .before .before .before .pre .1 .entry _ (c .before .before .before .before .loop-test .taken))
+
+loop-again : tie.Need-loop-again Inv-loop μ-loop
+loop-again c = (omega arith, rw (c .before .before .put-word .ensures) (length-setWord _ _ _ ∙ c .before .before .before .before .before .before .before .before .loop .inv .1), mapped-turn _ _ _ _ _ _ _ _ (c .before .before .before .before .before .before .before .before .loop .inv .2) (c .before .before .before .before .before .before .before .before .before .before .pre .1 .some) (c .before .before .before .before .before .word-at .ensures) (c .before .before .before .map .ensures) (c .before .before .put-word .ensures))
+
+returns : tie.Need-returns Inv-loop μ-loop
+returns c = let all : c .before .loop .i ≡ c .before .before .before .args .count = omega arith in rw all at (c .before .loop .inv .2)
+
+pub map-words-spec : {M : Type 1} → statement M
+map-words-spec =
+    tie.close
+    (tie.spec
+    Inv-loop
+    μ-loop
+    loop-holds
+    mul-k
+    word-at-requires
+    map-requires
+    put-word-requires
+    (λ c. search needs)
+    (λ c. search needs)
+    loop-again
+    (λ c. search needs)
+    returns)

@@ -1,0 +1,44 @@
+-- `patch_refs` meets its contract: after i turns the first i refs are filled.
+use mathlib.Core.Path.{_≡_, refl, _∙_}
+use Prim.Native.Nat.{_-_, _≤_}
+use native.Mathlib.Omega.{arith}
+use lib.ListN.{length}
+use Rattle.emit.specs.Emit.{refsFilled}
+use Rattle.emit.proofs.Fields.{length-fillField}
+use Rattle.emit.proofs.Turns.{refs-turn}
+use borrow.Author.Needs.{needs}
+use Rattle.emit.proofs.patch_refs.Statement.{statement}
+use Rattle.emit.proofs.patch_refs.Tie as tie
+
+abbrev Inv-loop : tie.InvT-loop
+Inv-loop output₀ refs labels segments count n i₀ output i = (i ≤ count) × (length output ≡ length output₀) × (output ≡ refsFilled output₀ refs labels segments n i)
+
+abbrev μ-loop : tie.MeasureT-loop
+μ-loop output₀ refs labels segments count n i₀ output i = count - i
+
+loop-holds : tie.Need-loop-holds Inv-loop μ-loop
+unfolding refsFilled
+loop-holds c = (omega arith, refl, refl)
+
+patch-ref-requires : tie.Need-patch-ref-requires Inv-loop μ-loop
+patch-ref-requires c κs = (c .before .before .before .before .before .before .pre .0, rw (c .before .before .loop .inv .1) (c .before .before .before .before .before .before .pre .1 .each _ (c .before .loop-test .taken)))
+
+loop-again : tie.Need-loop-again Inv-loop μ-loop
+loop-again c = (omega arith, rw (c .before .before .patch-ref .ensures) (length-fillField _ _ _ _ _ ∙ c .before .before .before .before .before .loop .inv .1), refs-turn _ _ _ _ _ _ _ _ (c .before .before .before .before .before .loop .inv .2) (c .before .before .patch-ref .ensures))
+
+returns : tie.Need-returns Inv-loop μ-loop
+returns c = let all : c .before .loop .i ≡ c .before .before .before .before .before .args .count = omega arith in rw all at (c .before .loop .inv .2)
+
+pub patch-refs-spec : {M : Type 1} → statement M
+patch-refs-spec =
+    tie.close
+    (tie.spec
+    Inv-loop
+    μ-loop
+    loop-holds
+    patch-ref-requires
+    (λ c. search needs)
+    (λ c. search needs)
+    loop-again
+    (λ c. search needs)
+    returns)

@@ -1,0 +1,44 @@
+-- `patch_uses` meets its contract: after i turns the first i uses are patched.
+use mathlib.Core.Path.{_≡_, refl, _∙_}
+use Prim.Native.Nat.{_-_, _≤_}
+use native.Mathlib.Omega.{arith}
+use lib.ListN.{length}
+use Rattle.emit.specs.Emit.{usesFilled}
+use Rattle.emit.proofs.Fields.{length-fillUse}
+use Rattle.emit.proofs.Turns.{uses-turn}
+use borrow.Author.Needs.{needs}
+use Rattle.emit.proofs.patch_uses.Statement.{statement}
+use Rattle.emit.proofs.patch_uses.Tie as tie
+
+abbrev Inv-loop : tie.InvT-loop
+Inv-loop output₀ uses labels count i₀ output i = (i ≤ count) × (length output ≡ length output₀) × (output ≡ usesFilled output₀ uses labels i)
+
+abbrev μ-loop : tie.MeasureT-loop
+μ-loop output₀ uses labels count i₀ output i = count - i
+
+loop-holds : tie.Need-loop-holds Inv-loop μ-loop
+unfolding usesFilled
+loop-holds c = (omega arith, refl, refl)
+
+patch-use-requires : tie.Need-patch-use-requires Inv-loop μ-loop
+patch-use-requires c κs = rw (c .before .before .loop .inv .1) (c .before .before .before .before .before .before .pre .each _ (c .before .loop-test .taken))
+
+loop-again : tie.Need-loop-again Inv-loop μ-loop
+loop-again c = (omega arith, rw (c .before .before .patch-use .ensures) (length-fillUse _ _ _ _ ∙ c .before .before .before .before .before .loop .inv .1), uses-turn _ _ _ _ _ _ (c .before .before .before .before .before .loop .inv .2) (c .before .before .patch-use .ensures))
+
+returns : tie.Need-returns Inv-loop μ-loop
+returns c = let all : c .before .loop .i ≡ c .before .before .before .before .before .args .count = omega arith in rw all at (c .before .loop .inv .2)
+
+pub patch-uses-spec : {M : Type 1} → statement M
+patch-uses-spec =
+    tie.close
+    (tie.spec
+    Inv-loop
+    μ-loop
+    loop-holds
+    patch-use-requires
+    (λ c. search needs)
+    (λ c. search needs)
+    loop-again
+    (λ c. search needs)
+    returns)

@@ -1,0 +1,16 @@
+-- `put_short` meets its contract: a cleared part, and the opcode.
+use native.Mathlib.Omega.{arith}
+use Rattle.emit.proofs.Jumps.{short-size, cleared-length, put-opcode}
+use borrow.Author.Needs.{needs}
+use Rattle.emit.proofs.put_short.Statement.{statement}
+use Rattle.emit.proofs.put_short.Tie as tie
+
+slice-write-part : tie.Need-slice-write-part
+slice-write-part c = omega (arith, short-size (c .before .before .before .before .before .before .args .cc), cleared-length (c .before .before .before .before .before .before .args .part .now) _ (c .before .before .before .clear .ensures), c .before .before .before .before .before .before .pre .1)
+
+returns : tie.Need-returns
+returns c = put-opcode (c .before .before .before .before .before .before .args .cc) _ (c .before .before .before .before .before .before .args .part .now) _ (c .short-opcode .ensures) (c .before .before .before .clear .ensures) (c .before .before .before .before .before .before .pre .1)
+
+pub put-short-spec : {M : Type 1} → statement M
+put-short-spec =
+    tie.close (tie.spec (λ c κs. search needs) (λ c κs. search needs) slice-write-part (λ c. search needs) returns)

@@ -1,0 +1,166 @@
+-- What finish leaves in what it is lent: the code written event by event, and fields, labels and relocations entry by entry, as the tables of a recording
+-- have them. Fill and Segments (fresh/specs) say the same of lists.
+use mathlib.Core.Path.{_≡_}
+use mathlib.Core.Logic.{_≢_}
+use mathlib.Core.Bool.{Bool, true, false, _&&_}
+use mathlib.Core.List.{List, [], map}
+use Prim.Native.Nat.{ℕ, zero, suc, _+_, _*_, _-_, _≤_, _<_}
+use lib.ListN.{length, getD, take}
+use Rattle.seqs.specs.Over.{over}
+use Rattle.words.specs.Words.{wordAt, setWord}
+use Rattle.fields.specs.declared.Decoded.{Decoded}
+use Rattle.fields.specs.declared.Decoded.the-variants.{Use, Unsupported, Unknown}
+use Rattle.fields.specs.Words64.{plus, minus, signExtend}
+use Rattle.fields.specs.Kinds.{decoded, patchSize}
+use Rattle.fields.specs.Reach.{canReachDelta}
+use Rattle.relax.specs.declared.Condition.{Condition}
+use Rattle.relax.specs.declared.Condition.the-variants.{Always, On}
+use Rattle.relax.specs.declared.LayoutEvent.{LayoutEvent}
+use Rattle.relax.specs.declared.LayoutEvent.the-variants.{Jump, Align}
+use Rattle.relax.specs.Events.{eventAt}
+use Rattle.buffer.specs.State.{none}
+use Rattle.recording.specs.View.{entries}
+use Rattle.fresh.specs.Forms.{shortForm, longForm}
+use Rattle.fresh.specs.Segments.{segments, mapOffset}
+use Rattle.fresh.specs.Fill.{fillField, fillUse, displacementSize, displacement}
+use Rattle.fresh.proofs.Shape.{Ordered, runs}
+use Rattle.layout.specs.Layout.{rowOf, segmentOf, tableOf}
+
+-- a jump's form, short or long, displacement 0
+abbrev pub jumpForm : Condition → Bool → List ℕ
+jumpForm cc false = shortForm cc
+jumpForm cc true = longForm cc
+
+-- a condition that has an opcode
+abbrev pub Encodes : Condition → Type 0
+Encodes Always = Unit {0}
+Encodes (On c) = c < 16
+
+-- an event whose form can be written
+abbrev pub Writes : LayoutEvent → Type 0
+Writes (Jump j) = Encodes (j .cc)
+Writes (Align start len align) = Unit {0}
+
+-- a field of a kind at an offset lies within `room` bytes
+abbrev pub Within : Decoded → ℕ → ℕ → Type 0
+Within (Use k) offset room = offset + patchSize k ≤ room
+Within Unsupported offset room = Unit {0}
+Within Unknown offset room = Unit {0}
+
+-- an offset that was recorded, or none
+abbrev pub Recorded : ℕ → Type 0
+Recorded offset = offset ≢ none → offset ≤ 300000000
+
+-- the events and the runs between them are written: the table of segments is the layout of a choice of long jumps
+pub record Emits (output code events : List ℕ) (long : List Bool) (rows : List (List ℕ)) (n len : ℕ) : Type 0 where
+  pub recorded : n * 20 ≤ length events
+  pub chosen : n ≤ length long
+  pub laid : take n rows ≡ map rowOf (segments 0 0 (entries (eventAt events) n) long)
+  pub ordered : Ordered 0 len (entries (eventAt events) n)
+  pub coded : len ≤ length code
+  pub writes : (i : ℕ) → i < n → Writes (eventAt events i)
+  pub room : length (runs 0 0 (take len code) (entries (eventAt events) n) long) ≤ length output
+
+-- The uses. An entry is offset, label and code.
+abbrev pub useFilled : List ℕ → List ℕ → ℕ → List ℕ → List ℕ
+useFilled uses labels i l = fillUse (decoded (wordAt uses (i * 3 + 2))) (wordAt uses (i * 3)) (wordAt labels (wordAt uses (i * 3 + 1))) l
+
+-- the output with the first n uses patched
+unfoldable pub usesFilled : List ℕ → List ℕ → List ℕ → ℕ → List ℕ
+usesFilled output uses labels zero = output
+usesFilled output uses labels (suc i) = useFilled uses labels i (usesFilled output uses labels i)
+
+pub record UseFits (room : ℕ) (uses labels : List ℕ) (i : ℕ) : Type 0 where
+  pub entry : i * 12 + 12 ≤ length uses
+  pub known : wordAt uses (i * 3 + 1) * 4 + 4 ≤ length labels
+  pub within : Within (decoded (wordAt uses (i * 3 + 2))) (wordAt uses (i * 3)) room
+
+pub record UsesFit (room : ℕ) (uses labels : List ℕ) (count : ℕ) : Type 0 where
+  pub each : (i : ℕ) → i < count → UseFits room uses labels i
+
+-- The refs. An entry is offset, label, code and addend; a ref's field stands where the segments take its offset.
+abbrev pub refAt : List ℕ → List (List ℕ) → ℕ → ℕ → ℕ
+refAt refs rows n i = mapOffset (tableOf rows n) (wordAt refs (i * 4))
+
+abbrev pub refFilled : List ℕ → List ℕ → List (List ℕ) → ℕ → ℕ → List ℕ → List ℕ
+refFilled refs labels rows n i l =
+    fillField (decoded (wordAt refs (i * 4 + 2))) (refAt refs rows n i) (wordAt labels (wordAt refs (i * 4 + 1))) (wordAt refs (i * 4 + 3)) l
+
+-- the output with the first refs filled, where the labels have their new offsets
+unfoldable pub refsFilled : List ℕ → List ℕ → List ℕ → List (List ℕ) → ℕ → ℕ → List ℕ
+refsFilled output refs labels rows n zero = output
+refsFilled output refs labels rows n (suc i) = refFilled refs labels rows n i (refsFilled output refs labels rows n i)
+
+pub record RefFits (room : ℕ) (refs labels : List ℕ) (rows : List (List ℕ)) (n i : ℕ) : Type 0 where
+  pub entry : i * 16 + 16 ≤ length refs
+  pub known : wordAt refs (i * 4 + 1) * 4 + 4 ≤ length labels
+  pub recorded : Recorded (wordAt refs (i * 4))
+  pub within : Within (decoded (wordAt refs (i * 4 + 2))) (refAt refs rows n i) room
+
+pub record RefsFit (room : ℕ) (refs labels : List ℕ) (rows : List (List ℕ)) (n count : ℕ) : Type 0 where
+  pub each : (i : ℕ) → i < count → RefFits room refs labels rows n i
+
+-- whether a field of a kind reaches a label with an addend
+abbrev pub fieldReaches : Decoded → ℕ → ℕ → ℕ → Bool
+fieldReaches (Use k) offset label addend = canReachDelta k (minus (plus label (signExtend 32 addend)) offset)
+fieldReaches Unsupported offset label addend = true
+fieldReaches Unknown offset label addend = true
+
+-- whether ref i does, where the labels have their recorded offsets
+abbrev pub refReaches : List ℕ → List ℕ → List (List ℕ) → ℕ → ℕ → Bool
+refReaches refs labels rows n i =
+    fieldReaches (decoded (wordAt refs (i * 4 + 2))) (refAt refs rows n i)
+    (mapOffset (tableOf rows n) (wordAt labels (wordAt refs (i * 4 + 1)))) (wordAt refs (i * 4 + 3))
+
+-- the first refs all do
+unfoldable pub refsReach : List ℕ → List ℕ → List (List ℕ) → ℕ → ℕ → Bool
+refsReach refs labels rows n zero = true
+refsReach refs labels rows n (suc i) = refsReach refs labels rows n i && refReaches refs labels rows n i
+
+pub record RefKnown (refs labels : List ℕ) (i : ℕ) : Type 0 where
+  pub entry : i * 16 + 16 ≤ length refs
+  pub known : wordAt refs (i * 4 + 1) * 4 + 4 ≤ length labels
+  pub recorded : Recorded (wordAt refs (i * 4))
+  pub bound : Recorded (wordAt labels (wordAt refs (i * 4 + 1)))
+
+pub record RefsKnown (refs labels : List ℕ) (count : ℕ) : Type 0 where
+  pub each : (i : ℕ) → i < count → RefKnown refs labels i
+
+-- The jumps: an event, long or not, that ends at `end`.
+unfoldable pub jumpFilled : List ℕ → LayoutEvent → Bool → ℕ → List ℕ → List ℕ
+jumpFilled labels (Jump j) long end l = over l (end - displacementSize long) (displacement long end (wordAt labels (j .label)))
+jumpFilled labels (Align start len align) long end l = l
+
+-- where event i ends
+abbrev pub endAt : List (List ℕ) → ℕ → ℕ
+endAt rows i = (segmentOf (getD rows i [])) .«new_end»
+
+-- the output with the first n jumps' displacements
+unfoldable pub jumpsFilled : List ℕ → List ℕ → List ℕ → List Bool → List (List ℕ) → ℕ → List ℕ
+jumpsFilled output events labels long rows zero = output
+jumpsFilled output events labels long rows (suc i) =
+    jumpFilled labels (eventAt events i) (getD long i false) (endAt rows i) (jumpsFilled output events labels long rows i)
+
+-- a jump's label is in the table, and its displacement in the output
+abbrev pub JumpWithin : LayoutEvent → Bool → ℕ → List ℕ → ℕ → Type 0
+JumpWithin (Jump j) long end labels room = (j .label * 4 + 4 ≤ length labels) × (displacementSize long ≤ end) × (end ≤ room)
+JumpWithin (Align start len align) long end labels room = Unit {0}
+
+pub record JumpFits (room : ℕ) (events labels : List ℕ) (long : List Bool) (rows : List (List ℕ)) (i : ℕ) : Type 0 where
+  pub entry : i * 20 + 20 ≤ length events
+  pub chosen : i < length long
+  pub laid : i < length rows
+  pub within : JumpWithin (eventAt events i) (getD long i false) (endAt rows i) labels room
+
+pub record JumpsFit (room : ℕ) (events labels : List ℕ) (long : List Bool) (rows : List (List ℕ)) (n : ℕ) : Type 0 where
+  pub each : (i : ℕ) → i < n → JumpFits room events labels long rows i
+
+-- The words 0, stride, 2 stride, .. of a table, mapped: labels (stride 1), and relocations' offsets (stride 6).
+unfoldable pub mappedWords : (ℕ → ℕ) → List ℕ → ℕ → ℕ → List ℕ
+mappedWords f t stride zero = t
+mappedWords f t stride (suc i) = setWord (mappedWords f t stride i) (i * stride) (f (wordAt t (i * stride)))
+
+pub record WordsFit (t : List ℕ) (stride count : ℕ) : Type 0 where
+  pub some : 0 < stride
+  pub entry : (i : ℕ) → i < count → i * stride * 4 + 4 ≤ length t
+  pub recorded : (i : ℕ) → i < count → Recorded (wordAt t (i * stride))
