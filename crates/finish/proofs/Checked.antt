@@ -1,0 +1,259 @@
+-- What the scans of crate checks find of the tables, as the definitions say it of the pooled recording.
+use mathlib.Core.Path.{_≡_, refl, sym, ap, _∙_}
+use mathlib.Core.Logic.{_≢_, ⊎-elim}
+use mathlib.Core.Bool.{Bool, true, false, not, _&&_, _||_, cond}
+use mathlib.Core.List.{List, [], _∷_, _++_}
+use Prim.Native.Nat.{ℕ, zero, suc, _+_, _-_, _*_, _≤_, _<_}
+use native.Mathlib.Omega.{arith}
+use lib.Dec.{eqb, leb}
+use lib.ListN.{length}
+use borrow.Author.Tests.{ne-eqb, lt-ltb}
+use Rattle.seqs.specs.Pick.{pick, orElse}
+use Rattle.seqs.proofs.Numbers.{lt-or-ge, eq-or-ne}
+use Rattle.seqs.proofs.Picking.{no-eq}
+use Rattle.words.specs.Words.{wordAt}
+use Rattle.fields.specs.declared.Decoded.the-variants.{Use}
+use Rattle.fields.specs.Kinds.{decoded}
+use Rattle.relax.specs.declared.LayoutEvent.{LayoutEvent}
+use Rattle.relax.specs.declared.LayoutEvent.the-variants.{Jump, Align}
+use Rattle.relax.specs.Events.{eventOf, eventAt, endOf}
+use Rattle.buffer.specs.State.{none}
+use Rattle.recording.specs.Sound.{startAt, endAt}
+use Rattle.recording.specs.View as tables
+use Rattle.recording.proofs.Views.{getD-entries}
+use Rattle.fresh.specs.Pooled.{constantAlignment, Pooled}
+use Rattle.fresh.specs.Fresh.{startOf}
+use Rattle.fresh.specs.Rounds.{jumps}
+use Rattle.pool.specs.Pool.{sizeAt, labelAt, poolStart, poolPadding, poolOffset, poolEvent, poolIsBound}
+use Rattle.checks.specs.Entries.{all}
+use Rattle.checks.specs.Fields as checked
+use Rattle.finish.specs.Refusals.{every, isBound, poolBoundBefore, jumpBound, relocBound, hasJump, refClear, useRefusal, usesRefusal}
+
+and-assoc : (a b c : Bool) → (a && (b && c)) ≡ ((a && b) && c)
+and-assoc true b c = refl
+and-assoc false b c = refl
+
+every-append : {A : Type 0} (f : A → Bool) (xs ys : List A) → every f (xs ++ ys) ≡ (every f xs && every f ys)
+unfolding every
+every-append f [] ys = refl
+every-append f (x ∷ xs) ys = rw (every-append f xs ys) (and-assoc (f x) (every f xs) (every f ys))
+
+and-true : (t : Bool) → (t && true) ≡ t
+and-true true = refl
+and-true false = refl
+
+-- a test of every entry of a table is a test of every number below their count
+pub every-entries : {A : Type 0} (f : A → Bool) (g : ℕ → A) (h : ℕ → Bool) (n : ℕ) → ((i : ℕ) → i < n → f (g i) ≡ h i)
+    → every f (tables.entries g n) ≡ all h n
+unfolding every all
+every-entries f g h zero e = refl
+every-entries f g h (suc n) e =
+    every-append f (tables.entries g n) (g n ∷ [])
+    ∙ rw (every-entries f g h n (λ i l. e i (omega arith)), and-true (f (g n)), e n (omega arith))
+
+-- a label below the count is bound in the list as in the table
+pub bound-entries : (labels : List ℕ) (count label : ℕ) → label < count
+    → isBound (tables.entries (wordAt labels) count) label ≡ checked.isBound labels label
+unfolding checked.isBound
+bound-entries labels count label h = rw (getD-entries (wordAt labels) count label none h)
+
+-- 13
+none-bound : (labels constants asked : List ℕ) (n : ℕ)
+    → not (all (λ (j : ℕ). not (not (eqb (wordAt labels (labelAt constants asked j)) none))) n) ≡ poolIsBound labels constants asked n
+unfolding all poolIsBound
+none-bound labels constants asked zero = refl
+none-bound labels constants asked (suc n) =
+    rw (← none-bound labels constants asked n)
+    (by (all (λ (j : ℕ). not (not (eqb (wordAt labels (labelAt constants asked j)) none))) n) (not (eqb (wordAt labels (labelAt constants asked n)) none)))
+  where
+    by : (a b : Bool) → not (a && not b) ≡ (not a || b)
+    by true true = refl
+    by true false = refl
+    by false b = refl
+
+-- 13: a pooled constant's label is bound
+pub pool-bound : (v : tables.View) (labels constants asked : List ℕ) (count known n : ℕ)
+    → v .labels ≡ tables.entries (wordAt labels) count → v .constants ≡ tables.entries (tables.constantAt constants) known
+    → v .asked ≡ tables.entries (wordAt asked) n
+    → ((j : ℕ) → j < n → wordAt asked j < known) → ((j : ℕ) → j < n → labelAt constants asked j < count)
+    → poolBoundBefore v ≡ poolIsBound labels constants asked n
+unfolding poolBoundBefore
+pool-bound v labels constants asked count known n el ec ea listed named =
+    rw (el, ec, ea)
+    (ap not
+    (every-entries _ (wordAt asked) (λ (j : ℕ). not (not (eqb (wordAt labels (labelAt constants asked j)) none))) n
+    (λ j h.
+    rw (getD-entries (tables.constantAt constants) known (wordAt asked j) (record { bytes = []; label = none }) (listed j h))
+    (ap (λ (x : ℕ). not (not (eqb x none))) (getD-entries (wordAt labels) count (labelAt constants asked j) none (named j h)))))
+    ∙ none-bound labels constants asked n)
+
+-- the columns of an event: a jump where its kind is 1
+jump-at : (labels : List ℕ) (count kind start len what cc : ℕ) → (kind ≡ 1 → what < count)
+    → jumpBound (tables.entries (wordAt labels) count) (eventOf kind start len what cc) ≡ (not (eqb kind 1) || checked.isBound labels what)
+unfolding eventOf pick
+jump-at labels count kind start len what cc known =
+    ⊎-elim
+    (λ (e : kind ≡ 1). rw e (bound-entries labels count what (known e)))
+    (λ (ne : kind ≢ 1). rw (ne-eqb kind 1 ne, pick))
+    (eq-or-ne kind 1)
+
+jump-kind : (kind start len what cc : ℕ) → jumps (eventOf kind start len what cc ∷ []) ≡ cond (eqb kind 1) 1 0
+unfolding eventOf pick
+jump-kind kind start len what cc =
+    ⊎-elim
+    (λ (e : kind ≡ 1). rw e refl)
+    (λ (ne : kind ≢ 1). rw (ne-eqb kind 1 ne, pick))
+    (eq-or-ne kind 1)
+
+every-aligned : (f : LayoutEvent → Bool) (from : ℕ) (constants asked : List ℕ) (n : ℕ) → ((start len align : ℕ) → f (Align start len align) ≡ true)
+    → every f (tables.entries (poolEvent from constants asked) n) ≡ true
+unfolding every
+every-aligned f from constants asked zero h = refl
+every-aligned f from constants asked (suc n) h =
+    every-append f (tables.entries (poolEvent from constants asked) n) (poolEvent from constants asked n ∷ [])
+    ∙ rw (every-aligned f from constants asked n h, h (poolStart from constants asked n) (poolPadding from constants asked n) (constantAlignment (sizeAt constants asked n)))
+
+-- 15, of the jumps
+pub jumps-bound : (p : Pooled) (labels events constants asked : List ℕ) (count from n m : ℕ)
+    → p .labels ≡ tables.entries (wordAt labels) count
+    → p .events ≡ tables.entries (eventAt events) n ++ tables.entries (poolEvent from constants asked) m
+    → ((i : ℕ) → i < n → wordAt events (i * 5) ≡ 1 → wordAt events (i * 5 + 3) < count)
+    → every (jumpBound (p .labels)) (p .events) ≡ checked.jumpsBound events n labels
+unfolding checked.jumpsBound eventAt eventOf
+jumps-bound p labels events constants asked count from n m el ee known =
+    rw (el, ee)
+    (every-append (jumpBound (tables.entries (wordAt labels) count)) (tables.entries (eventAt events) n) (tables.entries (poolEvent from constants asked) m)
+    ∙ rw (every-aligned (jumpBound (tables.entries (wordAt labels) count)) from constants asked m (λ start len align. refl))
+    (and-true (every (jumpBound (tables.entries (wordAt labels) count)) (tables.entries (eventAt events) n))
+    ∙ every-entries (jumpBound (tables.entries (wordAt labels) count)) (eventAt events) _ n
+    (λ i h.
+    jump-at labels count (wordAt events (i * 5)) (wordAt events (i * 5 + 1)) (wordAt events (i * 5 + 2)) (wordAt events (i * 5 + 3)) (wordAt events (i * 5 + 4))
+    (known i h))))
+
+-- 15, of the uses and the refs
+pub uses-bound : (p : Pooled) (labels uses : List ℕ) (count n : ℕ) → p .labels ≡ tables.entries (wordAt labels) count
+    → p .uses ≡ tables.entries (tables.useAt uses) n → ((i : ℕ) → i < n → wordAt uses (i * 3 + 1) < count)
+    → every (λ (u : tables.Use). isBound (p .labels) (u .label)) (p .uses) ≡ checked.usesBound uses n labels
+unfolding checked.usesBound
+uses-bound p labels uses count n el eu known =
+    rw (el, eu) (every-entries _ (tables.useAt uses) _ n (λ i h. bound-entries labels count (wordAt uses (i * 3 + 1)) (known i h)))
+
+pub refs-bound : (p : Pooled) (labels refs : List ℕ) (count n : ℕ) → p .labels ≡ tables.entries (wordAt labels) count
+    → p .refs ≡ tables.entries (tables.refAt refs) n → ((i : ℕ) → i < n → wordAt refs (i * 4 + 1) < count)
+    → every (λ (f : tables.Ref). isBound (p .labels) (f .label)) (p .refs) ≡ checked.refsBound refs n labels
+unfolding checked.refsBound
+refs-bound p labels refs count n el er known =
+    rw (el, er) (every-entries _ (tables.refAt refs) _ n (λ i h. bound-entries labels count (wordAt refs (i * 4 + 1)) (known i h)))
+
+-- 15, of the relocations: a target from 2^31 on is a label
+pub relocs-bound : (p : Pooled) (labels relocs : List ℕ) (count n : ℕ) → p .labels ≡ tables.entries (wordAt labels) count
+    → ((i : ℕ) → i < n → 2147483648 ≤ wordAt relocs (i * 6 + 2) → wordAt relocs (i * 6 + 2) - 2147483648 < count)
+    → every (relocBound (p .labels)) (tables.entries (tables.relocAt relocs) n) ≡ checked.relocsBound relocs n labels
+unfolding checked.relocsBound relocBound
+relocs-bound p labels relocs count n el known =
+    rw el
+    (every-entries _ (tables.relocAt relocs) _ n
+    (λ i h.
+    ⊎-elim
+    (λ (lt : wordAt relocs (i * 6 + 2) < 2147483648). rw (lt-ltb (wordAt relocs (i * 6 + 2)) 2147483648 lt))
+    (λ ge. rw (bound-entries labels count (wordAt relocs (i * 6 + 2) - 2147483648) (known i h ge)))
+    (lt-or-ge (wordAt relocs (i * 6 + 2)) 2147483648)))
+
+-- with and without a jump
+jumps-append : (xs ys : List LayoutEvent) → jumps (xs ++ ys) ≡ jumps xs + jumps ys
+jumps-append [] ys = omega arith
+jumps-append (Jump j ∷ xs) ys = omega (arith, jumps-append xs ys)
+jumps-append (Align start len align ∷ xs) ys = jumps-append xs ys
+
+pool-jumps : (from : ℕ) (constants asked : List ℕ) (n : ℕ) → jumps (tables.entries (poolEvent from constants asked) n) ≡ 0
+pool-jumps from constants asked zero = refl
+pool-jumps from constants asked (suc n) =
+    jumps-append (tables.entries (poolEvent from constants asked) n) (poolEvent from constants asked n ∷ []) ∙ rw (pool-jumps from constants asked n)
+
+none-more : (a : ℕ) (t : Bool) → eqb (a + cond t 1 0) 0 ≡ (eqb a 0 && not t)
+none-more a true = ne-eqb (a + 1) 0 (λ e. omega arith) ∙ sym (by (eqb a 0))
+  where
+    by : (t : Bool) → (t && false) ≡ false
+    by true = refl
+    by false = refl
+none-more a false = let e : a + 0 ≡ a = omega arith in rw e (sym (and-true (eqb a 0)))
+
+table-jumps : (events : List ℕ) (n : ℕ) → eqb (jumps (tables.entries (eventAt events) n)) 0 ≡ all (λ (i : ℕ). not (eqb (wordAt events (i * 5)) 1)) n
+unfolding all eventAt
+table-jumps events zero = refl
+table-jumps events (suc n) =
+    rw (
+      jumps-append (tables.entries (eventAt events) n) (eventAt events n ∷ []),
+      jump-kind (wordAt events (n * 5)) (wordAt events (n * 5 + 1)) (wordAt events (n * 5 + 2)) (wordAt events (n * 5 + 3)) (wordAt events (n * 5 + 4)),
+      none-more (jumps (tables.entries (eventAt events) n)) (eqb (wordAt events (n * 5)) 1),
+      table-jumps events n,
+    )
+
+pub has-jump : (p : Pooled) (events constants asked : List ℕ) (from n m : ℕ)
+    → p .events ≡ tables.entries (eventAt events) n ++ tables.entries (poolEvent from constants asked) m
+    → hasJump p ≡ checked.hasJump events n
+unfolding checked.hasJump
+has-jump p events constants asked from n m ee =
+    rw (ee, jumps-append (tables.entries (eventAt events) n) (tables.entries (poolEvent from constants asked) m), pool-jumps from constants asked m)
+    (let e : jumps (tables.entries (eventAt events) n) + 0 ≡ jumps (tables.entries (eventAt events) n) = omega arith in rw e (ap not (table-jumps events n)))
+
+-- where an event of the table starts and ends
+pub start-at : (events : List ℕ) (j : ℕ) → startOf (eventAt events j) ≡ startAt events j
+unfolding eventAt eventOf pick
+start-at events j = ⊎-elim (λ (e : wordAt events (j * 5) ≡ 1). rw e refl) (λ (ne : wordAt events (j * 5) ≢ 1). rw (ne-eqb (wordAt events (j * 5)) 1 ne, pick)) (eq-or-ne (wordAt events (j * 5)) 1)
+
+pub end-at : (events : List ℕ) (j : ℕ) → endOf (eventAt events j) ≡ endAt events j
+unfolding eventAt eventOf pick
+end-at events j = ⊎-elim (λ (e : wordAt events (j * 5) ≡ 1). rw e refl) (λ (ne : wordAt events (j * 5) ≢ 1). rw (ne-eqb (wordAt events (j * 5)) 1 ne, pick)) (eq-or-ne (wordAt events (j * 5)) 1)
+
+-- 17
+pub refs-clear : (p : Pooled) (refs events constants asked : List ℕ) (count n m from : ℕ)
+    → p .refs ≡ tables.entries (tables.refAt refs) count
+    → p .events ≡ tables.entries (eventAt events) n ++ tables.entries (poolEvent from constants asked) m
+    → length (p .code) ≡ poolStart from constants asked m
+    → every (refClear p) (p .refs) ≡ checked.refsClear refs count events n from constants asked m
+unfolding checked.refsClear checked.refClear checked.clearOfEvents checked.clearOfPool refClear
+refs-clear p refs events constants asked count n m from er ee el =
+    ap (λ (l : List tables.Ref). every (refClear p) l) er
+    ∙ every-entries (refClear p) (tables.refAt refs) _ count
+    (λ i h.
+    let to = wordAt refs (i * 4) + checked.sizeOf (decoded (wordAt refs (i * 4 + 2))) in
+    rw (el, ee)
+    (ap (λ (t : Bool). leb to (poolStart from constants asked m) && t)
+    (every-append (λ (e : LayoutEvent). leb (endOf e) (wordAt refs (i * 4)) || leb to (startOf e)) (tables.entries (eventAt events) n) (tables.entries (poolEvent from constants asked) m)
+    ∙ rw (
+      every-entries (λ (e : LayoutEvent). leb (endOf e) (wordAt refs (i * 4)) || leb to (startOf e)) (eventAt events)
+          (λ (j : ℕ). leb (endAt events j) (wordAt refs (i * 4)) || leb to (startAt events j)) n (λ j l. rw (end-at events j, start-at events j)),
+      every-entries (λ (e : LayoutEvent). leb (endOf e) (wordAt refs (i * 4)) || leb to (startOf e)) (poolEvent from constants asked)
+          (λ (j : ℕ). leb (poolOffset from constants asked j) (wordAt refs (i * 4)) || leb to (poolStart from constants asked j)) m (λ j l. refl),
+    ))))
+
+-- 19 to 22
+or-else-last : (n m k : ℕ) → orElse (orElse n m) k ≡ orElse n (orElse m k)
+unfolding pick
+or-else-last zero m k = refl
+or-else-last (suc n) m k =
+    ap (λ (x : ℕ). orElse x k) (no-eq (suc n) 0 m (suc n) (λ e. omega arith))
+    ∙ no-eq (suc n) 0 k (suc n) (λ e. omega arith)
+    ∙ sym (no-eq (suc n) 0 (orElse m k) (suc n) (λ e. omega arith))
+
+zero-last : (n : ℕ) → orElse n 0 ≡ n
+unfolding pick
+zero-last zero = refl
+zero-last (suc n) = no-eq (suc n) 0 0 (suc n) (λ e. omega arith)
+
+uses-more : (p : Pooled) (us : List tables.Use) (u : tables.Use) → usesRefusal p (us ++ (u ∷ [])) ≡ orElse (usesRefusal p us) (useRefusal p u)
+unfolding usesRefusal pick
+uses-more p [] u = zero-last (useRefusal p u)
+uses-more p (x ∷ us) u = rw (uses-more p us u) (sym (or-else-last (useRefusal p x) (usesRefusal p us) (useRefusal p u)))
+
+pub uses-refused : (p : Pooled) (uses labels : List ℕ) (count len n : ℕ) → p .labels ≡ tables.entries (wordAt labels) count → length (p .code) ≡ len
+    → ((i : ℕ) → i < n → wordAt uses (i * 3 + 1) < count)
+    → usesRefusal p (tables.entries (tables.useAt uses) n) ≡ checked.whyUses uses labels len n
+unfolding checked.whyUses checked.whyUnreached usesRefusal useRefusal
+uses-refused p uses labels count len zero el ec known = refl
+uses-refused p uses labels count len (suc n) el ec known =
+    uses-more p (tables.entries (tables.useAt uses) n) (tables.useAt uses n)
+    ∙ rw (uses-refused p uses labels count len n el ec (λ i h. known i (omega arith)))
+    (ap (λ (x : ℕ). pick (eqb (checked.whyUses uses labels len n) 0) x (checked.whyUses uses labels len n))
+    (rw (ec, el, getD-entries (wordAt labels) count (wordAt uses (n * 3 + 1)) none (known n (omega arith)))))

@@ -1,0 +1,125 @@
+-- What the program fills entry by entry is what the definitions fill list by list.
+use mathlib.Core.Path.{_≡_, refl, sym, ap, _∙_}
+use mathlib.Core.Bool.{Bool, false}
+use mathlib.Core.List.{List, [], _∷_, _++_, append-assoc, append-nil}
+use Prim.Native.Nat.{ℕ, zero, suc, _+_, _-_, _*_, _<_}
+use native.Mathlib.Omega.{arith}
+use lib.ListN.{length, getD}
+use Rattle.seqs.specs.Over.{over}
+use Rattle.words.specs.Words.{wordAt}
+use Rattle.fields.specs.Kinds.{decoded}
+use Rattle.relax.specs.declared.LayoutEvent.{LayoutEvent}
+use Rattle.relax.specs.declared.LayoutEvent.the-variants.{Jump, Align}
+use Rattle.relax.specs.Events.{eventAt}
+use Rattle.relax.specs.declared.RelaxableJump.{RelaxableJump}
+use Rattle.relax.specs.declared.Segment.{Segment}
+use Rattle.buffer.specs.State.{none}
+use Rattle.recording.specs.View as tables
+use Rattle.recording.proofs.Views.{length-entries}
+use Rattle.fresh.specs.Pooled.{Placed}
+use Rattle.fresh.specs.Fresh.{Choice, others}
+use Rattle.fresh.specs.Rounds.{otherEnds}
+use Rattle.fresh.specs.Segments.{mapOffset}
+use Rattle.fresh.specs.Fill.{fillField, fillRefs, fillJump, fillJumps, fillPool, fillUse, fillUses}
+use Rattle.fresh.proofs.Choices.{isLong-getD, others-getD, firstEnd-getD, otherEnds-getD}
+use Rattle.pool.specs.Pool.{labelAt, poolOffset, poolEvent, poolWritten}
+use Rattle.layout.specs.Layout.{tableOf}
+use Rattle.emit.specs.Emit.{usesFilled, refsFilled, jumpFilled, jumpsFilled, endAt}
+use Rattle.finish.specs.Tables.{poolPlaced}
+
+fillRefs-more : (at : ℕ → ℕ) (labels : List ℕ) (rs : List tables.Ref) (f : tables.Ref) (l : List ℕ)
+    → fillRefs at labels (rs ++ (f ∷ [])) l
+    ≡ fillField (decoded (f .code)) (at (f .offset)) (at (getD labels (f .label) none)) (f .addend) (fillRefs at labels rs l)
+unfolding fillRefs
+fillRefs-more at labels [] f l = refl
+fillRefs-more at labels (r ∷ rs) f l = fillRefs-more at labels rs f _
+
+-- the refs, where the table of labels holds new offsets
+pub refs-filled : (output refs labels recorded : List ℕ) (rows : List (List ℕ)) (ss : List Segment) (n count : ℕ) → tableOf rows n ≡ ss
+    → ((i : ℕ) → i < count → wordAt labels (wordAt refs (i * 4 + 1)) ≡ mapOffset ss (getD recorded (wordAt refs (i * 4 + 1)) none))
+    → refsFilled output refs labels rows n count ≡ fillRefs (mapOffset ss) recorded (tables.entries (tables.refAt refs) count) output
+unfolding refsFilled fillRefs
+refs-filled output refs labels recorded rows ss n zero t known = refl
+refs-filled output refs labels recorded rows ss n (suc i) t known =
+    rw (refs-filled output refs labels recorded rows ss n i t (λ j h. known j (omega arith)), known i (omega arith), t)
+    (sym (fillRefs-more (mapOffset ss) recorded (tables.entries (tables.refAt refs) i) (tables.refAt refs i) output))
+
+fillUses-more : (labels : List ℕ) (us : List tables.Use) (u : tables.Use) (l : List ℕ)
+    → fillUses labels (us ++ (u ∷ [])) l ≡ fillUse (decoded (u .code)) (u .offset) (getD labels (u .label) none) (fillUses labels us l)
+unfolding fillUses
+fillUses-more labels [] u l = refl
+fillUses-more labels (x ∷ us) u l = fillUses-more labels us u _
+
+-- the uses
+pub uses-filled : (output uses labels recorded : List ℕ) (count : ℕ)
+    → ((i : ℕ) → i < count → wordAt labels (wordAt uses (i * 3 + 1)) ≡ getD recorded (wordAt uses (i * 3 + 1)) none)
+    → usesFilled output uses labels count ≡ fillUses recorded (tables.entries (tables.useAt uses) count) output
+unfolding usesFilled fillUses
+uses-filled output uses labels recorded zero known = refl
+uses-filled output uses labels recorded (suc i) known =
+    rw (uses-filled output uses labels recorded i (λ j h. known j (omega arith)), known i (omega arith))
+    (sym (fillUses-more recorded (tables.entries (tables.useAt uses) i) (tables.useAt uses i) output))
+
+fillPool-more : (at : ℕ → ℕ) (ks : List Placed) (k : Placed) (l : List ℕ)
+    → fillPool at (ks ++ (k ∷ [])) l ≡ over (fillPool at ks l) (at (k .offset)) (k .bytes)
+unfolding fillPool
+fillPool-more at [] k l = refl
+fillPool-more at (x ∷ ks) k l = fillPool-more at ks k _
+
+-- the constants, where the table of labels holds new offsets
+pub pool-filled : (output labels constants asked : List ℕ) (at : ℕ → ℕ) (from n : ℕ)
+    → ((j : ℕ) → j < n → wordAt labels (labelAt constants asked j) ≡ at (poolOffset from constants asked j))
+    → poolWritten output labels constants asked n ≡ fillPool at (tables.entries (poolPlaced from constants asked) n) output
+unfolding poolWritten fillPool
+pool-filled output labels constants asked at from zero known = refl
+pool-filled output labels constants asked at from (suc n) known =
+    rw (pool-filled output labels constants asked at from n (λ j h. known j (omega arith)), known n (omega arith))
+    (sym (fillPool-more at (tables.entries (poolPlaced from constants asked) n) (poolPlaced from constants asked n) output))
+
+fillJumps-append : (at : ℕ → ℕ) (labels : List ℕ) (es : List LayoutEvent) (e : LayoutEvent) (c : Choice) (ends l : List ℕ)
+    → fillJumps at labels (es ++ (e ∷ [])) c ends l
+    ≡ fillJump at labels e (getD c (length es) false) (getD ends (length es) 0) (fillJumps at labels es c ends l)
+unfolding fillJumps
+fillJumps-append at labels [] e c ends l = rw (isLong-getD c, firstEnd-getD ends)
+fillJumps-append at labels (x ∷ es) e c ends l =
+    fillJumps-append at labels es e (others c) (otherEnds ends) _ ∙ rw (others-getD c (length es), otherEnds-getD ends (length es))
+
+-- the alignments after them fill nothing
+pool-fills-nothing : (at : ℕ → ℕ) (labels : List ℕ) (es : List LayoutEvent) (c : Choice) (ends l : List ℕ) (from : ℕ) (constants asked : List ℕ) (m : ℕ)
+    → fillJumps at labels (es ++ tables.entries (poolEvent from constants asked) m) c ends l ≡ fillJumps at labels es c ends l
+unfolding fillJump
+pool-fills-nothing at labels es c ends l from constants asked zero = rw (append-nil es)
+pool-fills-nothing at labels es c ends l from constants asked (suc m) =
+    let pool = tables.entries (poolEvent from constants asked) m in
+    ap (λ (xs : List LayoutEvent). fillJumps at labels xs c ends l) (sym (append-assoc es pool (poolEvent from constants asked m ∷ [])))
+    ∙ fillJumps-append at labels (es ++ pool) (poolEvent from constants asked m) c ends l
+    ∙ pool-fills-nothing at labels es c ends l from constants asked m
+
+-- one event
+jump-filled : (at : ℕ → ℕ) (labels recorded : List ℕ) (e : LayoutEvent) (long : Bool) (end : ℕ) (l : List ℕ)
+    → ((j : RelaxableJump) → e ≡ Jump j → wordAt labels (j .label) ≡ at (getD recorded (j .label) none))
+    → jumpFilled labels e long end l ≡ fillJump at recorded e long end l
+unfolding jumpFilled fillJump
+jump-filled at labels recorded (Jump j) long end l known = rw (known j refl)
+jump-filled at labels recorded (Align start len align) long end l known = refl
+
+-- the jumps of the table, where the table of labels holds new offsets
+table-filled : (output events labels recorded : List ℕ) (c : Choice) (rows : List (List ℕ)) (at : ℕ → ℕ) (ends : List ℕ) (n : ℕ)
+    → ((i : ℕ) → i < n → endAt rows i ≡ getD ends i 0)
+    → ((i : ℕ) (j : RelaxableJump) → i < n → eventAt events i ≡ Jump j → wordAt labels (j .label) ≡ at (getD recorded (j .label) none))
+    → jumpsFilled output events labels c rows n ≡ fillJumps at recorded (tables.entries (eventAt events) n) c ends output
+unfolding jumpsFilled fillJumps
+table-filled output events labels recorded c rows at ends zero same known = refl
+table-filled output events labels recorded c rows at ends (suc n) same known =
+    rw (table-filled output events labels recorded c rows at ends n (λ i h. same i (omega arith)) (λ i j h. known i j (omega arith)), same n (omega arith))
+    (jump-filled at labels recorded (eventAt events n) (getD c n false) (getD ends n 0) _ (λ j e. known n j (omega arith) e)
+    ∙ sym (fillJumps-append at recorded (tables.entries (eventAt events) n) (eventAt events n) c ends output ∙ rw (length-entries (eventAt events) n)))
+
+pub jumps-filled : (output events labels recorded constants asked : List ℕ) (c : Choice) (rows : List (List ℕ)) (at : ℕ → ℕ) (ends : List ℕ) (n from m : ℕ)
+    → ((i : ℕ) → i < n → endAt rows i ≡ getD ends i 0)
+    → ((i : ℕ) (j : RelaxableJump) → i < n → eventAt events i ≡ Jump j → wordAt labels (j .label) ≡ at (getD recorded (j .label) none))
+    → jumpsFilled output events labels c rows n
+    ≡ fillJumps at recorded (tables.entries (eventAt events) n ++ tables.entries (poolEvent from constants asked) m) c ends output
+jumps-filled output events labels recorded constants asked c rows at ends n from m same known =
+    table-filled output events labels recorded c rows at ends n same known
+    ∙ sym (pool-fills-nothing at recorded (tables.entries (eventAt events) n) c ends output from constants asked m)

@@ -1,0 +1,150 @@
+-- What a finish knows of a recording once 1 to 4 are past, and once its entries are checked.
+use mathlib.Core.Path.{_≡_, refl, sym, ap, _∙_}
+use mathlib.Core.Logic.{_≢_}
+use mathlib.Core.Bool.{Bool, true, false, not}
+use Prim.Native.Nat.{ℕ, _+_, _≤_, _<_}
+use native.Mathlib.Omega.{arith}
+use borrow.Author.Tests.{not-false, ltb-false}
+use lib.Dec.{ltb}
+use lib.ListN.{length, length-append}
+use Rattle.seqs.proofs.Picking.{pick-yes, pick-no, yes-eq, no-eq, yes-not, no-not, yes-lt, no-lt, passed, neither}
+use Rattle.words.specs.Words.{wordAt}
+use Rattle.buffer.specs.Refusals.{standing}
+use Rattle.buffer.proofs.Standing.{stands}
+use Rattle.recording.specs.Calls.{Recording}
+use Rattle.recording.specs.Sound.{CodeSound, Sound}
+use Rattle.recording.specs.View.{entries, view}
+use Rattle.recording.proofs.Views.{length-entries}
+use Rattle.fresh.specs.Pooled.{Pooled, pooledTo, pooled}
+use Rattle.pool.specs.Pool.{poolStart, poolBytes, poolBound, poolIsBound}
+use Rattle.pool.proofs.Pool.{length-poolBytes}
+use Rattle.checks.specs.Entries.{entriesFit}
+use Rattle.checks.specs.Handed.{CountsFit, tables}
+use Rattle.checks.proofs.Sound.{fits-sound, code-unread}
+use Rattle.finish.specs.Refusals.{countsFit, withinLimits, poolBoundBefore, whyUnfit}
+use Rattle.finish.specs.Tables.{tablesPooled}
+use Rattle.finish.specs.Ready.{pooledOf}
+use Rattle.finish.proofs.Counted.{Counted, counted}
+use Rattle.finish.proofs.Pooling.{Tied, pooledTo-tables}
+use Rattle.finish.proofs.Sounds.{code-length, tied}
+use Rattle.finish.proofs.Checked.{pool-bound}
+
+module _ (r : Recording) (segments output : ℕ) (stood : standing (r .buffer) (countsFit r) (withinLimits r segments output) ≡ 0) where
+  pub limits : Counted r segments output
+  limits =
+      let s = stands (r .buffer) (countsFit r) (withinLimits r segments output) stood in
+      counted r segments output (s .fits) (s .limited)
+
+  pub counts : CountsFit (r .buffer) (r .labels) (r .events) (r .uses) (r .refs) (r .constants) (r .asked) (r .relocs)
+  counts = record {
+    labels-room = omega (arith, limits .labels);
+    labels-limit = omega (arith, limits .labels, limits .labels-limit);
+    events-room = omega (arith, limits .events);
+    uses-room = omega (arith, limits .uses);
+    refs-room = omega (arith, limits .refs);
+    constants-room = omega (arith, limits .constants);
+    constants-limit = omega (arith, limits .constants, limits .constants-limit);
+    asked-room = omega (arith, limits .asked);
+    relocs-room = omega (arith, limits .relocs);
+  }
+
+  pub code-fits : CodeSound (r .code) (r .buffer .code)
+  code-fits = record { room = limits .code; limit = omega (arith, limits .code, limits .code-limit) }
+
+  pub asked-few : r .buffer .asked ≤ 65536
+  asked-few = omega (arith, limits .asked, limits .asked-limit)
+
+  module _ (fit : entriesFit r ≡ true) where
+    pub sound : Sound r
+    sound = fits-sound r code-fits counts fit
+
+    pub ties : Tied (view r) (r .labels) (r .constants) (r .asked) (r .buffer .labels) (r .buffer .asked)
+    ties = tied r sound asked-few
+
+    -- 13, as the table says it
+    pub bound-before : poolBoundBefore (view r) ≡ poolIsBound (r .labels) (r .constants) (r .asked) (r .buffer .asked)
+    bound-before =
+        pool-bound (view r) (r .labels) (r .constants) (r .asked) (r .buffer .labels) (r .buffer .constants) (r .buffer .asked) refl refl refl
+        (λ j h. sound .asked .listed j h .0) (ties .known)
+
+    -- the pooled recording, once the pool's labels are bound in the table
+    pub pooled-is : pooled (r .buffer .arch) (view r)
+        ≡ pooledOf (r .buffer) (r .code) (poolBound (r .buffer .code) (r .labels) (r .constants) (r .asked) (r .buffer .asked)) (r .events) (r .uses) (r .refs)
+        (r .constants) (r .asked)
+    pooled-is =
+        ap (pooledTo (r .buffer .arch) (view r)) (length-entries (wordAt (r .asked)) (r .buffer .asked))
+        ∙ pooledTo-tables (r .buffer .arch) (view r) (r .labels) (r .constants) (r .asked) (r .buffer .labels) (r .buffer .asked) ties
+        ∙ ap
+        (λ (from : ℕ).
+        tablesPooled (r .buffer .arch) from (view r .code) (entries (wordAt (poolBound from (r .labels) (r .constants) (r .asked) (r .buffer .asked))) (r .buffer .labels))
+        (view r .events) (view r .uses) (view r .refs) (r .constants) (r .asked) (r .buffer .asked))
+        (code-length r sound asked-few)
+
+    -- 14, as the tables say it
+    pub pooled-ends : length (pooled (r .buffer .arch) (view r) .code) ≡ poolStart (r .buffer .code) (r .constants) (r .asked) (r .buffer .asked)
+    pooled-ends =
+        ap (λ (p : Pooled). length (p .code)) pooled-is
+        ∙ length-append (view r .code) (poolBytes (r .buffer .arch) (r .buffer .code) (r .constants) (r .asked) (r .buffer .asked))
+        ∙ ap (λ (k : ℕ). k + length (poolBytes (r .buffer .arch) (r .buffer .code) (r .constants) (r .asked) (r .buffer .asked))) (code-length r sound asked-few)
+        ∙ length-poolBytes (r .buffer .arch) (r .buffer .code) (r .constants) (r .asked) (r .buffer .asked)
+
+-- the entries are judged by their tables alone
+pub entries-read : (r : Recording) (x t : Bool) → x ≡ entriesFit (tables (r .buffer) (r .labels) (r .events) (r .uses) (r .refs) (r .constants) (r .asked) (r .relocs)) → x ≡ t
+    → entriesFit r ≡ t
+entries-read r x t e f = sym (code-unread r) ∙ sym e ∙ f
+
+-- The answers of what finish asks first.
+module _ (r : Recording) (segments output : ℕ) where
+  pub unfit-standing : (why : ℕ) → why ≡ standing (r .buffer) (countsFit r) (withinLimits r segments output) → why ≢ 0 → why ≡ whyUnfit r segments output
+  unfolding whyUnfit
+  unfit-standing why e ne = rw (← e) (sym (no-eq why 0 _ _ ne))
+
+  module _ (stood : standing (r .buffer) (countsFit r) (withinLimits r segments output) ≡ 0) where
+    pub unfit-entries : entriesFit r ≡ false → 1 ≡ whyUnfit r segments output
+    unfolding whyUnfit
+    unfit-entries e = sym (yes-eq _ 0 _ _ stood ∙ yes-not (entriesFit r) 1 _ e)
+
+    module _ (fit : entriesFit r ≡ true) where
+      pub unfit-bound : poolIsBound (r .labels) (r .constants) (r .asked) (r .buffer .asked) ≡ true → 13 ≡ whyUnfit r segments output
+      unfolding whyUnfit
+      unfit-bound e =
+          sym (yes-eq _ 0 _ _ stood ∙ no-not (entriesFit r) 1 _ fit ∙ pick-yes (poolBoundBefore (view r)) 13 _ (bound-before r segments output stood fit ∙ e))
+
+      module _ (free : poolIsBound (r .labels) (r .constants) (r .asked) (r .buffer .asked) ≡ false) where
+        pub unfit-long : 16777216 < poolStart (r .buffer .code) (r .constants) (r .asked) (r .buffer .asked) → 14 ≡ whyUnfit r segments output
+        unfolding whyUnfit
+        unfit-long h =
+            sym (yes-eq _ 0 _ _ stood
+            ∙ no-not (entriesFit r) 1 _ fit
+            ∙ pick-no (poolBoundBefore (view r)) 13 _ (bound-before r segments output stood fit ∙ free)
+            ∙ yes-lt 16777216 (length (pooled (r .buffer .arch) (view r) .code)) 14 0 (omega (arith, h, pooled-ends r segments output stood fit)))
+
+        pub unfit-none : poolStart (r .buffer .code) (r .constants) (r .asked) (r .buffer .asked) ≤ 16777216 → 0 ≡ whyUnfit r segments output
+        unfolding whyUnfit
+        unfit-none h =
+            sym (yes-eq _ 0 _ _ stood
+            ∙ no-not (entriesFit r) 1 _ fit
+            ∙ pick-no (poolBoundBefore (view r)) 13 _ (bound-before r segments output stood fit ∙ free)
+            ∙ no-lt 16777216 (length (pooled (r .buffer .arch) (view r) .code)) 14 0 (omega (arith, h, pooled-ends r segments output stood fit)))
+
+-- What a recording that passes knows.
+pub record Passed (r : Recording) (segments output : ℕ) : Type 0 where
+  pub stood : standing (r .buffer) (countsFit r) (withinLimits r segments output) ≡ 0
+  pub fit : entriesFit r ≡ true
+  pub free : poolIsBound (r .labels) (r .constants) (r .asked) (r .buffer .asked) ≡ false
+  pub short : poolStart (r .buffer .code) (r .constants) (r .asked) (r .buffer .asked) ≤ 16777216
+
+pub passed-unfit : (r : Recording) (segments output : ℕ) → whyUnfit r segments output ≡ 0 → Passed r segments output
+unfolding whyUnfit
+passed-unfit r segments output h =
+    let a = neither (standing (r .buffer) (countsFit r) (withinLimits r segments output)) _ h in
+    let b = passed (not (entriesFit r)) 1 _ (λ e. omega arith) (a .1) in
+    let fit = not-false (entriesFit r) (b .0) in
+    let d = passed (poolBoundBefore (view r)) 13 _ (λ e. omega arith) (b .1) in
+    let e = passed (ltb 16777216 (length (pooled (r .buffer .arch) (view r) .code))) 14 0 (λ e. omega arith) (d .1) in
+    record {
+      stood = a .0;
+      fit = fit;
+      free = sym (bound-before r segments output (a .0) fit) ∙ d .0;
+      short = omega (arith, ltb-false 16777216 (length (pooled (r .buffer .arch) (view r) .code)) (e .0), pooled-ends r segments output (a .0) fit);
+    }

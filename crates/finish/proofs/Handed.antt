@@ -1,0 +1,389 @@
+-- What the calls of a relaxed finish are handed, from the entries that are checked and the layout that the rounds leave.
+use mathlib.Core.Path.{_≡_, refl, sym, ap, _∙_, subst}
+use mathlib.Core.Logic.{_≢_, ⊎-elim, inl, inr}
+use mathlib.Core.Bool.{Bool, true, false}
+use mathlib.Core.List.{List, [], _∷_, _++_, map}
+use Prim.Native.Nat.{ℕ, zero, suc, _+_, _-_, _*_, _≤_, _<_}
+use native.Mathlib.Omega.{arith}
+use lib.ListN.{length, getD, take, List·getD-append}
+use lib.Seq.{length-take-le, take-take}
+use borrow.Author.Tests.{ne-eqb}
+use Rattle.seqs.specs.Over.{over}
+use Rattle.seqs.proofs.Overwrites.{take-over-end}
+use Rattle.words.specs.Words.{wordAt}
+use Rattle.fields.specs.declared.Decoded.{Decoded}
+use Rattle.fields.specs.declared.Decoded.the-variants.{Use, Unsupported, Unknown}
+use Rattle.fields.specs.Kinds.{decoded}
+use Rattle.relax.specs.declared.LayoutEvent.{LayoutEvent}
+use Rattle.relax.specs.declared.LayoutEvent.the-variants.{Jump, Align}
+use Rattle.relax.specs.declared.RelaxableJump.{RelaxableJump}
+use Rattle.relax.specs.declared.Segment.{Segment}
+use Rattle.relax.specs.Events.{eventAt, endOf}
+use Rattle.buffer.specs.State.{none}
+use Rattle.recording.specs.Sound.{FormOf, RefsSound}
+use Rattle.recording.specs.View as tables
+use Rattle.recording.proofs.Views.{length-entries, getD-entries}
+use Rattle.fresh.specs.Pooled.{Pooled}
+use Rattle.fresh.specs.Fresh.{Choice, isLong, others}
+use Rattle.fresh.specs.Segments.{segment, segments, decided, mapOffset, segmentsOf}
+use Rattle.fresh.specs.Fill.{displacementSize}
+use Rattle.fresh.proofs.Shape.{Apart, Ordered, RefsLie, PoolLies, WellFormed, runs}
+use Rattle.fresh.proofs.Segments.{placed-runs, length-placed}
+use Rattle.fresh.proofs.Loops.{length-runs}
+use Rattle.fresh.proofs.Within.{displacement-fits, mapped-within, newEnds-within}
+use Rattle.pool.specs.Pool.{labelAt, bytesAt, poolStart, poolOffset, poolEvent, PoolRoom}
+use Rattle.pool.proofs.Pool.{from-poolStart, poolStart-bound, poolOffset-bound}
+use Rattle.layout.specs.Layout.{rowOf, segmentOf, tableOf, rowsFrom, allEvents, finishedLength, Recorded, Rising, Labelled}
+use Rattle.layout.proofs.Pooling.{all-ordered, all-modest, length-all}
+use Rattle.layout.proofs.Turns.{length-rows}
+use Rattle.layout.proofs.Rows.{segments-rows, table-laid, rising-laid}
+use Rattle.emit.specs.Emit.{Within, endAt, JumpWithin, RefsFit, RefsKnown, JumpsFit, WordsFit}
+use Rattle.checks.specs.Fields.{sizeOf, refsClear}
+use Rattle.checks.specs.Handed.{useLabel, refLabel, Named, JumpsNamed, TargetsNamed}
+use Rattle.finish.specs.Refusals.{every, refClear}
+use Rattle.finish.specs.Tables.{tablesPooled}
+use Rattle.finish.specs.Ready.{Ready, Entered, Clearing, Writing, endOfRuns}
+use Rattle.finish.proofs.Formed.{recorded-ordered, recorded-modest, recorded-writes, jump-label, offset-lies, every-at, ref-apart, constant-size, pooled-length, well-formed, pool-apart}
+use Rattle.finish.proofs.Checked.{refs-clear}
+use Rattle.finish.proofs.Written.{any·ref, end-row}
+use Rattle.finish.proofs.Emission.{PoolRuns, pool-runs}
+
+-- the events as a layout is handed them
+pub recorded : (code labels events constants asked : List ℕ) (arch len count n m : ℕ) → Ready code labels events constants asked arch len count n m → Recorded events n len
+recorded code labels events constants asked arch len count n m ready =
+    record {
+      room = omega (arith, ready .recorded .room);
+      ordered = recorded-ordered events n count len arch (ready .recorded);
+      modest = recorded-modest events n count len arch (ready .recorded);
+      small = ready .bytes .limit;
+    }
+
+-- the segments of the first events are the first of the segments
+take-segments : (xs ys : List LayoutEvent) (o n : ℕ) (c : Choice) → take (length xs) (segments o n (xs ++ ys) c) ≡ segments o n xs c
+unfolding segments
+take-segments [] ys o n c = refl
+take-segments (x ∷ xs) ys o n c = ap (λ l. segment o n x (isLong c) ∷ l) (take-segments xs ys (endOf x) ((segment o n x (isLong c)) .«new_end») (others c))
+
+take-map : {A B : Type 0} (g : A → B) (k : ℕ) (xs : List A) → take k (map g xs) ≡ map g (take k xs)
+take-map g zero xs = refl
+take-map g (suc k) [] = refl
+take-map g (suc k) (x ∷ xs) = ap (λ l. g x ∷ l) (take-map g k xs)
+
+module _ (code labels events constants asked : List ℕ) (len count n m : ℕ) (ready : Ready code labels events constants asked 2 len count n m)
+    (before rows : List (List ℕ)) (c : Choice) (laid : rows ≡ over before 0 (rowsFrom 0 0 (allEvents events n len constants asked m) c))
+    (few : n + m ≤ 65536) (room : n + m ≤ length before) where
+  abbrev es : List LayoutEvent
+  es = allEvents events n len constants asked m
+
+  long-es : length es ≡ n + m
+  long-es = length-all events n len constants asked m
+
+  rec : Recorded events n len
+  rec = recorded code labels events constants asked 2 len count n m ready
+
+  pub rising-all : Rising rows (n + m)
+  rising-all =
+      subst (λ (k : ℕ). Rising rows k) long-es
+      (rising-laid before rows es c laid (omega (arith, long-es)) (poolStart len constants asked m) (all-ordered events n len constants asked rec m)
+      (all-modest events n len constants asked rec m)
+      (omega (arith, ready .bytes .limit, ready .pool .few, poolStart-bound len constants asked m (ready .pool) m (omega arith)))
+      (omega (arith, long-es)))
+
+  pub rising : Rising rows n
+  rising = record {
+    fits = omega (arith, rising-all .fits);
+    rises = λ i j h k. rising-all .rises i j h (omega arith);
+    small = λ i h. rising-all .small i (omega arith);
+  }
+
+  pub table-all : tableOf rows (n + m) ≡ segments 0 0 es c
+  table-all = rw (← long-es) (table-laid before rows es c laid (omega (arith, long-es)))
+
+  first-rows : take n rows ≡ rowsFrom 0 0 (tables.entries (eventAt events) n) c
+  first-rows =
+      let e : 0 + length (rowsFrom 0 0 es c) ≡ n + m = omega (arith, length-rows es 0 0 c, long-es) in
+      sym (take-take n (n + m) rows (omega arith))
+      ∙ ap (take n) (rw (laid, ← e) (take-over-end before 0 (rowsFrom 0 0 es c) (omega (arith, e))))
+      ∙ take-map rowOf n (segments 0 0 es c)
+      ∙ ap (map rowOf)
+      (ap (λ (k : ℕ). take k (segments 0 0 es c)) (sym (length-entries (eventAt events) n))
+      ∙ take-segments (tables.entries (eventAt events) n) (tables.entries (poolEvent len constants asked) m) 0 0 c)
+
+  pub table-first : tableOf rows n ≡ segments 0 0 (tables.entries (eventAt events) n) c
+  table-first = ap (map segmentOf) first-rows ∙ segments-rows (segments 0 0 (tables.entries (eventAt events) n) c)
+
+  -- where the recorded code ends
+  abbrev to : ℕ
+  to = length (runs 0 0 (take len code) (tables.entries (eventAt events) n) c)
+
+  size : length (take len code) ≡ len
+  size = length-take-le len code (ready .bytes .room)
+
+  first-ordered : Ordered 0 (length (take len code)) (tables.entries (eventAt events) n)
+  first-ordered = rw size (recorded-ordered events n count len 2 (ready .recorded))
+
+  -- the recorded code alone, in good order
+  alone : Pooled
+  alone = record { code = take len code; events = tables.entries (eventAt events) n; labels = []; uses = []; refs = []; pool = [] }
+
+  alone-formed : WellFormed alone
+  unfolding alone RefsLie PoolLies
+  alone-formed = record { ordered = first-ordered; landed = λ l bound. absurd (bound refl); fields = tt; constants = tt }
+
+  pub end-mapped : mapOffset (tableOf rows n) len ≡ to
+  unfolding alone mapOffset
+  end-mapped =
+      rw table-first
+      (rw (ne-eqb len none (λ e. omega (arith, ready .bytes .limit)), mapOffset)
+      (ap (λ (k : ℕ). decided (segments 0 0 (tables.entries (eventAt events) n) c) k k) (sym size)
+      ∙ sym (length-placed alone c alone-formed)
+      ∙ ap length (placed-runs alone c alone-formed)))
+
+  -- the finished length, and the pool within it
+  pooled-runs : PoolRuns (take len code) (tables.entries (eventAt events) n) constants asked c m len to
+  pooled-runs = pool-runs (take len code) (tables.entries (eventAt events) n) constants asked c len to (sym size) first-ordered refl m
+
+  pub pool-ends : poolStart to constants asked m ≡ finishedLength es c (poolStart len constants asked m)
+  pool-ends = sym (pooled-runs .here)
+
+-- a bound label's offset is small
+pub landed-small : (code labels events constants asked : List ℕ) (arch len count n m : ℕ) (ready : Ready code labels events constants asked arch len count n m)
+    → (l : ℕ) → l < count → wordAt labels l ≢ none → wordAt labels l ≤ 22000000
+landed-small code labels events constants asked arch len count n m ready l h bound =
+    omega (
+      arith,
+      offset-lies code labels events constants asked arch len count n m ready (allEvents events n len constants asked m) refl (wordAt labels l) (ready .landed l h) bound .0,
+      ready .bytes .limit,
+      ready .pool .few,
+      poolStart-bound len constants asked m (ready .pool) m (omega arith),
+    )
+
+module _ (code labels events constants asked : List ℕ) (arch len count n m : ℕ) (ready : Ready code labels events constants asked arch len count n m) where
+  abbrev ends : ℕ
+  ends = poolStart len constants asked m
+
+  pub end-small : poolStart len constants asked m ≤ 22000000
+  end-small = omega (arith, ready .bytes .limit, ready .pool .few, poolStart-bound len constants asked m (ready .pool) m (omega arith))
+
+  -- the jumps' labels, for the rounds
+  pub labelled : Labelled events labels n
+  labelled = record {
+    known = λ i h. record {
+      room = λ j e. omega (arith, jump-label events n count len arch (ready .recorded) i j h e, ready .room);
+      small = λ j e bound.
+          omega (arith, landed-small code labels events constants asked arch len count n m ready (j .label) (jump-label events n count len arch (ready .recorded) i j h e) bound);
+    };
+  }
+
+  -- the events and the pool, for 17
+  pub clearing : (refs : List ℕ) (f end : ℕ) → f * 16 ≤ length refs → n ≤ 65536 → end ≡ poolStart len constants asked m
+      → Clearing refs events labels constants asked f n m len end
+  clearing refs f end room few e = record {
+    refs-room = room;
+    events-room = omega (arith, ready .recorded .room);
+    few = few;
+    pool-few = ready .pool .few;
+    ends = e;
+    ordered = record {
+      forward = λ j h. omega arith;
+      order = λ i j h k. ready .recorded .entry j k .follows i h;
+    };
+    placed = record {
+      room = ready .pool .room;
+      listed = ready .pool .listed;
+      known = ready .named .known;
+      stands = ready .stands;
+    };
+  }
+
+  -- the table of labels, whose offsets are mapped
+  pub labels-fit : WordsFit labels 1 count
+  labels-fit = record {
+    some = omega arith;
+    entry = λ i h. omega (arith, ready .room);
+    recorded = λ i h bound.
+        let e : i * 1 ≡ i = omega arith in
+        rw e (omega (arith, landed-small code labels events constants asked arch len count n m ready i h (λ z. bound (rw e z))));
+  }
+
+pub within-size : (d : Decoded) (offset room : ℕ) → offset + sizeOf d ≤ room → Within d offset room
+within-size (Use k) offset room h = h
+within-size Unsupported offset room h = tt
+within-size Unknown offset room h = tt
+
+jump-within : (e : LayoutEvent) (long : Bool) (end : ℕ) (labels : List ℕ) (room : ℕ)
+    → ((j : RelaxableJump) → e ≡ Jump j → (j .label * 4 + 4 ≤ length labels) × (displacementSize long ≤ end) × (end ≤ room)) → JumpWithin e long end labels room
+jump-within (Jump j) long end labels room h = h j refl
+jump-within (Align start len align) long end labels room h = tt
+
+module _ (code labels events constants asked refs : List ℕ) (len count n m f : ℕ) (ready : Ready code labels events constants asked 2 len count n m)
+    (referred : RefsSound refs f 2 count) (clear : refsClear refs f events n len constants asked m ≡ true) where
+  abbrev pooled·of : List tables.Use → Pooled
+  pooled·of us =
+      tablesPooled 2 len (take len code) (tables.entries (wordAt labels) count) (tables.entries (eventAt events) n) us (tables.entries (tables.refAt refs) f) constants asked m
+
+  pub clear-all : (us : List tables.Use) → every (refClear (pooled·of us)) (tables.entries (tables.refAt refs) f) ≡ true
+  clear-all us =
+      refs-clear (pooled·of us) refs events constants asked f n m len refl refl
+      (pooled-length code labels events constants asked len count n m ready us (tables.entries (tables.refAt refs) f))
+      ∙ clear
+
+  pub formed : (us : List tables.Use) → WellFormed (pooled·of us)
+  formed us = well-formed code labels events constants asked len count n m ready us (tables.entries (tables.refAt refs) f) (clear-all us)
+
+  pub ref-beside : (us : List tables.Use) (i : ℕ) → i < f → Apart (pooled·of us) (wordAt refs (i * 4)) (sizeOf (decoded (wordAt refs (i * 4 + 2))))
+  ref-beside us i h =
+      let k : i < length (tables.entries (tables.refAt refs) f) = omega (arith, length-entries (tables.refAt refs) f) in
+      let e = getD-entries (tables.refAt refs) f i any·ref h in
+      subst (λ (x : tables.Ref). Apart (pooled·of us) (x .offset) (sizeOf (decoded (x .code)))) e
+      (ref-apart (pooled·of us) (getD (tables.entries (tables.refAt refs) f) i any·ref)
+      (every-at (refClear (pooled·of us)) (tables.entries (tables.refAt refs) f) any·ref (clear-all us) i k))
+
+  ref-small : (i : ℕ) → i < f → wordAt refs (i * 4) ≤ 22000000
+  ref-small i h =
+      omega (
+        arith,
+        ref-beside [] i h .0,
+        pooled-length code labels events constants asked len count n m ready [] (tables.entries (tables.refAt refs) f),
+        end-small code labels events constants asked 2 len count n m ready,
+      )
+
+  -- the refs, for 18
+  pub refs-known : RefsKnown refs labels f
+  refs-known = record {
+    each = λ i h. record {
+      entry = omega (arith, referred .room);
+      known = omega (arith, referred .entry i h .label, ready .room);
+      recorded = λ bound. omega (arith, ref-small i h);
+      bound = λ bound. omega (arith, landed-small code labels events constants asked 2 len count n m ready (wordAt refs (i * 4 + 1)) (referred .entry i h .label) bound);
+    };
+  }
+
+  module _ (before rows : List (List ℕ)) (c : Choice) (laid : rows ≡ over before 0 (rowsFrom 0 0 (allEvents events n len constants asked m) c))
+      (few : n + m ≤ 65536) (room : n + m ≤ length before) (chosen : length c ≡ n + m) (final output : List ℕ)
+      (moved : (l : ℕ) → l < count → wordAt final l ≡ mapOffset (tableOf rows (n + m)) (wordAt labels l)) (same : length final ≡ length labels)
+      (fits : finishedLength (allEvents events n len constants asked m) c (poolStart len constants asked m) ≤ length output) (limit : length output ≤ 16777216) where
+    abbrev p : Pooled
+    p = pooled·of []
+
+    -- the code is as long as the layout says
+    length-all-runs : length (runs 0 0 (p .code) (p .events) c) ≤ length output
+    length-all-runs =
+        omega (
+          arith,
+          length-runs (p .events) 0 0 (p .code) c (formed [] .ordered),
+          pooled-length code labels events constants asked len count n m ready [] (tables.entries (tables.refAt refs) f),
+          fits,
+        )
+
+    table : tableOf rows (n + m) ≡ segmentsOf p c
+    table = table-all code labels events constants asked len count n m ready before rows c laid few room
+
+    refs-fit : RefsFit (length output) refs final rows (n + m) f
+    refs-fit = record {
+      each = λ i h. record {
+        entry = omega (arith, referred .room);
+        known = omega (arith, same, referred .entry i h .label, ready .room);
+        recorded = λ bound. omega (arith, ref-small i h);
+        within =
+            within-size (decoded (wordAt refs (i * 4 + 2))) (mapOffset (tableOf rows (n + m)) (wordAt refs (i * 4))) (length output)
+            (omega (
+              arith,
+              ap (λ (ss : List Segment). mapOffset ss (wordAt refs (i * 4))) table,
+              mapped-within p c (formed []) (wordAt refs (i * 4)) (sizeOf (decoded (wordAt refs (i * 4 + 2)))) (omega (arith, ref-small i h)) (ref-beside [] i h),
+              length-all-runs,
+            ));
+      };
+    }
+
+    jumps-fit : JumpsFit (length output) events final c rows n
+    jumps-fit = record {
+      each = λ i h. record {
+        entry = omega (arith, ready .recorded .room);
+        chosen = omega (arith, chosen);
+        laid = omega (arith, rising-all code labels events constants asked len count n m ready before rows c laid few room .fits);
+        within =
+            jump-within (eventAt events i) (getD c i false) (endAt rows i) final (length output)
+            (λ j e.
+            let at = end-row rows (segmentsOf p c) (n + m) i (omega arith) table in
+            let is = List·getD-append (tables.entries (eventAt events) n) (tables.entries (poolEvent len constants asked) m) (Align 0 0 0) i (omega (arith, length-entries (eventAt events) n)) ∙ getD-entries (eventAt events) n i (Align 0 0 0) h ∙ e in (
+              omega (arith, same, jump-label events n count len 2 (ready .recorded) i j h e, ready .room),
+              omega (arith, at, displacement-fits (p .events) 0 0 c i j (omega (arith, length-all events n len constants asked m)) is),
+              omega (arith, at, newEnds-within p c (formed []) i, length-all-runs),
+            ));
+      };
+    }
+
+    pool-room : PoolRoom output final constants asked m
+    pool-room = record {
+      within = λ j h.
+          omega (
+            arith,
+            moved (labelAt constants asked j) (ready .owned j h),
+            ap (mapOffset (tableOf rows (n + m))) (ready .stands j h),
+            ap (λ (ss : List Segment). mapOffset ss (poolOffset len constants asked j)) table,
+            mapped-within p c (formed []) (poolOffset len constants asked j) (length (bytesAt constants asked j))
+                (omega (arith, ready .bytes .limit, ready .pool .few, poolOffset-bound len constants asked m (ready .pool) j h))
+                (pool-apart code labels events constants asked len count n m ready [] (tables.entries (tables.refAt refs) f) j h),
+            constant-size constants asked m (ready .pool) j h,
+            length-all-runs,
+          );
+    }
+
+    to-fits : endOfRuns code events c len n ≤ length output
+    to-fits =
+        omega (
+          arith,
+          from-poolStart (endOfRuns code events c len n) constants asked m,
+          pool-ends code labels events constants asked len count n m ready before rows c laid few room,
+          fits,
+        )
+
+    -- What a relaxed finish writes the code from.
+    pub writing : Writing output code final events refs constants asked c rows len n m f (endOfRuns code events c len n)
+    writing = record {
+      small = ready .bytes .limit;
+      rising = rising code labels events constants asked len count n m ready before rows c laid few room;
+      rising-all = rising-all code labels events constants asked len count n m ready before rows c laid few room;
+      emits = record {
+        recorded = omega (arith, ready .recorded .room);
+        chosen = omega (arith, chosen);
+        laid = first-rows code labels events constants asked len count n m ready before rows c laid few room;
+        ordered = recorded-ordered events n count len 2 (ready .recorded);
+        coded = ready .bytes .room;
+        writes = recorded-writes events n count len 2 (ready .recorded);
+        room = to-fits;
+      };
+      ends = end-mapped code labels events constants asked len count n m ready before rows c laid few room;
+      near = omega (arith, to-fits, limit);
+      pool = ready .pool;
+      pooled = rw (pool-ends code labels events constants asked len count n m ready before rows c laid few room) fits;
+      filled = refs-fit;
+      jumped = jumps-fit;
+      named = record { known = λ j h. omega (arith, same, ready .named .known j h) };
+      written = pool-room;
+    }
+
+pub kind-label : (labels kind start len what cc : ℕ) → FormOf labels kind start len what cc → kind ≡ 1 → what < labels
+kind-label labels kind start len what cc (inl j) k = j .3
+kind-label labels kind start len what cc (inr a) k = absurd (omega (arith, a .0, k))
+
+-- the labels that entries name lie in the table of labels
+module _ (labels events uses refs relocs : List ℕ) (arch symbols len count n u f l : ℕ) (e : Entered labels events uses refs relocs arch symbols len count n u f l) where
+  pub uses-named : Named (useLabel uses) u labels
+  uses-named = record { known = λ i h. omega (arith, e .used .entry i h .label, e .room) }
+
+  pub refs-named : Named (refLabel refs) f labels
+  refs-named = record { known = λ i h. omega (arith, e .referred .entry i h .label, e .room) }
+
+  pub targets-named : TargetsNamed relocs l labels
+  targets-named = record {
+    known = λ i h ge.
+        ⊎-elim
+        (λ (a : (wordAt relocs (i * 6 + 2) < 2147483648) × (wordAt relocs (i * 6 + 2) < symbols)). absurd (omega (arith, a .0, ge)))
+        (λ (b : (2147483648 ≤ wordAt relocs (i * 6 + 2)) × (wordAt relocs (i * 6 + 2) < 2147483648 + count)). omega (arith, b .1, ge, e .room))
+        (e .relocated .entry i h .target);
+  }
+
+  pub jumps-named : JumpsNamed events n labels
+  jumps-named = record { known = λ i h k. omega (arith, kind-label count _ _ _ _ _ (e .recorded .entry i h .form) k, e .room) }

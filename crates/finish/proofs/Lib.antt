@@ -1,0 +1,14 @@
+pub mod Pooling
+pub mod Sounds
+pub mod Checked
+pub mod Formed
+pub mod Filled
+pub mod Mapped
+pub mod Emission
+pub mod Written
+pub mod Counted
+pub mod Handed
+pub mod Stages
+pub mod Placing
+pub mod Fit
+pub mod Finishing

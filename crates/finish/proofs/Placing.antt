@@ -1,0 +1,143 @@
+-- With or without a jump: what is answered and left once the pool's labels are bound.
+use mathlib.Core.Path.{_≡_, refl, sym, ap, _∙_, subst}
+use mathlib.Core.Logic.{_⊎_, ⊎-elim}
+use mathlib.Core.Bool.{Bool, true, false, _&&_, cond}
+use mathlib.Core.List.{List, [], _++_}
+use Prim.Native.Nat.{ℕ, _+_, _-_, _*_, _≤_, _<_}
+use native.Mathlib.Omega.{arith}
+use lib.Dec.{eqb}
+use lib.ListN.{length, take}
+use Rattle.seqs.specs.Pick.{pick}
+use Rattle.seqs.proofs.Booleans.{true-is-not-false}
+use Rattle.seqs.proofs.Picking.{pick-yes, pick-no}
+use Rattle.words.specs.Words.{wordAt}
+use Rattle.relax.specs.declared.LayoutEvent.{LayoutEvent}
+use Rattle.relax.specs.Events.{eventAt}
+use Rattle.buffer.specs.declared.CodeBuffer.{CodeBuffer}
+use Rattle.recording.specs.Sound.{RefsSound}
+use Rattle.recording.specs.View as tables
+use Rattle.fresh.specs.Pooled.{Pooled}
+use Rattle.pool.specs.Pool.{poolEvent}
+use Rattle.emit.specs.Emit.{WordsFit}
+use Rattle.checks.specs.Entries.{all}
+use Rattle.checks.specs.Fields as checked
+use Rattle.finish.specs.declared.Placed.{Placed}
+use Rattle.finish.specs.Refusals.{allBound, hasJump, whyNotInPlace}
+use Rattle.finish.specs.Finish.{Left, refusedWith, relaxed, unrelaxed}
+use Rattle.finish.specs.Tables.{tablesPooled}
+use Rattle.finish.specs.Ready.{Ready, Relaxable, Keepable, kept, Placeable, pooledOf, placedAs}
+use Rattle.finish.proofs.Checked.{uses-bound, refs-bound, relocs-bound, jumps-bound, has-jump}
+use Rattle.finish.proofs.Handed.{kind-label}
+
+no-entries : {A : Type 0} (f : ℕ → A) (t : Bool) (n : ℕ) → cond t (tables.entries f n) [] ≡ tables.entries f (cond t n 0)
+no-entries f true n = refl
+no-entries f false n = refl
+
+-- what is kept, beside what is left alone
+abbrev beside : List ℕ → List ℕ → List (List ℕ) → Placed × List ℕ → Placed × Left
+beside labels relocs rows x = (x .0, (labels, (relocs, (rows, x .1))))
+
+pick-beside : (labels relocs : List ℕ) (rows : List (List ℕ)) (t : Bool) (x y : Placed × List ℕ)
+    → beside labels relocs rows (pick t x y) ≡ pick t (beside labels relocs rows x) (beside labels relocs rows y)
+unfolding pick
+pick-beside labels relocs rows true x y = refl
+pick-beside labels relocs rows false x y = refl
+
+kept-beside : (p : Pooled) (labels relocs : List ℕ) (rows : List (List ℕ)) (output left : List ℕ) (r : Placed) → (r, left) ≡ kept p output
+    → beside labels relocs rows (r, left) ≡ unrelaxed p labels relocs rows output
+unfolding kept unrelaxed
+kept-beside p labels relocs rows output left r e =
+    ap (beside labels relocs rows) e ∙ pick-beside labels relocs rows (eqb (whyNotInPlace p (length output)) 0) _ _
+
+module _ (b : CodeBuffer) (code labels events uses refs constants asked relocs output : List ℕ) (rows : List (List ℕ))
+    (x : Placeable b code labels events uses refs constants asked relocs output (length rows)) where
+  abbrev p : Pooled
+  p = pooledOf b code labels events uses refs constants asked
+
+  events-are : p .events ≡ tables.entries (eventAt events) (b .events) ++ tables.entries (poolEvent (b .code) constants asked) (cond (eqb (b .arch) 2) (b .asked) 0)
+  events-are = ap (λ (l : List LayoutEvent). tables.entries (eventAt events) (b .events) ++ l) (no-entries (poolEvent (b .code) constants asked) (eqb (b .arch) 2) (b .asked))
+
+  bound-is : allBound p (tables.entries (tables.relocAt relocs) (b .relocs))
+      ≡ (checked.usesBound uses (b .uses) labels
+      && (checked.relocsBound relocs (b .relocs) labels && (checked.refsBound refs (b .refs) labels && checked.jumpsBound events (b .events) labels)))
+  unfolding allBound
+  bound-is =
+      rw (
+        uses-bound p labels uses (b .labels) (b .uses) refl refl (λ i h. x .entered .used .entry i h .label),
+        relocs-bound p labels relocs (b .labels) (b .relocs) refl
+            (λ i h ge.
+            ⊎-elim
+            (λ (a : (wordAt relocs (i * 6 + 2) < 2147483648) × (wordAt relocs (i * 6 + 2) < b .symbols)). absurd (omega (arith, a .0, ge)))
+            (λ (k : (2147483648 ≤ wordAt relocs (i * 6 + 2)) × (wordAt relocs (i * 6 + 2) < 2147483648 + b .labels)). omega (arith, k .1, ge))
+            (x .entered .relocated .entry i h .target)),
+        refs-bound p labels refs (b .labels) (b .refs) refl refl (λ i h. x .entered .referred .entry i h .label),
+        jumps-bound p labels events constants asked (b .labels) (b .code) (b .events) (cond (eqb (b .arch) 2) (b .asked) 0) refl events-are
+            (λ i h e. kind-label (b .labels) _ _ _ _ _ (x .entered .recorded .entry i h .form) e),
+      )
+
+  jump-is : hasJump p ≡ checked.hasJump events (b .events)
+  jump-is = has-jump p events constants asked (b .code) (b .events) (cond (eqb (b .arch) 2) (b .asked) 0) events-are
+
+  -- only X64 keeps events
+  arch-is : checked.hasJump events (b .events) ≡ true → b .arch ≡ 2
+  unfolding checked.hasJump all
+  arch-is h =
+      ⊎-elim
+      (λ (e : b .arch ≡ 2). e)
+      (λ (e : b .events ≡ 0).
+      absurd (true-is-not-false (sym h ∙ ap (λ (k : ℕ). checked.hasJump events k) e)))
+      (x .ready .recorded .tracked)
+
+  relocs-fit : WordsFit relocs 6 (b .relocs)
+  relocs-fit = record {
+    some = omega arith;
+    entry = λ i h. omega (arith, x .entered .relocated .room);
+    recorded = λ i h bound. omega (arith, x .entered .relocated .entry i h .offset);
+  }
+
+  pub relaxable : checked.hasJump events (b .events) ≡ true
+      → Relaxable code labels events refs constants asked relocs output (length rows) (b .code) (b .labels) (b .events) (b .asked) (b .refs) (b .relocs)
+  relaxable h = record {
+    ready = subst (λ (a : ℕ). Ready code labels events constants asked a (b .code) (b .labels) (b .events) (b .asked)) (arch-is h) (x .ready);
+    referred = subst (λ (a : ℕ). RefsSound refs (b .refs) a (b .labels)) (arch-is h) (x .entered .referred);
+    moved = relocs-fit;
+    few = x .few;
+    segments-limit = x .segments-limit;
+    output-limit = x .output-limit;
+  }
+
+  pub keepable : Keepable code labels uses constants asked (b .code) (b .labels) (b .uses) (b .asked)
+  keepable = record {
+    bytes = x .ready .bytes;
+    pool = x .ready .pool;
+    named = x .ready .named;
+    stands = x .ready .stands;
+    room = x .ready .room;
+    used-room = omega (arith, x .entered .used .room);
+    known = λ i h. x .entered .used .entry i h .label;
+  }
+
+  module _ (bound : Bool)
+      (bound·answer : bound ≡ (checked.usesBound uses (b .uses) labels
+      && (checked.relocsBound relocs (b .relocs) labels && (checked.refsBound refs (b .refs) labels && checked.jumpsBound events (b .events) labels)))) where
+    pub placed-unbound : (r : Placed) → bound ≡ false → r ≡ refusedWith 15 → (r, (labels, (relocs, (rows, output)))) ≡ placedAs p b labels relocs rows output
+    unfolding placedAs
+    placed-unbound r e er = rw (er, bound-is ∙ sym bound·answer) (sym (pick-no bound _ _ e))
+
+    module _ (all·bound : bound ≡ true) (jump : Bool) (jump·answer : jump ≡ checked.hasJump events (b .events)) where
+      pub placed-relaxed : jump ≡ true → (left : Placed × Left)
+          → ((us : List tables.Use) → left ≡ relaxed (tablesPooled 2 (b .code) (take (b .code) code) (tables.entries (wordAt labels) (b .labels)) (tables.entries (eventAt events) (b .events)) us (tables.entries (tables.refAt refs) (b .refs)) constants asked (b .asked)) (b .relocs) labels relocs rows output)
+          → left ≡ placedAs p b labels relocs rows output
+      unfolding placedAs
+      placed-relaxed e left is =
+          rw (bound-is ∙ sym bound·answer, jump-is ∙ sym jump·answer)
+          (sym (pick-yes bound _ _ all·bound ∙ pick-yes jump _ _ e ∙ rw (arch-is (sym jump·answer ∙ e)) (sym (is (tables.entries (tables.useAt uses) (b .uses))))))
+
+      pub placed-kept : jump ≡ false → (r : Placed) (left : List ℕ)
+          → ((es : List LayoutEvent) (rs : List tables.Ref) → (r, left) ≡ kept (tablesPooled (b .arch) (b .code) (take (b .code) code) (tables.entries (wordAt labels) (b .labels)) es (tables.entries (tables.useAt uses) (b .uses)) rs constants asked (b .asked)) output)
+          → (r, (labels, (relocs, (rows, left)))) ≡ placedAs p b labels relocs rows output
+      unfolding placedAs
+      placed-kept e r left is =
+          rw (bound-is ∙ sym bound·answer, jump-is ∙ sym jump·answer)
+          (kept-beside p labels relocs rows output left r (is (tables.entries (eventAt events) (b .events)) (tables.entries (tables.refAt refs) (b .refs)))
+          ∙ sym (pick-yes bound _ _ all·bound ∙ pick-no jump _ _ e))

@@ -1,0 +1,34 @@
+-- `all_bound` meets its contract.
+use native.Mathlib.Omega.{arith}
+use Rattle.finish.proofs.Handed.{uses-named, refs-named, targets-named, jumps-named}
+use borrow.Author.Needs.{needs}
+use Rattle.finish.proofs.pooled.all_bound.Statement.{statement}
+use Rattle.finish.proofs.pooled.all_bound.Tie as tie
+
+uses-bound-requires : tie.Need-uses-bound-requires
+uses-bound-requires c κs = let e = c .before .before .before .before .before .pre in (omega (arith, e .used .room), uses-named _ _ _ _ _ _ _ _ _ _ _ _ _ e)
+
+relocs-bound-requires : tie.Need-relocs-bound-requires
+relocs-bound-requires c κs = let e = c .before .before .before .before .before .before .pre in (omega (arith, e .relocated .room), targets-named _ _ _ _ _ _ _ _ _ _ _ _ _ e)
+
+refs-bound-requires : tie.Need-refs-bound-requires
+refs-bound-requires c κs = let e = c .before .before .before .before .before .before .before .pre in (omega (arith, e .referred .room), refs-named _ _ _ _ _ _ _ _ _ _ _ _ _ e)
+
+jumps-bound-requires : tie.Need-jumps-bound-requires
+jumps-bound-requires c κs = let e = c .before .before .before .before .before .before .before .before .pre in (omega (arith, e .recorded .room), jumps-named _ _ _ _ _ _ _ _ _ _ _ _ _ e)
+
+returns : tie.Need-returns
+returns c = rw (c .both3 .ensures, c .before .both2 .ensures, c .before .before .both .ensures, c .before .before .before .before .before .before .uses-bound .ensures, c .before .before .before .before .before .relocs-bound .ensures, c .before .before .before .before .refs-bound .ensures, c .before .before .before .jumps-bound .ensures)
+
+pub all-bound-spec : {M : Type 1} → statement M
+all-bound-spec =
+    tie.close
+    (tie.spec
+    uses-bound-requires
+    relocs-bound-requires
+    refs-bound-requires
+    jumps-bound-requires
+    (λ c κs. search needs)
+    (λ c κs. search needs)
+    (λ c κs. search needs)
+    returns)

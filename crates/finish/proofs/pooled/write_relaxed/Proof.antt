@@ -1,0 +1,68 @@
+-- `write_relaxed` meets its contract: the calls in their order.
+use mathlib.Core.Path.{_∙_}
+use native.Mathlib.Omega.{arith}
+use borrow.Author.Needs.{needs}
+use Rattle.finish.proofs.pooled.write_relaxed.Statement.{statement}
+use Rattle.finish.proofs.pooled.write_relaxed.Tie as tie
+
+emit-requires : tie.Need-emit-requires
+emit-requires c κs =
+    let w = c .before .before .before .before .before .before .before .before .before .before .before .before .before .before .pre in
+    let e = c .before .map .ensures ∙ w .ends in
+    (w .pool, (omega (arith, w .near, e), rw e (omega (arith, w .pooled, c .before .before .before .before .emit-events .kept .0))))
+
+patch-refs-requires : tie.Need-patch-refs-requires
+patch-refs-requires c κs =
+    let w = c .before .before .before .before .before .before .before .before .before .before .before .before .before .before .before .before .before .before .pre in
+    (w .rising-all, rw (c .before .before .before .emit .kept .0, c .before .before .before .before .before .before .before .before .emit-events .kept .0) (w .filled))
+
+patch-jumps-requires : tie.Need-patch-jumps-requires
+patch-jumps-requires c κs =
+    let w = c .before .before .before .before .before .before .before .before .before .before .before .before .before .before .before .before .before .before .before .before .before .before .pre in
+    rw (c .before .before .before .patch-refs .kept .0, c .before .before .before .before .before .before .before .emit .kept .0, c .before .before .before .before .before .before .before .before .before .before .before .before .emit-events .kept .0) (w .jumped)
+
+write-requires : tie.Need-write-requires
+write-requires c κs =
+    let w = c .before .before .before .before .before .before .before .before .before .before .before .before .before .before .before .before .before .before .before .before .before .before .before .before .before .before .pre in (
+      w .pool,
+      (
+        w .named,
+        record {
+          within = λ j h.
+              omega (
+                arith,
+                w .written .within j h,
+                c .before .before .before .patch-jumps .kept .0,
+                c .before .before .before .before .before .before .before .patch-refs .kept .0,
+                c .before .before .before .before .before .before .before .before .before .before .before .emit .kept .0,
+                c .before .before .before .before .before .before .before .before .before .before .before .before .before .before .before .before .emit-events .kept .0,
+              );
+        },
+      ),
+    )
+
+returns : tie.Need-returns
+returns c =
+    let w = c .before .before .before .before .before .before .before .before .before .before .before .before .before .before .before .before .before .before .before .before .before .before .before .before .before .before .before .before .before .pre in
+    rw (
+      c .before .before .write .ensures,
+      c .before .before .before .before .before .before .patch-jumps .ensures,
+      c .before .before .before .before .before .before .before .before .before .before .patch-refs .ensures,
+      c .before .before .before .before .before .before .before .before .before .before .before .before .before .before .emit .ensures,
+      c .before .before .before .before .before .before .before .before .before .before .before .before .before .before .before .before .map .ensures ∙ w .ends,
+      c .before .before .before .before .before .before .before .before .before .before .before .before .before .before .before .before .before .before .before .emit-events .ensures,
+    )
+
+pub write-relaxed-spec : {M : Type 1} → statement M
+write-relaxed-spec =
+    tie.close
+    (tie.spec
+    (λ c κs. search needs)
+    (λ c κs. search needs)
+    emit-requires
+    (λ c. search needs)
+    patch-refs-requires
+    patch-jumps-requires
+    write-requires
+    (λ c. search needs)
+    returns)

@@ -1,0 +1,13 @@
+-- `why_not_standing` meets its contract: counts and limits, then what every call looks at first.
+use borrow.Author.Needs.{needs}
+use Rattle.finish.specs.Refusals.{countsFit, withinLimits}
+use Rattle.finish.proofs.why_not_standing.Statement.{statement}
+use Rattle.finish.proofs.why_not_standing.Tie as tie
+
+returns : tie.Need-returns
+unfolding countsFit withinLimits
+returns c = rw (c .standing .ensures, c .before .before .counts-fit .ensures, c .before .within-limits .ensures)
+
+pub why-not-standing-spec : {M : Type 1} → statement M
+why-not-standing-spec =
+    tie.close (tie.spec (λ c κs. search needs) (λ c κs. search needs) (λ c κs. search needs) returns)

@@ -1,0 +1,119 @@
+-- What finish answers and leaves in everything that it is lent, for every input: document 01, "finish".
+use mathlib.Core.List.{List, [], _∷_, _++_, map}
+use Prim.Native.Nat.{ℕ, zero, suc, _*_}
+use lib.Dec.{eqb}
+use lib.ListN.{length}
+use Rattle.seqs.specs.Over.{over}
+use Rattle.seqs.specs.Pick.{pick}
+use Rattle.words.specs.Words.{bytesOf, wordAt, setWord}
+use Rattle.buffer.specs.declared.CodeBuffer.{CodeBuffer}
+use Rattle.recording.specs.Calls.{Recording}
+use Rattle.recording.specs.View.{view}
+use Rattle.fresh.specs.Pooled.{Pooled, pooled}
+use Rattle.fresh.specs.Fresh.{moved}
+use Rattle.fresh.specs.Rounds.{settled}
+use Rattle.fresh.specs.Fill.{assembled, inPlace}
+use Rattle.fresh.specs.Segments.{mapOffset, segmentsOf}
+use Rattle.layout.specs.Layout.{rowOf}
+use Rattle.finish.specs.declared.Finished.{Finished}
+use Rattle.finish.specs.declared.Placed.{Placed}
+use Rattle.finish.specs.Refusals.{allBound, hasJump, whyNotLaid, whyNotWritten, whyNotInPlace, whyUnfit}
+
+-- a table of words, the first of them anew
+abbrev pub bytesOfAll : List ℕ → List ℕ
+bytesOfAll [] = []
+bytesOfAll (w ∷ ws) = bytesOf w ++ bytesOfAll ws
+
+abbrev pub overWords : List ℕ → List ℕ → List ℕ
+overWords table ws = over table 0 (bytesOfAll ws)
+
+-- the table of relocations, whose entries are six words, with each of the first n offsets mapped
+unfoldable pub relocated : (ℕ → ℕ) → List ℕ → ℕ → List ℕ
+relocated at relocs zero = relocs
+relocated at relocs (suc i) = setWord (relocated at relocs i) (i * 6) (at (wordAt relocs (i * 6)))
+
+-- the table of segments with the settled ones
+abbrev pub settledRows : Pooled → List (List ℕ) → List (List ℕ)
+settledRows p rows = over rows 0 (map rowOf (segmentsOf p (settled p .choice)))
+
+-- what a stage answers, and the labels, relocations, segments and output that it leaves
+abbrev pub Left : Type 0
+Left = List ℕ × (List ℕ × (List (List ℕ) × List ℕ))
+
+abbrev pub refusedWith : ℕ → Placed
+refusedWith why = record { refusal = why; len = 0; layouts = 0 }
+
+-- With a jump: "Then labels, relocations and pool offsets are mapped, refs patched in order, then jumps". 18 and 23 leave the settled segments, 16 and 17
+-- leave the table untouched.
+unfoldable pub relaxed : Pooled → ℕ → List ℕ → List ℕ → List (List ℕ) → List ℕ → Placed × Left
+relaxed p count labels relocs rows output =
+    let c = settled p .choice in
+    let early = whyNotLaid p (length rows) in
+    let late = whyNotWritten p (length output) in
+    pick (eqb early 0)
+    (pick (eqb late 0) (
+      record { refusal = 0; len = length (assembled p c); layouts = settled p .rounds },
+      (
+        overWords labels (map (moved p c) (p .labels)),
+        (relocated (mapOffset (segmentsOf p c)) relocs count, (settledRows p rows, over output 0 (assembled p c))),
+      ),
+    )
+    (refusedWith late, (labels, (relocs, (settledRows p rows, output)))))
+    (refusedWith early, (labels, (relocs, (rows, output))))
+
+-- Without a jump: "uses are patched in order, refs are not .., nothing moves, and layouts are 0".
+unfoldable pub unrelaxed : Pooled → List ℕ → List ℕ → List (List ℕ) → List ℕ → Placed × Left
+unrelaxed p labels relocs rows output =
+    let why = whyNotInPlace p (length output) in
+    pick (eqb why 0)
+    (record { refusal = 0; len = length (p .code); layouts = 0 }, (labels, (relocs, (rows, over output 0 (inPlace p)))))
+    (refusedWith why, (labels, (relocs, (rows, output))))
+
+-- "Alignment is 32."
+abbrev pub codeAlignment : ℕ
+codeAlignment = 32
+
+abbrev pub withFinished : CodeBuffer → CodeBuffer
+withFinished b = record { arch = b .arch; symbols = b .symbols; finished = 1; refusal = b .refusal; code = b .code; labels = b .labels; events = b .events; uses = b .uses; refs = b .refs; constants = b .constants; asked = b .asked; relocs = b .relocs }
+
+-- "With the record, finish reports how many layouts it made."
+abbrev pub finishedWith : CodeBuffer → Placed → Finished
+finishedWith b placed =
+    record {
+      buffer = withFinished b;
+      refusal = 0;
+      code = record {
+        arch = b .arch;
+        len = placed .len;
+        alignment = codeAlignment;
+        layouts = placed .layouts;
+        labels = b .labels;
+        relocs = b .relocs;
+      };
+    }
+
+-- "A refused finish records nothing", and gives a record of zeros.
+abbrev pub unfinished : CodeBuffer → ℕ → Finished
+unfinished b why =
+    record { buffer = b; refusal = why; code = record { arch = 0; len = 0; alignment = 0; layouts = 0; labels = 0; relocs = 0 } }
+
+-- once the recording is fit: 15, then with or without a jump
+unfoldable pub placedBy : Pooled → Recording → List (List ℕ) → List ℕ → Placed × Left
+placedBy p r rows output =
+    let labels = overWords (r .labels) (p .labels) in
+    pick (allBound p (view r .relocs))
+    (pick (hasJump p) (relaxed p (r .buffer .relocs) labels (r .relocs) rows output) (unrelaxed p labels (r .relocs) rows output))
+    (refusedWith 15, (labels, (r .relocs, (rows, output))))
+
+-- The answer, and the labels, relocations, segments and output at the end: "On success the recording's labels and relocations hold their final offsets, the
+-- rest of it stays, and output past the finished length is untouched." A refused finish leaves recording and output unchanged.
+unfoldable pub finish : Recording → List (List ℕ) → List ℕ → Finished × Left
+finish r rows output =
+    let b = r .buffer in
+    let why = whyUnfit r (length rows) (length output) in
+    let placed = placedBy (pooled (b .arch) (view r)) r rows output in
+    pick (eqb why 0)
+    (pick (eqb (placed .0 .refusal) 0)
+    (finishedWith b (placed .0), placed .1)
+    (unfinished b (placed .0 .refusal), (r .labels, placed .1 .1)))
+    (unfinished b why, (r .labels, (r .relocs, (rows, output))))

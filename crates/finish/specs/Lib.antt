@@ -1,0 +1,4 @@
+pub mod Refusals
+pub mod Finish
+pub mod Tables
+pub mod Ready

@@ -1,0 +1,151 @@
+-- What the stages of finish are handed once the entries are checked and the pool's labels are bound in the table of labels.
+use mathlib.Core.Path.{_≡_}
+use mathlib.Core.Logic.{_⊎_}
+use mathlib.Core.Bool.{Bool}
+use mathlib.Core.List.{List}
+use Prim.Native.Nat.{ℕ, _+_, _*_, _≤_, _<_}
+use lib.Dec.{eqb}
+use lib.ListN.{length, take}
+use Rattle.seqs.specs.Pick.{pick}
+use Rattle.seqs.specs.Over.{over}
+use Rattle.words.specs.Words.{wordAt}
+use Rattle.recording.specs.Sound.{startAt, endAt, CodeSound, LabelSound, EventsSound, UsesSound, RefsSound, RelocsSound}
+use Rattle.relax.specs.Events.{eventAt}
+use Rattle.buffer.specs.declared.CodeBuffer.{CodeBuffer}
+use Rattle.recording.specs.View.{entries, useAt, refAt, relocAt}
+use Rattle.fresh.specs.Pooled.{Pooled}
+use Rattle.fresh.specs.Fill.{inPlace}
+use Rattle.fresh.specs.Segments.{mapOffset}
+use Rattle.fresh.proofs.Shape.{runs}
+use Rattle.pool.specs.Pool.{labelAt, poolStart, poolOffset, poolBytes, poolWritten, PoolFits, PoolLabels, PoolRoom}
+use Rattle.layout.specs.Layout.{tableOf, Rising}
+use Rattle.emit.specs.Emit.{usesFilled, refsFilled, jumpsFilled, Emits, UsesFit, RefsFit, JumpsFit, WordsFit}
+use Rattle.checks.specs.Search as search
+use Rattle.finish.specs.declared.Placed.{Placed}
+use Rattle.finish.specs.Refusals.{allBound, hasJump, whyNotInPlace}
+use Rattle.finish.specs.Finish.{Left, refusedWith, relaxed, unrelaxed}
+use Rattle.finish.specs.Tables.{tablesPooled}
+
+-- a label as recordings leave it, or one of the pool
+abbrev pub Landed : List ℕ → ℕ → ℕ → List ℕ → List ℕ → ℕ → ℕ → Type 0
+Landed events n len constants asked m offset = LabelSound events n len offset ⊎ ((j : ℕ) × (j < m) × (offset ≡ poolOffset len constants asked j))
+
+pub record Ready (code labels events constants asked : List ℕ) (arch len count n m : ℕ) : Type 0 where
+  pub bytes : CodeSound code len
+  pub recorded : EventsSound events n count len arch
+  pub pool : PoolFits constants asked m
+  pub named : PoolLabels labels constants asked m
+  pub owned : (j : ℕ) → j < m → labelAt constants asked j < count
+  pub stands : (j : ℕ) → j < m → wordAt labels (labelAt constants asked j) ≡ poolOffset len constants asked j
+  pub room : count * 4 ≤ length labels
+  pub limit : count ≤ 65536
+  pub landed : (l : ℕ) → l < count → Landed events n len constants asked m (wordAt labels l)
+
+-- the tables that name labels, with their entries checked
+pub record Entered (labels events uses refs relocs : List ℕ) (arch symbols len count n u f l : ℕ) : Type 0 where
+  pub room : count * 4 ≤ length labels
+  pub recorded : EventsSound events n count len arch
+  pub used : UsesSound uses u arch count
+  pub referred : RefsSound refs f arch count
+  pub relocated : RelocsSound relocs l arch symbols count
+
+-- refs, events in order, and the pool's labels bound: what 17 is judged by
+pub record Clearing (refs events labels constants asked : List ℕ) (f n m code end : ℕ) : Type 0 where
+  pub refs-room : f * 16 ≤ length refs
+  pub events-room : n * 20 ≤ length events
+  pub few : n ≤ 65536
+  pub pool-few : m ≤ 65536
+  pub ends : end ≡ poolStart code constants asked m
+  pub ordered : search.Ordered (startAt events) (endAt events) n
+  pub placed : search.Placed labels constants asked code m
+
+-- where the recorded code ends in the output
+abbrev pub endOfRuns : List ℕ → List ℕ → List Bool → ℕ → ℕ → ℕ
+endOfRuns code events long len n = length (runs 0 0 (take len code) (entries (eventAt events) n) long)
+
+-- the output once all is written, in the order of the calls
+abbrev pub codeWritten : List ℕ → List ℕ → List ℕ → List ℕ → List ℕ → List ℕ → List ℕ → List Bool → List (List ℕ) → ℕ → ℕ → ℕ → ℕ → List ℕ
+codeWritten output code labels events refs constants asked long rows len n m f =
+    let to = endOfRuns code events long len n in
+    let placed = over output 0 (runs 0 0 (take len code) (entries (eventAt events) n) long) in
+    let laid = over placed to (poolBytes 2 to constants asked m) in
+    poolWritten (jumpsFilled (refsFilled laid refs labels rows (n + m) f) events labels long rows n) labels constants asked m
+
+-- what the code is written from: a layout of a choice of long jumps in the rows, labels at their new offsets, and an output that has room. `to` is where
+-- the recorded code ends in the output.
+pub record Writing (output code labels events refs constants asked : List ℕ) (long : List Bool) (rows : List (List ℕ)) (len n m f to : ℕ) : Type 0 where
+  pub small : len ≤ 16777216
+  pub rising : Rising rows n
+  pub rising-all : Rising rows (n + m)
+  pub emits : Emits output code events long rows n len
+  pub ends : mapOffset (tableOf rows n) len ≡ to
+  pub near : to ≤ 16777216
+  pub pool : PoolFits constants asked m
+  pub pooled : poolStart to constants asked m ≤ length output
+  pub filled : RefsFit (length output) refs labels rows (n + m) f
+  pub jumped : JumpsFit (length output) events labels long rows n
+  pub named : PoolLabels labels constants asked m
+  pub written : PoolRoom output labels constants asked m
+
+-- the output once the code is copied, in the order of the calls
+abbrev pub codeCopied : List ℕ → List ℕ → List ℕ → List ℕ → List ℕ → List ℕ → ℕ → ℕ → ℕ → ℕ → List ℕ
+codeCopied output code labels uses constants asked arch len u m =
+    let laid = over (over output 0 (take len code)) len (poolBytes arch len constants asked m) in
+    poolWritten (usesFilled laid uses labels u) labels constants asked m
+
+-- what it is copied from, into an output that has room
+pub record Copying (output code labels uses constants asked : List ℕ) (len u m : ℕ) : Type 0 where
+  pub coded : len ≤ length code
+  pub small : len ≤ 16777216
+  pub pool : PoolFits constants asked m
+  pub pooled : poolStart len constants asked m ≤ length output
+  pub room : len ≤ length output
+  pub used : UsesFit (length output) uses labels u
+  pub named : PoolLabels labels constants asked m
+  pub written : PoolRoom output labels constants asked m
+
+-- what a finish with a jump is handed
+pub record Relaxable (code labels events refs constants asked relocs output : List ℕ) (segments len count n m f l : ℕ) : Type 0 where
+  pub ready : Ready code labels events constants asked 2 len count n m
+  pub referred : RefsSound refs f 2 count
+  pub moved : WordsFit relocs 6 l
+  pub few : n ≤ 65536
+  pub segments-limit : segments ≤ 65536
+  pub output-limit : length output ≤ 16777216
+
+-- what one without a jump is handed
+pub record Keepable (code labels uses constants asked : List ℕ) (len count u m : ℕ) : Type 0 where
+  pub bytes : CodeSound code len
+  pub pool : PoolFits constants asked m
+  pub named : PoolLabels labels constants asked m
+  pub stands : (j : ℕ) → j < m → wordAt labels (labelAt constants asked j) ≡ poolOffset len constants asked j
+  pub room : count * 4 ≤ length labels
+  pub used-room : u * 12 ≤ length uses
+  pub known : (i : ℕ) → i < u → wordAt uses (i * 3 + 1) < count
+
+-- what it answers, and leaves of the output
+unfoldable pub kept : Pooled → List ℕ → Placed × List ℕ
+kept p output =
+    let why = whyNotInPlace p (length output) in
+    pick (eqb why 0) (record { refusal = 0; len = length (p .code); layouts = 0 }, over output 0 (inPlace p)) (refusedWith why, output)
+
+-- what both are handed
+pub record Placeable (b : CodeBuffer) (code labels events uses refs constants asked relocs output : List ℕ) (segments : ℕ) : Type 0 where
+  pub ready : Ready code labels events constants asked (b .arch) (b .code) (b .labels) (b .events) (b .asked)
+  pub entered : Entered labels events uses refs relocs (b .arch) (b .symbols) (b .code) (b .labels) (b .events) (b .uses) (b .refs) (b .relocs)
+  pub few : b .events ≤ 65536
+  pub segments-limit : segments ≤ 65536
+  pub output-limit : length output ≤ 16777216
+
+-- the pooled recording of what is lent
+abbrev pub pooledOf : CodeBuffer → List ℕ → List ℕ → List ℕ → List ℕ → List ℕ → List ℕ → List ℕ → Pooled
+pooledOf b code labels events uses refs constants asked =
+    tablesPooled (b .arch) (b .code) (take (b .code) code) (entries (wordAt labels) (b .labels)) (entries (eventAt events) (b .events)) (entries (useAt uses) (b .uses))
+    (entries (refAt refs) (b .refs)) constants asked (b .asked)
+
+-- what is answered and left, where the table of labels has the pool's labels bound
+unfoldable pub placedAs : Pooled → CodeBuffer → List ℕ → List ℕ → List (List ℕ) → List ℕ → Placed × Left
+placedAs p b labels relocs rows output =
+    pick (allBound p (entries (relocAt relocs) (b .relocs)))
+    (pick (hasJump p) (relaxed p (b .relocs) labels relocs rows output) (unrelaxed p labels relocs rows output))
+    (refusedWith 15, (labels, (relocs, (rows, output))))

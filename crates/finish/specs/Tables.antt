@@ -1,0 +1,41 @@
+-- The pooled recording as the stages of finish are handed it: recorded lists, and the pool of the first m constants that `asked` lists, which starts where
+-- the recorded code ends. `labels` has the pool's labels bound. Equal to `pooled` (`pooled-tables`).
+use mathlib.Core.Bool.{cond}
+use mathlib.Core.List.{List, [], _++_}
+use Prim.Native.Nat.{ℕ}
+use lib.Dec.{eqb}
+use Rattle.relax.specs.declared.LayoutEvent.{LayoutEvent}
+use Rattle.buffer.specs.declared.CodeBuffer.{CodeBuffer}
+use Rattle.recording.specs.Calls.{Recording}
+use Rattle.recording.specs.View.{entries, Use, Ref}
+use Rattle.fresh.specs.Pooled.{Placed, Pooled}
+use Rattle.pool.specs.Pool.{bytesAt, poolOffset, poolEvent, poolBytes}
+
+abbrev pub poolPlaced : ℕ → List ℕ → List ℕ → ℕ → Placed
+poolPlaced from constants asked j = record { offset = poolOffset from constants asked j; bytes = bytesAt constants asked j }
+
+abbrev pub tablesPooled : ℕ → ℕ → List ℕ → List ℕ → List LayoutEvent → List Use → List Ref → List ℕ → List ℕ → ℕ → Pooled
+tablesPooled arch from code labels events uses refs constants asked m =
+    record {
+      code = code ++ poolBytes arch from constants asked m;
+      events = events ++ cond (eqb arch 2) (entries (poolEvent from constants asked) m) [];
+      labels = labels;
+      uses = uses;
+      refs = refs;
+      pool = entries (poolPlaced from constants asked) m;
+    }
+
+-- a recording of what is lent
+abbrev pub recordingOf : CodeBuffer → List ℕ → List ℕ → List ℕ → List ℕ → List ℕ → List ℕ → List ℕ → List ℕ → Recording
+recordingOf b code labels events uses refs constants asked relocs =
+    record {
+      buffer = b;
+      code = code;
+      labels = labels;
+      events = events;
+      uses = uses;
+      refs = refs;
+      constants = constants;
+      asked = asked;
+      relocs = relocs;
+    }
