@@ -1,0 +1,265 @@
+-- What a finish that answers 0 has found and left.
+use mathlib.Core.Path.{_≡_, refl, sym, ap, _∙_, subst}
+use mathlib.Core.Logic.{_≢_}
+use mathlib.Core.Bool.{Bool, true, false, not, _&&_}
+use mathlib.Core.List.{List, map}
+use Prim.Native.Nat.{ℕ, _+_, _/_, _≤_}
+use native.Mathlib.Omega.{arith}
+use lib.Dec.{eqb, ltb, leb}
+use lib.ListN.{length, take}
+use borrow.Author.Tests.{eqb-true, eqb-false, ltb-false, leb-true, not-false}
+use Rattle.seqs.specs.Over.{over}
+use Rattle.seqs.specs.Pick.{pick}
+use Rattle.seqs.proofs.Booleans.{both-true}
+use Rattle.seqs.proofs.Picking.{pick-yes, pick-no, passed, neither, zero-passed}
+use Rattle.seqs.proofs.Overwrites.{take-over-end}
+use Rattle.buffer.specs.declared.CodeBuffer.{CodeBuffer}
+use Rattle.buffer.specs.State.{mostCode, mostEntries}
+use Rattle.buffer.specs.Refusals.{archOccurs, refusalOccurs, standing}
+use Rattle.recording.specs.Calls.{Recording}
+use Rattle.recording.specs.Sound.{Sound}
+use Rattle.recording.specs.View.{view}
+use Rattle.fresh.specs.Pooled.{Pooled, pooled}
+use Rattle.fresh.specs.Fresh.{moved}
+use Rattle.fresh.specs.Rounds.{settled}
+use Rattle.fresh.specs.Fill.{assembled, inPlace}
+use Rattle.fresh.proofs.Fill.{length-inPlace}
+use Rattle.checks.specs.Entries.{entriesFit}
+use Rattle.checks.proofs.Sound.{fits-sound}
+use Rattle.finish.specs.declared.Finished.{Finished}
+use Rattle.finish.specs.declared.Placed.{Placed}
+use Rattle.finish.specs.Refusals.{every, countsFit, withinLimits, poolBoundBefore, allBound, hasJump, refClear, refReaches, whyNotLaid, whyNotWritten, usesRefusal, whyNotInPlace, whyUnfit}
+use Rattle.finish.specs.Finish.{overWords, Left, relaxed, unrelaxed, finishedWith, placedBy, finish}
+use Rattle.demands.specs.Demand2.{finishedCode}
+
+standing-passed : (b : CodeBuffer) (fit within : Bool) → standing b fit within ≡ 0 → (fit ≡ true) × (within ≡ true)
+unfolding standing
+standing-passed b fit within e =
+    let form = passed (not (archOccurs (b .arch) && refusalOccurs (b .refusal) && fit)) 1 _ (λ z. omega arith) e in
+    let refusal = zero-passed (b .refusal) _ (form .1) in (
+      both-true (archOccurs (b .arch) && refusalOccurs (b .refusal)) fit (not-false (archOccurs (b .arch) && refusalOccurs (b .refusal) && fit) (form .0)) .1,
+      not-false within (passed (not within) 3 (pick (not (eqb (b .finished) 0)) 4 0) (λ z. omega arith) (refusal .1) .0),
+    )
+
+-- the counts fit what is lent
+counted : (r : Recording) → countsFit r ≡ true
+    → (r .buffer .code ≤ length (r .code))
+    × (r .buffer .labels ≤ length (r .labels) / 4)
+    × (r .buffer .events ≤ length (r .events) / 20)
+    × (r .buffer .uses ≤ length (r .uses) / 12)
+    × (r .buffer .refs ≤ length (r .refs) / 16)
+    × (r .buffer .constants ≤ length (r .constants) / 72)
+    × (r .buffer .asked ≤ length (r .asked) / 4)
+    × (r .buffer .relocs ≤ length (r .relocs) / 24)
+unfolding countsFit
+counted r h =
+    let b = r .buffer in
+    let code = leb (b .code) (length (r .code)) in
+    let labels = leb (b .labels) (length (r .labels) / 4) in
+    let events = leb (b .events) (length (r .events) / 20) in
+    let uses = leb (b .uses) (length (r .uses) / 12) in
+    let refs = leb (b .refs) (length (r .refs) / 16) in
+    let constants = leb (b .constants) (length (r .constants) / 72) in
+    let asked = leb (b .asked) (length (r .asked) / 4) in
+    let relocs = leb (b .relocs) (length (r .relocs) / 24) in
+    let t1 = both-true code (labels && (events && (uses && (refs && (constants && (asked && relocs)))))) h in
+    let t2 = both-true labels (events && (uses && (refs && (constants && (asked && relocs))))) (t1 .1) in
+    let t3 = both-true events (uses && (refs && (constants && (asked && relocs)))) (t2 .1) in
+    let t4 = both-true uses (refs && (constants && (asked && relocs))) (t3 .1) in
+    let t5 = both-true refs (constants && (asked && relocs)) (t4 .1) in
+    let t6 = both-true constants (asked && relocs) (t5 .1) in
+    let t7 = both-true asked relocs (t6 .1) in (
+      leb-true (b .code) (length (r .code)) (t1 .0),
+      leb-true (b .labels) (length (r .labels) / 4) (t2 .0),
+      leb-true (b .events) (length (r .events) / 20) (t3 .0),
+      leb-true (b .uses) (length (r .uses) / 12) (t4 .0),
+      leb-true (b .refs) (length (r .refs) / 16) (t5 .0),
+      leb-true (b .constants) (length (r .constants) / 72) (t6 .0),
+      leb-true (b .asked) (length (r .asked) / 4) (t7 .0),
+      leb-true (b .relocs) (length (r .relocs) / 24) (t7 .1),
+    )
+
+-- what is lent is within the limits, of code, labels, constants, the order of asking and the output
+lent : (r : Recording) (segments output : ℕ) → withinLimits r segments output ≡ true
+    → (length (r .code) ≤ 16777216)
+    × (length (r .labels) / 4 ≤ 65536)
+    × (length (r .constants) / 72 ≤ 65536)
+    × (length (r .asked) / 4 ≤ 65536)
+    × (output ≤ 16777216)
+unfolding withinLimits
+lent r segments output h =
+    let code = leb (length (r .code)) mostCode in
+    let labels = leb (length (r .labels) / 4) mostEntries in
+    let events = leb (length (r .events) / 20) mostEntries in
+    let uses = leb (length (r .uses) / 12) mostEntries in
+    let refs = leb (length (r .refs) / 16) mostEntries in
+    let constants = leb (length (r .constants) / 72) mostEntries in
+    let asked = leb (length (r .asked) / 4) mostEntries in
+    let relocs = leb (length (r .relocs) / 24) mostEntries in
+    let rows = leb segments mostEntries in
+    let out = leb output mostCode in
+    let t1 = both-true code (labels && (events && (uses && (refs && (constants && (asked && (relocs && (rows && out)))))))) h in
+    let t2 = both-true labels (events && (uses && (refs && (constants && (asked && (relocs && (rows && out))))))) (t1 .1) in
+    let t3 = both-true events (uses && (refs && (constants && (asked && (relocs && (rows && out)))))) (t2 .1) in
+    let t4 = both-true uses (refs && (constants && (asked && (relocs && (rows && out))))) (t3 .1) in
+    let t5 = both-true refs (constants && (asked && (relocs && (rows && out)))) (t4 .1) in
+    let t6 = both-true constants (asked && (relocs && (rows && out))) (t5 .1) in
+    let t7 = both-true asked (relocs && (rows && out)) (t6 .1) in
+    let t8 = both-true relocs (rows && out) (t7 .1) in (
+      leb-true (length (r .code)) mostCode (t1 .0),
+      leb-true (length (r .labels) / 4) mostEntries (t2 .0),
+      leb-true (length (r .constants) / 72) mostEntries (t6 .0),
+      leb-true (length (r .asked) / 4) mostEntries (t7 .0),
+      leb-true output mostCode (both-true rows out (t8 .1) .1),
+    )
+
+-- a recording that is fit: its entries are those that recordings write, and the pooled code and the output are small
+pub record Fit (r : Recording) (rows : List (List ℕ)) (output : List ℕ) : Type 0 where
+  pub sound : Sound r
+  pub few : r .buffer .asked ≤ 65536
+  pub small : length (pooled (r .buffer .arch) (view r) .code) ≤ 16777216
+  pub room : length output ≤ 16777216
+
+unfit-fit : (r : Recording) (rows : List (List ℕ)) (output : List ℕ) → whyUnfit r (length rows) (length output) ≡ 0 → Fit r rows output
+unfolding whyUnfit
+unfit-fit r rows output e =
+    let v = view r in
+    let len = length (pooled (r .buffer .arch) v .code) in
+    let rest : ℕ = pick (poolBoundBefore v) 13 (pick (ltb mostCode len) 14 0) in
+    let within = withinLimits r (length rows) (length output) in
+    let both = neither (standing (r .buffer) (countsFit r) within) (pick (not (entriesFit r)) 1 rest) e in
+    let stands = standing-passed (r .buffer) (countsFit r) within (both .0) in
+    let counts = counted r (stands .0) in
+    let limits = lent r (length rows) (length output) (stands .1) in
+    let one = passed (not (entriesFit r)) 1 rest (λ z. omega arith) (both .1) in
+    let two = passed (poolBoundBefore v) 13 (pick (ltb mostCode len) 14 0) (λ z. omega arith) (one .1) in
+    record {
+      sound =
+          fits-sound r
+          (record { room = counts .0; limit = omega (arith, counts .0, limits .0) })
+          (record {
+            labels-room = omega (arith, counts .1);
+            labels-limit = omega (arith, counts .1, limits .1);
+            events-room = omega (arith, counts .2);
+            uses-room = omega (arith, counts .3);
+            refs-room = omega (arith, counts .4);
+            constants-room = omega (arith, counts .5);
+            constants-limit = omega (arith, counts .5, limits .2);
+            asked-room = omega (arith, counts .6);
+            relocs-room = omega (arith, counts .7);
+          })
+          (not-false (entriesFit r) (one .0));
+      few = omega (arith, counts .6, limits .3);
+      small = ltb-false mostCode len (passed (ltb mostCode len) 14 0 (λ z. omega arith) (two .1) .0);
+      room = limits .4;
+    }
+
+-- a choice whose other side does not answer 0
+pub chosen-zero : {A : Type 0} (f : A → ℕ) (t : Bool) (x y : A) → (t ≡ false → f y ≢ 0) → f (pick t x y) ≡ 0 → t ≡ true
+unfolding pick
+chosen-zero f true x y h e = refl
+chosen-zero f false x y h e = absurd (h refl e)
+
+-- With a jump: no ref is refused with 17 or 18; the code, which fits the output, the mapped labels over `labels`, and the number of rounds are left.
+pub record Assembled (p : Pooled) (labels output code table : List ℕ) (layouts : ℕ) : Type 0 where
+  pub clear : every (refClear p) (p .refs) ≡ true
+  pub reach : every (refReaches p (settled p .choice)) (p .refs) ≡ true
+  pub fits : length (assembled p (settled p .choice)) ≤ length output
+  pub is : code ≡ assembled p (settled p .choice)
+  pub mapped : table ≡ overWords labels (map (moved p (settled p .choice)) (p .labels))
+  pub rounds : layouts ≡ settled p .rounds
+
+-- Without one: no use is refused, and the code is what is left.
+pub record Kept (p : Pooled) (output code : List ℕ) : Type 0 where
+  pub none-refused : usesRefusal p (p .uses) ≡ 0
+  pub is : code ≡ inPlace p
+
+taken : (output code : List ℕ) (n : ℕ) → n ≡ length code → length code ≤ length output → take n (over output 0 code) ≡ code
+taken output code n e h =
+    let z : n ≡ 0 + length code = omega arith in ap (λ (m : ℕ). take m (over output 0 code)) z ∙ take-over-end output 0 code (omega arith)
+
+-- the bytes that a stage leaves, as many as it says
+abbrev codeOf : Placed × Left → List ℕ
+codeOf placed = take (placed .0 .len) (placed .1 .1 .1 .1)
+
+relaxed-leaves : (p : Pooled) (count : ℕ) (labels relocs : List ℕ) (rows : List (List ℕ)) (output : List ℕ)
+    → relaxed p count labels relocs rows output .0 .refusal ≡ 0
+    → Assembled p labels output (codeOf (relaxed p count labels relocs rows output)) (relaxed p count labels relocs rows output .1 .0)
+    (relaxed p count labels relocs rows output .0 .layouts)
+unfolding relaxed whyNotLaid whyNotWritten
+relaxed-leaves p count labels relocs rows output e =
+    let c = settled p .choice in
+    let early = whyNotLaid p (length rows) in
+    let late = whyNotWritten p (length output) in
+    let first·zero : eqb early 0 ≡ true = chosen-zero (λ (x : Placed × Left). x .0 .refusal) (eqb early 0) _ _ (λ q. eqb-false early 0 q) e in
+    let e2 = subst (λ (x : Placed × Left). x .0 .refusal ≡ 0) (pick-yes (eqb early 0) _ _ first·zero) e in
+    let second·zero : eqb late 0 ≡ true = chosen-zero (λ (x : Placed × Left). x .0 .refusal) (eqb late 0) _ _ (λ q. eqb-false late 0 q) e2 in
+    let out = passed (ltb (length rows) (length (p .events))) 16 (pick (not (every (refClear p) (p .refs))) 17 0) (λ z. omega arith) (eqb-true early 0 first·zero) in
+    let far = passed (not (every (refReaches p c) (p .refs))) 18 (pick (ltb (length output) (length (assembled p c))) 23 0) (λ z. omega arith) (eqb-true late 0 second·zero) in
+    let fits = ltb-false (length output) (length (assembled p c)) (passed (ltb (length output) (length (assembled p c))) 23 0 (λ z. omega arith) (far .1) .0) in
+    let leaves = pick-yes (eqb early 0) _ _ first·zero ∙ pick-yes (eqb late 0) _ _ second·zero in
+    record {
+      clear = not-false (every (refClear p) (p .refs)) (passed (not (every (refClear p) (p .refs))) 17 0 (λ z. omega arith) (out .1) .0);
+      reach = not-false (every (refReaches p c) (p .refs)) (far .0);
+      fits = fits;
+      is = ap codeOf leaves ∙ taken output (assembled p c) (length (assembled p c)) refl fits;
+      mapped = ap (λ (x : Placed × Left). x .1 .0) leaves;
+      rounds = ap (λ (x : Placed × Left). x .0 .layouts) leaves;
+    }
+
+unrelaxed-leaves : (p : Pooled) (labels relocs : List ℕ) (rows : List (List ℕ)) (output : List ℕ)
+    → unrelaxed p labels relocs rows output .0 .refusal ≡ 0 → Kept p output (codeOf (unrelaxed p labels relocs rows output))
+unfolding unrelaxed whyNotInPlace
+unrelaxed-leaves p labels relocs rows output e =
+    let why = whyNotInPlace p (length output) in
+    let zero : eqb why 0 ≡ true = chosen-zero (λ (x : Placed × Left). x .0 .refusal) (eqb why 0) _ _ (λ q. eqb-false why 0 q) e in
+    let both = neither (usesRefusal p (p .uses)) (pick (ltb (length output) (length (p .code))) 23 0) (eqb-true why 0 zero) in
+    let fits = ltb-false (length output) (length (p .code)) (passed (ltb (length output) (length (p .code))) 23 0 (λ z. omega arith) (both .1) .0) in
+    record {
+      none-refused = both .0;
+      is =
+          ap codeOf (pick-yes (eqb why 0) _ _ zero)
+          ∙ taken output (inPlace p) (length (p .code)) (sym (length-inPlace p)) (omega (arith, length-inPlace p));
+    }
+
+-- What a finish that answers 0 has found, and the code that it leaves.
+pub record Answered (r : Recording) (rows : List (List ℕ)) (output : List ℕ) : Type 0 where
+  pub fit : Fit r rows output
+  pub bound : allBound (pooled (r .buffer .arch) (view r)) (view r .relocs) ≡ true
+  pub jumped : hasJump (pooled (r .buffer .arch) (view r)) ≡ true
+      → Assembled (pooled (r .buffer .arch) (view r)) (overWords (r .labels) (pooled (r .buffer .arch) (view r) .labels)) output (finishedCode r rows output)
+      (finish r rows output .1 .0) (finish r rows output .0 .code .layouts)
+  pub straight : hasJump (pooled (r .buffer .arch) (view r)) ≡ false → Kept (pooled (r .buffer .arch) (view r)) output (finishedCode r rows output)
+
+pub finish-answered : (r : Recording) (rows : List (List ℕ)) (output : List ℕ) → finish r rows output .0 .refusal ≡ 0 → Answered r rows output
+unfolding finish placedBy
+finish-answered r rows output e =
+    let b = r .buffer in
+    let p = pooled (b .arch) (view r) in
+    let why = whyUnfit r (length rows) (length output) in
+    let placed = placedBy p r rows output in
+    let labels = overWords (r .labels) (p .labels) in
+    let fit : eqb why 0 ≡ true = chosen-zero (λ (x : Finished × Left). x .0 .refusal) (eqb why 0) _ _ (λ q. eqb-false why 0 q) e in
+    let e2 = subst (λ (x : Finished × Left). x .0 .refusal ≡ 0) (pick-yes (eqb why 0) _ _ fit) e in
+    let done : eqb (placed .0 .refusal) 0 ≡ true =
+    chosen-zero (λ (x : Finished × Left). x .0 .refusal) (eqb (placed .0 .refusal) 0) _ _ (λ q. eqb-false (placed .0 .refusal) 0 q) e2 in
+    let bound : allBound p (view r .relocs) ≡ true =
+    chosen-zero (λ (x : Placed × Left). x .0 .refusal) (allBound p (view r .relocs)) _ _ (λ q z. omega arith) (eqb-true (placed .0 .refusal) 0 done) in
+    let is : finish r rows output ≡ (finishedWith b (placed .0), placed .1) = pick-yes (eqb why 0) _ _ fit ∙ pick-yes (eqb (placed .0 .refusal) 0) _ _ done in
+    let inner : placed ≡ pick (hasJump p) (relaxed p (b .relocs) labels (r .relocs) rows output) (unrelaxed p labels (r .relocs) rows output) =
+    pick-yes (allBound p (view r .relocs)) _ _ bound in
+    let code : finishedCode r rows output ≡ codeOf placed = ap (λ (x : Finished × Left). take (x .0 .code .len) (x .1 .1 .1 .1)) is in
+    let zero : placed .0 .refusal ≡ 0 = eqb-true (placed .0 .refusal) 0 done in
+    record {
+      fit = unfit-fit r rows output (eqb-true why 0 fit);
+      bound = bound;
+      jumped = λ jump.
+          let all = inner ∙ pick-yes (hasJump p) (relaxed p (b .relocs) labels (r .relocs) rows output) (unrelaxed p labels (r .relocs) rows output) jump in
+          subst (λ (x : Finished × Left). Assembled p labels output (take (x .0 .code .len) (x .1 .1 .1 .1)) (x .1 .0) (x .0 .code .layouts))
+          (sym (is ∙ ap (λ (x : Placed × Left). (finishedWith b (x .0), x .1)) all))
+          (relaxed-leaves p (b .relocs) labels (r .relocs) rows output (subst (λ (x : Placed × Left). x .0 .refusal ≡ 0) all zero));
+      straight = λ none.
+          let all = inner ∙ pick-no (hasJump p) (relaxed p (b .relocs) labels (r .relocs) rows output) (unrelaxed p labels (r .relocs) rows output) none in
+          subst (Kept p output) (sym (code ∙ ap codeOf all))
+          (unrelaxed-leaves p labels (r .relocs) rows output (subst (λ (x : Placed × Left). x .0 .refusal ≡ 0) all zero));
+    }

@@ -1,0 +1,101 @@
+-- Demand 3: what a finish with a jump that answers 0 leaves meets it.
+use mathlib.Core.Path.{_≡_, refl, sym, ap, _∙_, subst}
+use mathlib.Core.Logic.{_≢_, ⊎-elim}
+use mathlib.Core.Bool.{true}
+use mathlib.Core.List.{List, [], _∷_, map}
+use Prim.Native.Nat.{ℕ, zero, suc, _*_, _≤_, _<_}
+use native.Mathlib.Omega.{arith}
+use lib.ListN.{length, getD}
+use Rattle.seqs.proofs.Booleans.{both-true}
+use Rattle.seqs.proofs.Numbers.{eq-or-ne}
+use Rattle.seqs.proofs.Overwrites.{length-over}
+use Rattle.words.specs.Words.{wordAt}
+use Rattle.words.proofs.Laws.{wordAt-same, wordAt-other}
+use Rattle.relax.specs.declared.LayoutEvent.{LayoutEvent}
+use Rattle.relax.specs.declared.LayoutEvent.the-variants.{Jump, Align}
+use Rattle.buffer.specs.State.{none}
+use Rattle.recording.specs.Calls.{Recording}
+use Rattle.recording.specs.View.{entries, view}
+use Rattle.recording.proofs.Views.{entries-same, getD-entries}
+use Rattle.fresh.specs.Pooled.{Pooled, pooled}
+use Rattle.fresh.specs.Fresh.{Choice, moved, target}
+use Rattle.fresh.specs.Rounds.{settled}
+use Rattle.fresh.specs.Segments.{mapOffset, segmentsOf}
+use Rattle.fresh.specs.Demand.{Bound, Demand3}
+use Rattle.fresh.proofs.Within.{moved-le}
+use Rattle.fresh.proofs.Fill.{built-assembled, labels-same}
+use Rattle.fresh.proofs.Demand.{demand3}
+use Rattle.finish.specs.Refusals.{every, isBound, jumpBound, hasJump}
+use Rattle.finish.specs.Finish.{bytesOfAll, overWords, finish}
+use Rattle.finish.proofs.Mapped.{set-over-words, map-entries}
+use Rattle.demands.specs.Demand2.{finishedCode}
+use Rattle.demands.proofs.Relaxing.{Fitting}
+use Rattle.demands.proofs.Answers.{finish-answered}
+use Rattle.demands.proofs.Discharged.{is-bound, all-jumps-bound, x64, labelled, fitting}
+
+-- every jump's label is bound
+bounds : (labels : List ℕ) (es : List LayoutEvent) → every (jumpBound labels) es ≡ true → Bound labels es
+unfolding every Bound
+bounds labels [] h = tt
+bounds labels (Jump j ∷ es) h =
+    let both = both-true (isBound labels (j .label)) (every (jumpBound labels) es) h in (is-bound labels (j .label) (both .0), bounds labels es (both .1))
+bounds labels (Align start len align ∷ es) h = bounds labels es h
+
+-- words written over a table are read from it
+word-read : (f : ℕ → ℕ) (t : List ℕ) (n : ℕ) → n * 4 ≤ length t → ((i : ℕ) → i < n → f i < 4294967296) → (i : ℕ) → i < n
+    → wordAt (overWords t (entries f n)) i ≡ f i
+word-read f t zero room small i h = absurd (omega arith)
+word-read f t (suc n) room small i h =
+    let before = overWords t (entries f n) in
+    rw (← set-over-words f t n)
+    (⊎-elim
+    (λ (e : i ≡ n). rw e (wordAt-same before n (f n) (omega (arith, length-over t 0 (bytesOfAll (entries f n)))) (small n (omega arith))))
+    (λ (ne : i ≢ n). wordAt-other before n (f n) i ne ∙ word-read f t n (omega arith) (λ j l. small j (omega arith)) i (omega arith))
+    (eq-or-ne i n))
+
+words-read : (f : ℕ → ℕ) (t : List ℕ) (n : ℕ) → n * 4 ≤ length t → ((i : ℕ) → i < n → f i < 4294967296)
+    → entries (wordAt (overWords t (entries f n))) n ≡ entries f n
+words-read f t n room small = entries-same (wordAt (overWords t (entries f n))) f n (word-read f t n room small)
+
+-- where labels go is a word
+moved-none : (p : Pooled) (c : Choice) → moved p c none ≡ none
+unfolding moved
+moved-none p c = refl
+
+target-small : (p : Pooled) (c : Choice) → Fitting p c → (l : ℕ) → target p c l < 4294967296
+target-small p c fitting l =
+    ⊎-elim
+    (λ (e : getD (p .labels) l none ≡ none). omega (arith, ap (moved p c) e ∙ moved-none p c))
+    (λ (bound : getD (p .labels) l none ≢ none).
+    let lies = fitting .formed .landed l bound in
+    omega (arith, fitting .small, moved-le p c (getD (p .labels) l none) (omega (arith, lies .0, fitting .recorded))))
+    (eq-or-ne (getD (p .labels) l none) none)
+
+-- With a jump: the finished bytes, the label table as it is left, and the layouts reported.
+pub demand3-holds : (r : Recording) (rows : List (List ℕ)) (output : List ℕ) → finish r rows output .0 .refusal ≡ 0
+    → hasJump (pooled (r .buffer .arch) (view r)) ≡ true
+    → Demand3 (pooled (r .buffer .arch) (view r)) (finishedCode r rows output) (entries (wordAt (finish r rows output .1 .0)) (r .buffer .labels))
+    (finish r rows output .0 .code .layouts)
+demand3-holds r rows output e jump =
+    let b = r .buffer in
+    let p = pooled (b .arch) (view r) in
+    let c = settled p .choice in
+    let a = finish-answered r rows output e in
+    let sound = a .fit .sound in
+    let few = a .fit .few in
+    let done = a .jumped jump in
+    let fits = fitting r sound few (x64 r sound few jump) rows output _ _ _ _ (a .fit) (a .bound) done in
+    let at = labelled r sound few in
+    let f : ℕ → ℕ = λ (i : ℕ). moved p c (at .0 i) in
+    let all : map (moved p c) (p .labels) ≡ entries f (b .labels) = ap (map (moved p c)) (at .1) ∙ map-entries (moved p c) (at .0) (b .labels) in
+    let table : List ℕ = overWords (r .labels) (p .labels) in
+    let small : (i : ℕ) → i < b .labels → f i < 4294967296 =
+    λ i h. subst (λ (x : ℕ). moved p c x < 4294967296) (ap (λ (l : List ℕ). getD l i none) (at .1) ∙ getD-entries (at .0) (b .labels) i none h) (target-small p c fits i) in
+    let read : entries (wordAt (finish r rows output .1 .0)) (b .labels) ≡ map (moved p c) (p .labels) =
+    ap (λ (t : List ℕ). entries (wordAt t) (b .labels)) (done .mapped ∙ ap (overWords table) all)
+    ∙ words-read f table (b .labels) (omega (arith, sound .labels .room, length-over (r .labels) 0 (bytesOfAll (p .labels)))) small
+    ∙ sym all in
+    subst (Demand3 p (finishedCode r rows output) (entries (wordAt (finish r rows output .1 .0)) (b .labels))) (sym (done .rounds))
+    (subst (λ (l : List ℕ). Demand3 p (finishedCode r rows output) l (settled p .rounds)) (labels-same p c (fits .formed) ∙ sym read)
+    (subst (λ (l : List ℕ). Demand3 p l (map (mapOffset (segmentsOf p c)) (p .labels)) (settled p .rounds)) (built-assembled p c (fits .formed) ∙ sym (done .is))
+    (demand3 p (fits .formed) (bounds (p .labels) (p .events) (all-jumps-bound p (view r .relocs) (a .bound))))))

@@ -1,0 +1,358 @@
+-- What the theorems on finished code ask of a pooled recording follows from what a finish that answers 0 has found of a sound one.
+use mathlib.Core.Path.{_≡_, refl, sym, ap, _∙_, subst}
+use mathlib.Core.Logic.{_⊎_, inl, inr, _≢_, ⊎-elim}
+use mathlib.Core.Bool.{Bool, true, false, not, _&&_, cond}
+use mathlib.Core.List.{List, [], _∷_, _++_}
+use Prim.Native.Nat.{ℕ, zero, suc, _+_, _*_, _≤_, _<_}
+use native.Mathlib.Omega.{arith}
+use lib.Dec.{eqb, ltb}
+use lib.ListN.{length, getD, take, length-append, List·getD-eq-default}
+use borrow.Author.Tests.{ne-eqb, eqb-false, ltb-false, not-true}
+use Rattle.seqs.specs.Pick.{pick}
+use Rattle.seqs.proofs.Booleans.{both-true, true-is-not-false}
+use Rattle.seqs.proofs.Numbers.{lt-or-ge, eq-or-ne}
+use Rattle.seqs.proofs.Picking.{passed, neither}
+use Rattle.words.specs.Words.{wordAt}
+use Rattle.words.proofs.Laws.{wordAt-same, wordAt-other}
+use Rattle.fields.specs.declared.LabelUse.{LabelUse}
+use Rattle.fields.specs.declared.Decoded.{Decoded}
+use Rattle.fields.specs.declared.Decoded.the-variants.{Use}
+use Rattle.fields.specs.Words64.{modulus}
+use Rattle.fields.specs.Kinds.{info, patchSize, isArch, decoded}
+use Rattle.fields.specs.Reach.{canReach, reachRefusal}
+use Rattle.relax.specs.declared.LayoutEvent.{LayoutEvent}
+use Rattle.relax.specs.declared.LayoutEvent.the-variants.{Jump, Align}
+use Rattle.relax.specs.declared.RelaxableJump.{RelaxableJump}
+use Rattle.relax.specs.Events.{conditionOf, eventOf, eventAt, endOf}
+use Rattle.buffer.specs.declared.CodeBuffer.{CodeBuffer}
+use Rattle.buffer.specs.State.{none}
+use Rattle.buffer.specs.Refusals.{foreign}
+use Rattle.recording.specs.Calls.{Recording}
+use Rattle.recording.specs.Sound.{FormOf, EventsSound, Sound}
+use Rattle.recording.specs.View as tables
+use Rattle.recording.proofs.Views.{length-entries, getD-entries}
+use Rattle.fresh.specs.Pooled.{Pooled, pooledTo, pooled}
+use Rattle.fresh.specs.Fresh.{startOf}
+use Rattle.fresh.specs.Rounds.{jumps, settled}
+use Rattle.fresh.proofs.Shape.{Apart, WellFormed}
+use Rattle.fresh.proofs.Rounds.{rounds-settle, rounds-last, none-fits}
+use Rattle.fresh.proofs.Fill.{length-assembled}
+use Rattle.pool.specs.Pool.{labelAt, poolOffset, poolEvent, poolBound}
+use Rattle.pool.proofs.Pool.{poolStart-suc, poolStart-grows, from-poolStart, length-poolBound, poolBound-at, poolOffset-bound}
+use Rattle.checks.specs.Fields.{sizeOf, reachOf}
+use Rattle.finish.specs.Tables.{poolPlaced, tablesPooled}
+use Rattle.finish.specs.Ready.{Landed, Ready}
+use Rattle.finish.specs.Refusals.{every, isBound, jumpBound, relocBound, allBound, hasJump, refClear, refReaches, useRefusal, usesRefusal}
+use Rattle.finish.proofs.Checked.{end-at}
+use Rattle.finish.proofs.Pooling.{pooledTo-tables}
+use Rattle.finish.proofs.Sounds.{pool-fits, pool-labels, pool-distinct, code-length, tied}
+use Rattle.finish.proofs.Formed.{AtTable, AtPool, event-at, every-at, ref-apart, pooled-length, well-formed}
+use Rattle.demands.specs.Demand2 as demand
+use Rattle.demands.specs.Demand2.{Bytes, useOf, refOf, constantOf}
+use Rattle.demands.proofs.Jumping.{Known}
+use Rattle.demands.proofs.Bytes.{bytes-take, bytes-pooled}
+use Rattle.demands.proofs.Relaxing.{Fitting}
+use Rattle.demands.proofs.Staying.{Reaching}
+use Rattle.demands.proofs.Answers.{Fit, Assembled, Kept}
+
+-- a label as the table has it, or where a constant of the pool stands
+landing : (from : ℕ) (labels constants asked : List ℕ) (n l : ℕ) → ((j : ℕ) → j < n → labelAt constants asked j * 4 + 4 ≤ length labels)
+    → ((j : ℕ) → j < n → poolOffset from constants asked j < 4294967296)
+    → (wordAt (poolBound from labels constants asked n) l ≡ wordAt labels l)
+    ⊎ ((j : ℕ) × (j < n) × (wordAt (poolBound from labels constants asked n) l ≡ poolOffset from constants asked j))
+unfolding poolBound
+landing from labels constants asked zero l known small = inl refl
+landing from labels constants asked (suc n) l known small =
+    let bound = poolBound from labels constants asked n in
+    let label = labelAt constants asked n in
+    let offset = poolOffset from constants asked n in
+    ⊎-elim
+    (λ (same : l ≡ label).
+    inr (
+      n,
+      omega arith,
+      rw same (wordAt-same bound label offset (omega (arith, known n (omega arith), length-poolBound from labels constants asked n)) (small n (omega arith))),
+    ))
+    (λ (other : l ≢ label).
+    let stays = wordAt-other bound label offset l other in
+    ⊎-elim
+    (λ (e : wordAt bound l ≡ wordAt labels l). inl (stays ∙ e))
+    (λ (e : (j : ℕ) × (j < n) × (wordAt bound l ≡ poolOffset from constants asked j)). inr (e .0, omega (arith, e .1), stays ∙ e .2))
+    (landing from labels constants asked n l (λ j h. known j (omega arith)) (λ j h. small j (omega arith))))
+    (eq-or-ne l label)
+
+-- conditions up to 16 are known: 16 is none
+known-condition : (n : ℕ) → n ≤ 16 → Known (conditionOf n)
+unfolding conditionOf pick
+known-condition n h =
+    ⊎-elim
+    (λ (e : n ≡ 16). rw e tt)
+    (λ (ne : n ≢ 16). rw (ne-eqb n 16 ne, pick) (omega arith))
+    (eq-or-ne n 16)
+
+abbrev KnownEvent : LayoutEvent → Type 0
+KnownEvent (Jump v) = Known (v .cc)
+KnownEvent (Align start len align) = Unit {0}
+
+known-event : (labels kind start len what cc : ℕ) → FormOf labels kind start len what cc → KnownEvent (eventOf kind start len what cc)
+unfolding eventOf pick
+known-event labels kind start len what cc form =
+    ⊎-elim
+    (λ (jump : (kind ≡ 1) × (2 ≤ len) × (len ≤ 15) × (what < labels) × (cc ≤ 16)). rw (jump .0) (known-condition cc (jump .4)))
+    (λ align. rw (align .0) tt)
+    form
+
+-- a kind that is not foreign to X64 is one of x86
+x86-alone : (t : Bool) → not (isArch t 2) ≡ false → t ≡ true
+x86-alone true h = refl
+x86-alone false h = absurd (true-is-not-false h)
+
+x86-kind : (d : Decoded) (k : LabelUse) → d ≡ Use k → foreign d 2 ≡ false → info k .x86 ≡ true
+x86-kind d k is h = x86-alone (info k .x86) (rw is at h)
+
+pub is-bound : (labels : List ℕ) (l : ℕ) → isBound labels l ≡ true → getD labels l none ≢ none
+is-bound labels l h = eqb-false (getD labels l none) none (not-true (eqb (getD labels l none) none) h)
+
+jump-bound : (labels : List ℕ) (e : LayoutEvent) (v : RelaxableJump) → e ≡ Jump v → jumpBound labels e ≡ true → getD labels (v .label) none ≢ none
+jump-bound labels e v is h = is-bound labels (v .label) (rw is at h)
+
+pub all-jumps-bound : (p : Pooled) (relocs : List tables.Relocation) → allBound p relocs ≡ true → every (jumpBound (p .labels)) (p .events) ≡ true
+unfolding allBound
+all-jumps-bound p relocs h =
+    let refs = every (λ (f : tables.Ref). isBound (p .labels) (f .label)) (p .refs) in
+    let jumps = every (jumpBound (p .labels)) (p .events) in
+    let relocs·bound = every (relocBound (p .labels)) relocs in
+    let uses = every (λ (u : tables.Use). isBound (p .labels) (u .label)) (p .uses) in
+    both-true refs jumps (both-true relocs·bound (refs && jumps) (both-true uses (relocs·bound && (refs && jumps)) h .1) .1) .1
+
+use-refused : (p : Pooled) (us : List tables.Use) (z : tables.Use) → usesRefusal p us ≡ 0 → (i : ℕ) → i < length us → useRefusal p (getD us i z) ≡ 0
+unfolding usesRefusal
+use-refused p [] z e i h = absurd (omega arith)
+use-refused p (u ∷ us) z e zero h = neither (useRefusal p u) (usesRefusal p us) e .0
+use-refused p (u ∷ us) z e (suc i) h = use-refused p us z (neither (useRefusal p u) (usesRefusal p us) e .1) i (omega arith)
+
+reach-true : (k : LabelUse) (offset label : ℕ) → reachRefusal k offset label ≡ 0 → canReach k offset label ≡ true
+unfolding reachRefusal
+reach-true k offset label e = by (canReach k offset label) (info k .branch) (ltb label offset) e
+  where
+    by : (a b c : Bool) → _≡_ {A = ℕ} (cond a 0 (cond b 20 (cond c 22 21))) 0 → a ≡ true
+    by true b c h = refl
+    by false true c h = absurd (omega arith)
+    by false false true h = absurd (omega arith)
+    by false false false h = absurd (omega arith)
+
+-- what it says of a use that it is not refused
+use-fits : (p : Pooled) (u : tables.Use) (k : LabelUse) → decoded (u .code) ≡ Use k → useRefusal p u ≡ 0
+    → (u .offset + patchSize k ≤ length (p .code)) × (canReach k (u .offset) (getD (p .labels) (u .label) none) ≡ true)
+unfolding useRefusal
+use-fits p u k is e =
+    let label = getD (p .labels) (u .label) none in
+    let both = passed (ltb (length (p .code)) (u .offset + sizeOf (decoded (u .code)))) 19 (reachOf (decoded (u .code)) (u .offset) label) (λ z. omega arith) e in (
+      ltb-false (length (p .code)) (u .offset + patchSize k) (subst (λ (d : Decoded). ltb (length (p .code)) (u .offset + sizeOf d) ≡ false) is (both .0)),
+      reach-true k (u .offset) label (subst (λ (d : Decoded). reachOf d (u .offset) label ≡ 0) is (both .1)),
+    )
+
+module _ (r : Recording) (s : Sound r) (few : r .buffer .asked ≤ 65536) where
+  abbrev b : CodeBuffer
+  b = r .buffer
+
+  abbrev p : Pooled
+  p = pooled (b .arch) (tables.view r)
+
+  abbrev bound : List ℕ
+  bound = poolBound (b .code) (r .labels) (r .constants) (r .asked) (b .asked)
+
+  -- the pooled recording as the tables have it
+  pooled-is : p
+      ≡ tablesPooled (b .arch) (b .code) (take (b .code) (r .code)) (tables.entries (wordAt bound) (b .labels)) (tables.entries (eventAt (r .events)) (b .events))
+      (tables.entries (tables.useAt (r .uses)) (b .uses)) (tables.entries (tables.refAt (r .refs)) (b .refs)) (r .constants) (r .asked) (b .asked)
+  pooled-is =
+      let v = tables.view r in
+      ap (pooledTo (b .arch) v) (length-entries (wordAt (r .asked)) (b .asked))
+      ∙ pooledTo-tables (b .arch) v (r .labels) (r .constants) (r .asked) (b .labels) (b .asked) (tied r s few)
+      ∙ ap
+      (λ (n : ℕ).
+      tablesPooled (b .arch) n (v .code) (tables.entries (wordAt (poolBound n (r .labels) (r .constants) (r .asked) (b .asked))) (b .labels)) (v .events) (v .uses) (v .refs)
+      (r .constants) (r .asked) (b .asked))
+      (code-length r s few)
+
+  small-offset : (j : ℕ) → j < b .asked → poolOffset (b .code) (r .constants) (r .asked) j < 4294967296
+  small-offset j h = omega (arith, s .code .limit, few, poolOffset-bound (b .code) (r .constants) (r .asked) (b .asked) (pool-fits r s few) j h)
+
+  lands : (l : ℕ)
+      → (wordAt bound l ≡ wordAt (r .labels) l) ⊎ ((j : ℕ) × (j < b .asked) × (wordAt bound l ≡ poolOffset (b .code) (r .constants) (r .asked) j))
+  lands l = landing (b .code) (r .labels) (r .constants) (r .asked) (b .asked) l (pool-labels r s few .known) small-offset
+
+  -- a label as recordings leave it, or one of the pool
+  landed : (l : ℕ) → l < b .labels → Landed (r .events) (b .events) (b .code) (r .constants) (r .asked) (b .asked) (wordAt bound l)
+  landed l h =
+      ⊎-elim
+      (λ (e : wordAt bound l ≡ wordAt (r .labels) l). inl (rw e (s .labels .entry l h)))
+      (λ (e : (j : ℕ) × (j < b .asked) × (wordAt bound l ≡ poolOffset (b .code) (r .constants) (r .asked) j)). inr e)
+      (lands l)
+
+  label-small : (l : ℕ) → getD (p .labels) l none < modulus
+  label-small l =
+      rw pooled-is
+      (⊎-elim
+      (λ (h : l < b .labels).
+      rw (getD-entries (wordAt bound) (b .labels) l none h)
+      (⊎-elim
+      (λ sound. ⊎-elim (λ (e : wordAt bound l ≡ none). omega arith) (λ q. omega (arith, q .0, s .code .limit)) sound)
+      (λ (e : (j : ℕ) × (j < b .asked) × (wordAt bound l ≡ poolOffset (b .code) (r .constants) (r .asked) j)).
+      omega (arith, e .2, small-offset (e .0) (e .1)))
+      (landed l h)))
+      (λ (h : b .labels ≤ l).
+      let past : length (tables.entries (wordAt bound) (b .labels)) ≤ l = omega (arith, length-entries (wordAt bound) (b .labels)) in
+      omega (arith, List·getD-eq-default (tables.entries (wordAt bound) (b .labels)) none past))
+      (lt-or-ge l (b .labels)))
+
+  -- the labels of the pooled recording, as a table has them
+  pub labelled : (at : ℕ → ℕ) × (p .labels ≡ tables.entries at (b .labels))
+  labelled = (wordAt bound, ap (λ (x : Pooled). x .labels) pooled-is)
+
+  ref-is : (i : ℕ) → i < length (p .refs) → (i < b .refs) × (refOf p i ≡ tables.refAt (r .refs) i)
+  ref-is i h =
+      let e : p .refs ≡ tables.entries (tables.refAt (r .refs)) (b .refs) = ap (λ (q : Pooled). q .refs) pooled-is in
+      let l : i < b .refs = omega (arith, ap length e, length-entries (tables.refAt (r .refs)) (b .refs)) in
+      (l, ap (λ (x : List tables.Ref). getD x i (record { offset = 0; label = 0; code = 0; addend = 0 })) e ∙ getD-entries (tables.refAt (r .refs)) (b .refs) i _ l)
+
+  -- without a jump
+  pub reaching : (rows : List (List ℕ)) (output code : List ℕ) → Bytes (r .code) → Fit r rows output → Kept p output code → Reaching p
+  reaching rows output code bytes fit kept =
+      record {
+        bytes = bytes-pooled (b .arch) (tables.view r) (length (tables.view r .asked)) (bytes-take (b .code) (r .code) bytes);
+        recorded = omega (arith, fit .small);
+        labels = label-small;
+        within = λ i k h is. use-fits p (useOf p i) k is (use-refused p (p .uses) _ (kept .none-refused) i h) .0;
+        reach = λ i k h is. use-fits p (useOf p i) k is (use-refused p (p .uses) _ (kept .none-refused) i h) .1;
+      }
+
+  -- only X64 has jumps
+  no-events : (t : Bool) (xs : List LayoutEvent) → b .events ≡ 0 → t ≡ false → jumps (tables.entries (eventAt (r .events)) (b .events) ++ cond t xs []) ≡ 0
+  no-events t xs none e = rw (none, e) refl
+
+  pub x64 : hasJump p ≡ true → b .arch ≡ 2
+  x64 jump =
+      ⊎-elim
+      (λ (e : b .arch ≡ 2). e)
+      (λ (ne : b .arch ≢ 2).
+      let none : b .events ≡ 0 = ⊎-elim (λ (e : b .arch ≡ 2). absurd (ne e)) (λ (z : b .events ≡ 0). z) (s .events .tracked) in
+      let zero : jumps (p .events) ≡ 0 = ap (λ (q : Pooled). jumps (q .events)) pooled-is ∙ no-events (eqb (b .arch) 2) _ none (ne-eqb (b .arch) 2 ne) in
+      absurd (eqb-false (jumps (p .events)) 0 (not-true (eqb (jumps (p .events)) 0) jump) zero))
+      (eq-or-ne (b .arch) 2)
+
+  module _ (is64 : b .arch ≡ 2) where
+    ready : Ready (r .code) bound (r .events) (r .constants) (r .asked) 2 (b .code) (b .labels) (b .events) (b .asked)
+    ready =
+        record {
+          bytes = s .code;
+          recorded = subst (λ (a : ℕ). EventsSound (r .events) (b .events) (b .labels) (b .code) a) is64 (s .events);
+          pool = pool-fits r s few;
+          named = record { known = λ j h. omega (arith, pool-labels r s few .known j h, length-poolBound (b .code) (r .labels) (r .constants) (r .asked) (b .asked)) };
+          owned = tied r s few .known;
+          stands = poolBound-at (b .code) (r .labels) (r .constants) (r .asked) (b .asked) (pool-distinct r s few) (pool-labels r s few .known) small-offset;
+          room = omega (arith, s .labels .room, length-poolBound (b .code) (r .labels) (r .constants) (r .asked) (b .asked));
+          limit = s .labels .limit;
+          landed = landed;
+        }
+
+    abbrev q : Pooled
+    q =
+        tablesPooled 2 (b .code) (take (b .code) (r .code)) (tables.entries (wordAt bound) (b .labels)) (tables.entries (eventAt (r .events)) (b .events))
+        (tables.entries (tables.useAt (r .uses)) (b .uses)) (tables.entries (tables.refAt (r .refs)) (b .refs)) (r .constants) (r .asked) (b .asked)
+
+    pooled-q : p ≡ q
+    pooled-q =
+        pooled-is
+        ∙ ap
+        (λ (a : ℕ).
+        tablesPooled a (b .code) (take (b .code) (r .code)) (tables.entries (wordAt bound) (b .labels)) (tables.entries (eventAt (r .events)) (b .events))
+        (tables.entries (tables.useAt (r .uses)) (b .uses)) (tables.entries (tables.refAt (r .refs)) (b .refs)) (r .constants) (r .asked) (b .asked))
+        is64
+
+    pub formed : every (refClear p) (p .refs) ≡ true → WellFormed p
+    formed clear =
+        subst WellFormed (sym pooled-q)
+        (well-formed (r .code) bound (r .events) (r .constants) (r .asked) (b .code) (b .labels) (b .events) (b .asked) ready (q .uses) (q .refs)
+        (subst (λ (x : Pooled). every (refClear x) (x .refs) ≡ true) pooled-q clear))
+
+    table-known : (i : ℕ) → i < b .events → KnownEvent (eventAt (r .events) i)
+    unfolding eventAt
+    table-known i h = known-event (b .labels) _ _ _ _ _ (s .events .entry i h .form)
+
+    many : length (q .events) ≡ b .events + b .asked
+    many =
+        length-append (tables.entries (eventAt (r .events)) (b .events)) (tables.entries (poolEvent (b .code) (r .constants) (r .asked)) (b .asked))
+        ∙ rw (length-entries (eventAt (r .events)) (b .events), length-entries (poolEvent (b .code) (r .constants) (r .asked)) (b .asked)) refl
+
+    event-known : (i : ℕ) → i < length (q .events) → KnownEvent (getD (q .events) i (Align 0 0 0))
+    event-known i h =
+        ⊎-elim
+        (λ (a : AtTable (r .events) (b .events) i (getD (q .events) i (Align 0 0 0))). rw (a .is) (table-known i (a .below)))
+        (λ (a : AtPool (r .constants) (r .asked) (b .code) (b .events) (b .asked) i (getD (q .events) i (Align 0 0 0))). rw (a .is) tt)
+        (event-at (r .events) (r .constants) (r .asked) (b .code) (b .events) (b .asked) i (Align 0 0 0) (omega (arith, many)))
+
+    -- a constant of the pool lies apart from the events
+    constant-apart : (i : ℕ) → i < length (q .pool) → Apart q (constantOf q i .offset) (length (constantOf q i .bytes))
+    constant-apart i h =
+        let from = b .code in
+        let ks = r .constants in
+        let order = r .asked in
+        let lt : i < b .asked = omega (arith, length-entries (poolPlaced from ks order) (b .asked)) in
+        let size = tied r s few .sized i lt in
+        let next = poolStart-suc from ks order i in
+        rw (getD-entries (poolPlaced from ks order) (b .asked) i (record { offset = 0; bytes = [] }) lt, size) (
+          omega (
+            arith,
+            pooled-length (r .code) bound (r .events) ks order from (b .labels) (b .events) (b .asked) ready (q .uses) (q .refs),
+            next,
+            poolStart-grows from ks order (suc i) (b .asked) (omega arith),
+          ),
+          λ j l.
+              ⊎-elim
+              (λ (a : AtTable (r .events) (b .events) j (getD (q .events) j (Align 0 0 0))).
+              inr (omega (arith, ap endOf (a .is) ∙ end-at (r .events) j, s .events .entry j (a .below) .ends, from-poolStart from ks order i)))
+              (λ (a : AtPool ks order from (b .events) (b .asked) j (getD (q .events) j (Align 0 0 0))).
+              ⊎-elim
+              (λ (before : i < a .number).
+              inl (omega (arith, ap startOf (a .is), next, poolStart-grows from ks order (suc i) (a .number) (omega arith))))
+              (λ (ge : a .number ≤ i).
+              ⊎-elim
+              (λ (same : a .number ≡ i). inr (omega (arith, ap endOf (a .is) ∙ ap (poolOffset from ks order) same)))
+              (λ (ne : a .number ≢ i).
+              inr (omega (arith, ap endOf (a .is), poolStart-suc from ks order (a .number), poolStart-grows from ks order (suc (a .number)) i (omega arith))))
+              (eq-or-ne (a .number) i))
+              (lt-or-ge i (a .number)))
+              (event-at (r .events) ks order from (b .events) (b .asked) j (Align 0 0 0) (omega (arith, many))),
+        )
+
+    all-known : (i : ℕ) → i < length (p .events) → KnownEvent (demand.eventOf p i)
+    all-known = subst (λ (x : Pooled). (i : ℕ) → i < length (x .events) → KnownEvent (demand.eventOf x i)) (sym pooled-q) event-known
+
+    ref-native : (i : ℕ) (k : LabelUse) → i < length (p .refs) → decoded (refOf p i .code) ≡ Use k → info k .x86 ≡ true
+    ref-native i k h is =
+        let at = ref-is i h in
+        let sound = s .refs .entry i (at .0) .native in
+        x86-kind (decoded (wordAt (r .refs) (i * 4 + 2))) k (sym (ap (λ (f : tables.Ref). decoded (f .code)) (at .1)) ∙ is)
+        (subst (λ (a : ℕ). foreign (decoded (wordAt (r .refs) (i * 4 + 2))) a ≡ false) is64 sound)
+
+    -- with a jump
+    pub fitting : (rows : List (List ℕ)) (output labels code table : List ℕ) (layouts : ℕ) → Fit r rows output
+        → allBound p (tables.view r .relocs) ≡ true → Assembled p labels output code table layouts → Fitting p (settled p .choice)
+    fitting rows output labels code table layouts fit bounds done =
+        let c = settled p .choice in
+        record {
+          formed = formed (done .clear);
+          recorded = omega (arith, fit .small);
+          small = omega (arith, length-assembled p c, done .fits, fit .room);
+          fits = none-fits p c (rounds-last (rounds-settle p));
+          bound = λ i v h is.
+              jump-bound (p .labels) (demand.eventOf p i) v is
+              (every-at (jumpBound (p .labels)) (p .events) (Align 0 0 0) (all-jumps-bound p (tables.view r .relocs) bounds) i h);
+          known = λ i v h is. subst KnownEvent is (all-known i h);
+          native = ref-native;
+          apart = λ i h. ref-apart p (refOf p i) (every-at (refClear p) (p .refs) _ (done .clear) i h);
+          pool-apart = subst (λ (x : Pooled). (i : ℕ) → i < length (x .pool) → Apart x (constantOf x i .offset) (length (constantOf x i .bytes))) (sym pooled-q) constant-apart;
+          reach = λ i h. every-at (refReaches p c) (p .refs) _ (done .reach) i h;
+        }

@@ -1,0 +1,47 @@
+-- A recording with a jump that finish takes: what the theorems ask can be met.
+use mathlib.Core.Path.{_≡_, refl}
+use mathlib.Core.List.{List, [], _∷_}
+use Prim.Native.Nat.{ℕ}
+use Rattle.recording.specs.Calls.{Recording}
+use Rattle.seqs.specs.Over.{over}
+use Rattle.seqs.specs.Pick.{pick}
+use Rattle.words.specs.Words.{wordAt}
+use Rattle.relax.specs.Events.{conditionOf, eventOf, eventAt}
+use Rattle.buffer.specs.Refusals.{standing, lastEnd}
+use Rattle.checks.specs.Entries.{all, formFits, eventFits, keptOnly, eventsFit, outside, labelFits, labelsFit, usesFit, refsFit, relocsFit, constantsFit, orderFits, entriesFit}
+use Rattle.fresh.specs.Forms.{form, width}
+use Rattle.fresh.specs.Fresh.{items, writes, ends, stands, moved}
+use Rattle.fresh.specs.Rounds.{reaches, isFar, farOf, any, settle}
+use Rattle.fresh.specs.Fill.{fillRefs, displacement, fillJump, fillJumps, fillPool, fill, assembled}
+use Rattle.fresh.specs.Segments.{segments}
+use Rattle.finish.specs.Refusals.{every, countsFit, withinLimits, poolBoundBefore, allBound, whyNotLaid, whyNotWritten, whyUnfit}
+use Rattle.finish.specs.Finish.{relocated, relaxed, placedBy, finish}
+use Rattle.demands.specs.Demand2.{finishedCode}
+
+-- a jump of two bytes to its own start, and a table of one segment
+abbrev pub jumping : Recording
+jumping =
+    record {
+      buffer = record { arch = 2; symbols = 0; finished = 0; refusal = 0; code = 2; labels = 1; events = 1; uses = 0; refs = 0; constants = 0; asked = 0; relocs = 0 };
+      code = 0 ∷ 0 ∷ [];
+      labels = 0 ∷ 0 ∷ 0 ∷ 0 ∷ [];
+      events = 1 ∷ 0 ∷ 0 ∷ 0 ∷ 0 ∷ 0 ∷ 0 ∷ 0 ∷ 2 ∷ 0 ∷ 0 ∷ 0 ∷ 0 ∷ 0 ∷ 0 ∷ 0 ∷ 16 ∷ 0 ∷ 0 ∷ 0 ∷ [];
+      uses = [];
+      refs = [];
+      constants = [];
+      asked = [];
+      relocs = [];
+    }
+
+abbrev pub rows : List (List ℕ)
+rows = (0 ∷ 0 ∷ 0 ∷ 0 ∷ []) ∷ []
+
+-- Finish takes it, and its code is JMP -2.
+pub met : (finish jumping rows (0 ∷ 0 ∷ 0 ∷ []) .0 .refusal ≡ 0) × (finishedCode jumping rows (0 ∷ 0 ∷ 0 ∷ []) ≡ 0xEB ∷ 0xFE ∷ [])
+unfolding over pick wordAt conditionOf eventOf eventAt standing lastEnd all formFits eventFits keptOnly eventsFit outside labelFits labelsFit usesFit refsFit relocsFit constantsFit orderFits entriesFit form width items writes ends stands moved reaches isFar farOf any settle fillRefs displacement fillJump fillJumps fillPool fill assembled segments every countsFit withinLimits poolBoundBefore allBound whyNotLaid whyNotWritten whyUnfit relocated relaxed placedBy finish
+met = (refl, refl)
+
+-- Into an output of one byte it is refused with 23, after the layout: the settled segment stands in the table, and the output is as it was.
+pub refused-after-the-layout : (finish jumping rows (7 ∷ []) .0 .refusal ≡ 23) × (finish jumping rows (7 ∷ []) .1 .1 .1 ≡ (((0 ∷ 2 ∷ 0 ∷ 2 ∷ []) ∷ []), (7 ∷ [])))
+unfolding over pick wordAt conditionOf eventOf eventAt standing lastEnd all formFits eventFits keptOnly eventsFit outside labelFits labelsFit usesFit refsFit relocsFit constantsFit orderFits entriesFit form width items writes ends stands moved reaches isFar farOf any settle fillRefs displacement fillJump fillJumps fillPool fill assembled segments every countsFit withinLimits poolBoundBefore allBound whyNotLaid whyNotWritten whyUnfit relocated relaxed placedBy finish
+refused-after-the-layout = (refl, refl)

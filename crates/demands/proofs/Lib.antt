@@ -1,0 +1,15 @@
+pub mod Read
+pub mod Kept
+pub mod Placing
+pub mod Jumping
+pub mod Fielding
+pub mod Missing
+pub mod Relaxing
+pub mod Bytes
+pub mod Staying
+pub mod Answers
+pub mod Discharged
+pub mod Recorded
+pub mod Demand2
+pub mod Demand3
+pub mod Example

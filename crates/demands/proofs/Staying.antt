@@ -1,0 +1,179 @@
+-- The code of a recording without a jump meets demand 2.
+use mathlib.Core.Path.{_≡_, refl, sym, ap, _∙_}
+use mathlib.Core.Logic.{_≢_, ⊎-elim}
+use mathlib.Core.Bool.{true}
+use mathlib.Core.List.{List, _++_, append-assoc}
+use Prim.Native.Nat.{ℕ, zero, suc, _+_, _-_, _%_, _≤_, _<_}
+use native.Mathlib.Omega.{arith}
+use lib.ListN.{length, getD, take, replicate}
+use borrow.Author.Tests.{eq-eqb, ne-eqb}
+use Rattle.seqs.proofs.Numbers.{eq-or-ne}
+use Rattle.words.specs.Words.{wordAt}
+use Rattle.encoder.proofs.Reading.{nops-read}
+use Rattle.fields.specs.declared.LabelUse.{LabelUse}
+use Rattle.fields.specs.declared.LabelUse.the-variants.{
+  X86JmpRel32,
+  X86BranchRel8,
+  A64Branch14,
+  A64Branch19,
+  A64Branch26,
+  A64Ldr19,
+  A64Adr21,
+  A64Adrp21,
+  A64AddAbsLo12,
+}
+use Rattle.fields.specs.declared.Decoded.the-variants.{Use}
+use Rattle.fields.specs.Words64.{modulus, plus, signExtend}
+use Rattle.fields.specs.Kinds.{codeOf, patchSize, decoded}
+use Rattle.fields.specs.Reach.{canReach}
+use Rattle.fields.specs.Patch.{heldAddend, patchedUse}
+use Rattle.fields.specs.Meaning.{Clear}
+use Rattle.fields.proofs.Fields.{Field, field-means, use-adds-held}
+use Rattle.buffer.specs.State.{none}
+use Rattle.buffer.specs.Calls.{padding}
+use Rattle.buffer.proofs.Appends.{padding-length}
+use Rattle.recording.specs.View as tables
+use Rattle.fresh.specs.Pooled.{Pooled, pooledOne, askedConstant, pooledTo, pooled}
+use Rattle.fresh.specs.Fill.{part, fillUses, inPlace}
+use Rattle.fresh.proofs.Fill.{length-fillUses}
+use Rattle.demands.specs.Demand2.{Bytes, useOf, UseMisses, ConstantMisses, Means, heldBy, InPlace, IsPadding, padStart, padLength, PoolPadded}
+use Rattle.demands.proofs.Kept.{length-part, uses-kept, pool-kept, use-filled}
+use Rattle.demands.proofs.Placing.{part-between}
+use Rattle.demands.proofs.Bytes.{bytes-part, bytes-filled}
+
+abbrev here : ℕ → ℕ
+here offset = offset
+
+-- what holds of a pooled recording without a jump that finish does not refuse
+pub record Reaching (p : Pooled) : Type 0 where
+  pub bytes : Bytes (p .code)
+  pub recorded : length (p .code) < 4294967296
+  pub labels : (l : ℕ) → getD (p .labels) l none < modulus
+  pub within : (i : ℕ) (k : LabelUse) → i < length (p .uses) → decoded (useOf p i .code) ≡ Use k → useOf p i .offset + patchSize k ≤ length (p .code)
+  pub reach : (i : ℕ) (k : LabelUse) → i < length (p .uses) → decoded (useOf p i .code) ≡ Use k
+      → canReach k (useOf p i .offset) (getD (p .labels) (useOf p i .label) none) ≡ true
+
+-- a field of code 0 that held 0 adds nothing, nor does one of another code
+nothing-held : (k : LabelUse) (held : List ℕ) → (codeOf k ≡ 0 → wordAt held 0 ≡ 0) → heldAddend k held ≡ 0
+unfolding heldAddend signExtend
+nothing-held k held h =
+    ⊎-elim
+    (λ (e : codeOf k ≡ 0). rw (e, h e) refl)
+    (λ (ne : codeOf k ≢ 0). rw (ne-eqb (codeOf k) 0 ne) refl)
+    (eq-or-ne (codeOf k) 0)
+
+adds-held : (k : LabelUse) (offset label : ℕ) (held : List ℕ) → codeOf k ≡ 0 → Field k held → offset < 4294967296
+    → wordAt (patchedUse k offset label held) 0 ≡ (label + wordAt held 0 + (8589934592 - (offset + 4))) % 4294967296
+adds-held X86JmpRel32 offset label held e f h = use-adds-held offset label held f h
+adds-held X86BranchRel8 offset label held e f h = absurd (omega arith)
+adds-held A64Branch14 offset label held e f h = absurd (omega arith)
+adds-held A64Branch19 offset label held e f h = absurd (omega arith)
+adds-held A64Branch26 offset label held e f h = absurd (omega arith)
+adds-held A64Ldr19 offset label held e f h = absurd (omega arith)
+adds-held A64Adr21 offset label held e f h = absurd (omega arith)
+adds-held A64Adrp21 offset label held e f h = absurd (omega arith)
+adds-held A64AddAbsLo12 offset label held e f h = absurd (omega arith)
+
+module _ (p : Pooled) where
+  -- a part that no constant covers
+  constants-stay : (a n : ℕ) → ((j : ℕ) → ConstantMisses here p a n j) → part (inPlace p) a n ≡ part (fillUses (p .labels) (p .uses) (p .code)) a n
+  unfolding inPlace
+  constants-stay a n miss = pool-kept here (p .pool) _ a n _ miss
+
+  -- a part that no use and no constant covers
+  pub all-stay : (a n : ℕ) → ((j : ℕ) → UseMisses p a n j) → ((j : ℕ) → ConstantMisses here p a n j) → part (inPlace p) a n ≡ part (p .code) a n
+  all-stay a n uses constants = constants-stay a n constants ∙ uses-kept (p .labels) (p .uses) (p .code) a n _ uses
+
+module _ (p : Pooled) (reaching : Reaching p) where
+  held-field : (i : ℕ) (k : LabelUse) → i < length (p .uses) → decoded (useOf p i .code) ≡ Use k → Field k (heldBy p i k)
+  held-field i k h is =
+      record {
+        size = length-part _ (useOf p i .offset) (patchSize k) (rw (length-fillUses (p .labels) (take i (p .uses)) (p .code)) (reaching .within i k h is));
+        small = bytes-part _ (useOf p i .offset) (patchSize k) (bytes-filled (p .labels) (take i (p .uses)) (p .code) (reaching .bytes));
+      }
+
+  -- the finished field of a use
+  field-is : (i : ℕ) (k : LabelUse) → i < length (p .uses) → decoded (useOf p i .code) ≡ Use k
+      → ((j : ℕ) → i < j → UseMisses p (useOf p i .offset) (patchSize k) j)
+      → ((j : ℕ) → ConstantMisses here p (useOf p i .offset) (patchSize k) j)
+      → part (inPlace p) (useOf p i .offset) (patchSize k)
+      ≡ patchedUse k (useOf p i .offset) (getD (p .labels) (useOf p i .label) none) (heldBy p i k)
+  field-is i k h is uses constants =
+      constants-stay p (useOf p i .offset) (patchSize k) constants
+      ∙ use-filled (p .labels) (p .uses) (p .code) _ i k h is (reaching .within i k h is) uses
+
+  use-means : (i : ℕ) (k : LabelUse) → i < length (p .uses) → decoded (useOf p i .code) ≡ Use k
+      → ((j : ℕ) → i < j → UseMisses p (useOf p i .offset) (patchSize k) j)
+      → ((j : ℕ) → ConstantMisses here p (useOf p i .offset) (patchSize k) j)
+      → Clear k (wordAt (heldBy p i k) 0) → (codeOf k ≡ 0 → wordAt (heldBy p i k) 0 ≡ 0)
+      → Means k (useOf p i .offset) (getD (p .labels) (useOf p i .label) none) (part (inPlace p) (useOf p i .offset) (patchSize k))
+  use-means i k h is uses constants clear held base loaded =
+      let offset = useOf p i .offset in
+      let label = getD (p .labels) (useOf p i .label) none in
+      let bytes = heldBy p i k in
+      let alone : plus label (heldAddend k bytes) ≡ label =
+      ap (plus label) (nothing-held k bytes held) ∙ omega (arith, reaching .labels (useOf p i .label)) in
+      rw (field-is i k h is uses constants, alone)
+      (field-means k base offset label bytes (held-field i k h is)
+      (omega (arith, reaching .within i k h is, reaching .recorded)) (reaching .labels (useOf p i .label)) loaded clear (reaching .reach i k h is))
+
+  use-adds : (i : ℕ) (k : LabelUse) → i < length (p .uses) → decoded (useOf p i .code) ≡ Use k → codeOf k ≡ 0
+      → ((j : ℕ) → i < j → UseMisses p (useOf p i .offset) (patchSize k) j)
+      → ((j : ℕ) → ConstantMisses here p (useOf p i .offset) (patchSize k) j)
+      → wordAt (part (inPlace p) (useOf p i .offset) (patchSize k)) 0
+      ≡ (getD (p .labels) (useOf p i .label) none + wordAt (heldBy p i k) 0 + (8589934592 - (useOf p i .offset + 4))) % 4294967296
+  use-adds i k h is none·code uses constants =
+      ap (λ (l : List ℕ). wordAt l 0) (field-is i k h is uses constants)
+      ∙ adds-held k (useOf p i .offset) (getD (p .labels) (useOf p i .label) none) (heldBy p i k) none·code (held-field i k h is)
+      (omega (arith, reaching .within i k h is, reaching .recorded))
+
+  -- Every field of the code of a recording without a jump.
+  pub in-place-means : InPlace p (inPlace p)
+  in-place-means = record { uses = use-means; adds = use-adds; copied = all-stay p }
+
+-- the padding before constant j stands in the pooled code
+pub record Padded (arch : ℕ) (v : tables.View) (j n : ℕ) : Type 0 where
+  pub after : List ℕ
+  pub is : pooledTo arch v n .code ≡ pooledTo arch v j .code ++ (padding arch (padLength arch v j) ++ after)
+
+padded : (arch : ℕ) (v : tables.View) (j n : ℕ) → j < n → Padded arch v j n
+unfolding pooledOne
+padded arch v j zero h = absurd (omega arith)
+padded arch v j (suc n) h =
+    ⊎-elim
+    (λ (e : j ≡ n). rw e (record { after = replicate (length (askedConstant v n .bytes)) 0; is = refl }))
+    (λ (ne : j ≢ n).
+    let q = padded arch v j n (omega arith) in
+    let more : List ℕ = padding arch (padLength arch v n) ++ replicate (length (askedConstant v n .bytes)) 0 in
+    record {
+      after = q .after ++ more;
+      is =
+          ap (λ (l : List ℕ). l ++ more) (q .is)
+          ∙ append-assoc (pooledTo arch v j .code) (padding arch (padLength arch v j) ++ q .after) more
+          ∙ ap (λ (l : List ℕ). pooledTo arch v j .code ++ l) (append-assoc (padding arch (padLength arch v j)) (q .after) more);
+    })
+    (eq-or-ne j n)
+
+-- what pads is padding
+pub is-padding : (arch n : ℕ) (bytes : List ℕ) → bytes ≡ padding arch n → IsPadding arch n bytes
+is-padding arch n bytes e =
+    record {
+      nops = λ x86. rw (e, ne-eqb arch 6 x86) (nops-read n);
+      zeros = λ a64. e ∙ rw (eq-eqb arch 6 a64) refl;
+    }
+
+module _ (arch : ℕ) (v : tables.View) where
+  padding-is : (j : ℕ) → j < length (v .asked)
+      → ((i : ℕ) → UseMisses (pooled arch v) (padStart arch v j) (padLength arch v j) i)
+      → ((i : ℕ) → ConstantMisses here (pooled arch v) (padStart arch v j) (padLength arch v j) i)
+      → part (inPlace (pooled arch v)) (padStart arch v j) (padLength arch v j) ≡ padding arch (padLength arch v j)
+  padding-is j h uses constants =
+      let q = padded arch v j (length (v .asked)) h in
+      all-stay (pooled arch v) (padStart arch v j) (padLength arch v j) uses constants
+      ∙ part-between (pooled arch v .code) (pooledTo arch v j .code) (padding arch (padLength arch v j)) (q .after) (padStart arch v j) (padLength arch v j) (q .is) refl
+      (sym (padding-length arch (padLength arch v j)))
+
+  -- The padding of every pooled constant.
+  pub pool-padded : PoolPadded arch v (inPlace (pooled arch v))
+  pool-padded j h uses constants =
+      is-padding arch (padLength arch v j) (part (inPlace (pooled arch v)) (padStart arch v j) (padLength arch v j)) (padding-is j h uses constants)

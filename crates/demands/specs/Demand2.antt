@@ -1,0 +1,157 @@
+-- Demand 2, as one claim about finished code: "By Intel's manual and Arm's A64 manual, every finished jump, branch, address field and padding byte that
+-- nothing written later covers means what its label demands".
+use mathlib.Core.Path.{_≡_}
+use mathlib.Core.Logic.{_≢_}
+use mathlib.Core.Bool.{true, false}
+use mathlib.Core.List.{List, [], _∷_}
+use Prim.Native.Nat.{ℕ, suc, _+_, _-_, _%_, _≤_, _<_}
+use lib.ListN.{length, getD, take, replicate}
+use Rattle.words.specs.Words.{wordAt}
+use Rattle.encoder.specs.Padding.{paddingLength}
+use Rattle.encoder.specs.Intel.{AreNops}
+use Rattle.fields.specs.declared.LabelUse.{LabelUse}
+use Rattle.fields.specs.declared.Decoded.the-variants.{Use}
+use Rattle.fields.specs.Words64.{plus, signExtend}
+use Rattle.fields.specs.Kinds.{codeOf, patchSize, decoded}
+use Rattle.fields.specs.Meaning.{meaning, demanded, loadMultiple, Clear}
+use Rattle.relax.specs.declared.LayoutEvent.{LayoutEvent}
+use Rattle.relax.specs.declared.LayoutEvent.the-variants.{Jump, Align}
+use Rattle.relax.specs.declared.RelaxableJump.{RelaxableJump}
+use Rattle.buffer.specs.State.{none}
+use Rattle.recording.specs.Calls.{Recording}
+use Rattle.recording.specs.View as tables
+use Rattle.fresh.specs.Pooled.{constantAlignment, Placed, Pooled, askedConstant, pooledTo, pooled}
+use Rattle.fresh.specs.Forms.{width}
+use Rattle.fresh.specs.Fresh.{Choice, isLong, others, Item, plain, event, ends, walk, moved, target}
+use Rattle.fresh.specs.Rounds.{settled}
+use Rattle.fresh.specs.Fill.{part, fillUses}
+use Rattle.checks.specs.Fields.{sizeOf}
+use Rattle.finish.specs.Refusals.{hasJump}
+use Rattle.finish.specs.Finish.{finish}
+use Rattle.demands.specs.Reading.{Reads}
+
+-- no byte is both one of the n bytes from a on and one of the m bytes from b on
+abbrev pub Disjoint : ℕ → ℕ → ℕ → ℕ → Type 0
+Disjoint a n b m = (x : ℕ) → a ≤ x → x < a + n → b ≤ x → x < b + m → ⊥
+
+-- each is a byte
+abbrev pub Bytes : List ℕ → Type 0
+Bytes l = (i : ℕ) → getD l i 0 < 256
+
+-- entry number i
+abbrev pub useOf : Pooled → ℕ → tables.Use
+useOf p i = getD (p .uses) i (record { offset = 0; label = 0; code = 0 })
+
+abbrev pub refOf : Pooled → ℕ → tables.Ref
+refOf p i = getD (p .refs) i (record { offset = 0; label = 0; code = 0; addend = 0 })
+
+abbrev pub eventOf : Pooled → ℕ → LayoutEvent
+eventOf p i = getD (p .events) i (Align 0 0 0)
+
+abbrev pub constantOf : Pooled → ℕ → Placed
+constantOf p i = getD (p .pool) i (record { offset = 0; bytes = [] })
+
+-- the new offset at which each event starts, in order
+unfoldable pub starts : ℕ → List Item → Choice → List ℕ
+starts n [] c = []
+starts n (plain b ∷ is) c = starts (suc n) is c
+starts n (event e ∷ is) c = n ∷ starts (n + width e (isLong c) n) is (others c)
+
+-- where event i starts and ends in the code of a choice
+abbrev pub newStart : Pooled → Choice → ℕ → ℕ
+newStart p c i = getD (starts 0 (walk p) c) i 0
+
+abbrev pub newEnd : Pooled → Choice → ℕ → ℕ
+newEnd p c i = getD (ends 0 (walk p) c) i 0
+
+-- the field of ref j, the field of use j, or the bytes of constant j cover none of the n bytes from a on
+abbrev pub RefMisses : Pooled → Choice → ℕ → ℕ → ℕ → Type 0
+RefMisses p c a n j = j < length (p .refs) → Disjoint a n (moved p c (refOf p j .offset)) (sizeOf (decoded (refOf p j .code)))
+
+abbrev pub UseMisses : Pooled → ℕ → ℕ → ℕ → Type 0
+UseMisses p a n j = j < length (p .uses) → Disjoint a n (useOf p j .offset) (sizeOf (decoded (useOf p j .code)))
+
+abbrev pub ConstantMisses : (ℕ → ℕ) → Pooled → ℕ → ℕ → ℕ → Type 0
+ConstantMisses at p a n j = j < length (p .pool) → Disjoint a n (at (constantOf p j .offset)) (length (constantOf p j .bytes))
+
+-- wherever the code is loaded (on a 4,096 multiple for the page kinds), a field of kind k at `offset` with these bytes means what its target demands
+abbrev pub Means : LabelUse → ℕ → ℕ → List ℕ → Type 0
+Means k offset target bytes =
+    (base : ℕ) → base % loadMultiple k ≡ 0 → meaning k (plus base offset) (wordAt bytes 0) ≡ demanded k (plus base target)
+
+-- With a jump: p is the pooled recording, c the choice of long jumps. Refs are filled first, then jumps, then the constants.
+pub record Relaxed (p : Pooled) (c : Choice) (code : List ℕ) : Type 0 where
+  -- a ref that no later ref and no constant covers means its label plus its addend; no jump covers one
+  pub refs : (i : ℕ) (k : LabelUse) → i < length (p .refs) → decoded (refOf p i .code) ≡ Use k
+      → ((j : ℕ) → i < j → RefMisses p c (moved p c (refOf p i .offset)) (patchSize k) j)
+      → ((j : ℕ) → ConstantMisses (moved p c) p (moved p c (refOf p i .offset)) (patchSize k) j)
+      → Means k (moved p c (refOf p i .offset)) (plus (target p c (refOf p i .label)) (signExtend 32 (refOf p i .addend)))
+      (part code (moved p c (refOf p i .offset)) (patchSize k))
+  -- every jump is read, on its condition, as a jump to its label; nothing covers one
+  pub jumps : (i : ℕ) (v : RelaxableJump) → i < length (p .events) → eventOf p i ≡ Jump v → (base : ℕ)
+      → Reads (plus base (newStart p c i)) (part code (newStart p c i) (newEnd p c i - newStart p c i)) (v .cc) (plus base (target p c (v .label)))
+  -- all padding, an alignment's or a pooled constant's, is NOPs; nothing covers it
+  pub padding : (i start len align : ℕ) → i < length (p .events) → eventOf p i ≡ Align start len align
+      → AreNops (part code (newStart p c i) (newEnd p c i - newStart p c i))
+  -- an event takes the bytes from its new start to its new end, a jump those of its short or long form as the choice says
+  pub widths : (i : ℕ) → i < length (p .events) → newEnd p c i ≡ newStart p c i + width (eventOf p i) (getD c i false) (newStart p c i)
+  pub within : (i : ℕ) → i < length (p .events) → newEnd p c i ≤ length code
+
+-- what stands in the field of use i, of kind k, when its turn comes
+abbrev pub heldBy : Pooled → ℕ → LabelUse → List ℕ
+heldBy p i k = part (fillUses (p .labels) (take i (p .uses)) (p .code)) (useOf p i .offset) (patchSize k)
+
+-- Without a jump: p is the pooled recording. Nothing moves; uses are filled first, then the constants.
+pub record InPlace (p : Pooled) (code : List ℕ) : Type 0 where
+  -- a use that no later use and no constant covers means its label: code 16 where its field was clear, code 0 where its field held 0
+  pub uses : (i : ℕ) (k : LabelUse) → i < length (p .uses) → decoded (useOf p i .code) ≡ Use k
+      → ((j : ℕ) → i < j → UseMisses p (useOf p i .offset) (patchSize k) j)
+      → ((j : ℕ) → ConstantMisses (λ (offset : ℕ). offset) p (useOf p i .offset) (patchSize k) j)
+      → Clear k (wordAt (heldBy p i k) 0) → (codeOf k ≡ 0 → wordAt (heldBy p i k) 0 ≡ 0)
+      → Means k (useOf p i .offset) (getD (p .labels) (useOf p i .label) none) (part code (useOf p i .offset) (patchSize k))
+  -- code 0 adds, modulo 2^32, what its field held
+  pub adds : (i : ℕ) (k : LabelUse) → i < length (p .uses) → decoded (useOf p i .code) ≡ Use k → codeOf k ≡ 0
+      → ((j : ℕ) → i < j → UseMisses p (useOf p i .offset) (patchSize k) j)
+      → ((j : ℕ) → ConstantMisses (λ (offset : ℕ). offset) p (useOf p i .offset) (patchSize k) j)
+      → wordAt (part code (useOf p i .offset) (patchSize k)) 0
+      ≡ (getD (p .labels) (useOf p i .label) none + wordAt (heldBy p i k) 0 + (8589934592 - (useOf p i .offset + 4))) % 4294967296
+  -- what no use and no constant covers, recorded padding too, stays as it was recorded and padded
+  pub copied : (a n : ℕ) → ((j : ℕ) → UseMisses p a n j) → ((j : ℕ) → ConstantMisses (λ (offset : ℕ). offset) p a n j) → part code a n ≡ part (p .code) a n
+
+-- n bytes of padding: NOPs on X86 and X64, zeros on AArch64
+pub record IsPadding (arch n : ℕ) (bytes : List ℕ) : Type 0 where
+  pub nops : arch ≢ 6 → AreNops bytes
+  pub zeros : arch ≡ 6 → bytes ≡ replicate n 0
+
+-- the padding before constant j of the pool: where it starts, and how long it is
+abbrev pub padStart : ℕ → tables.View → ℕ → ℕ
+padStart arch v j = length (pooledTo arch v j .code)
+
+abbrev pub padLength : ℕ → tables.View → ℕ → ℕ
+padLength arch v j = paddingLength (padStart arch v j) (constantAlignment (length (askedConstant v j .bytes)))
+
+-- the padding before every constant that no use and no constant covers
+abbrev pub PoolPadded : ℕ → tables.View → List ℕ → Type 0
+PoolPadded arch v code =
+    (j : ℕ) → j < length (v .asked)
+    → ((i : ℕ) → UseMisses (pooled arch v) (padStart arch v j) (padLength arch v j) i)
+    → ((i : ℕ) → ConstantMisses (λ (offset : ℕ). offset) (pooled arch v) (padStart arch v j) (padLength arch v j) i)
+    → IsPadding arch (padLength arch v j) (part code (padStart arch v j) (padLength arch v j))
+
+-- the padding of an alignment that was recorded when the recording was r, if no use and no constant covers it; p is the pooled recording in the end
+abbrev pub AlignPadded : Recording → ℕ → Pooled → List ℕ → Type 0
+AlignPadded r multiple p code =
+    ((i : ℕ) → UseMisses p (r .buffer .code) (paddingLength (r .buffer .code) multiple) i)
+    → ((i : ℕ) → ConstantMisses (λ (offset : ℕ). offset) p (r .buffer .code) (paddingLength (r .buffer .code) multiple) i)
+    → IsPadding (r .buffer .arch) (paddingLength (r .buffer .code) multiple) (part code (r .buffer .code) (paddingLength (r .buffer .code) multiple))
+
+-- the finished bytes: as many of the output as the answer says
+abbrev pub finishedCode : Recording → List (List ℕ) → List ℕ → List ℕ
+finishedCode r rows output = take (finish r rows output .0 .code .len) (finish r rows output .1 .1 .1 .1)
+
+-- of the finished code of a recording
+pub record Demand2 (r : Recording) (code : List ℕ) : Type 0 where
+  pub jumped : hasJump (pooled (r .buffer .arch) (tables.view r)) ≡ true
+      → Relaxed (pooled (r .buffer .arch) (tables.view r)) (settled (pooled (r .buffer .arch) (tables.view r)) .choice) code
+  pub straight : hasJump (pooled (r .buffer .arch) (tables.view r)) ≡ false
+      → InPlace (pooled (r .buffer .arch) (tables.view r)) code × PoolPadded (r .buffer .arch) (tables.view r) code
