@@ -1,9 +1,9 @@
--- `recording_answers::pass_over` is safe and ends: each turn lessens `left`.
+-- `finish_answers::pass_over` is safe and ends: each turn lessens `left`.
 use borrow.Author.Needs.{needs}
 use mathlib.Core.Path.{_≡_}
 use lib.ListN.{length}
-use Rattle.recording_answers.proofs.pass_over.Statement.{statement}
-use Rattle.recording_answers.proofs.pass_over.Tie as tie
+use Rattle.finish_answers.proofs.pass_over.Statement.{statement}
+use Rattle.finish_answers.proofs.pass_over.Tie as tie
 
 abbrev Inv-loop : tie.InvT-loop
 Inv-loop n part₀ left₀ part left = length part ≡ 4096
