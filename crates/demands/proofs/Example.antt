@@ -1,8 +1,11 @@
--- A recording with a jump that finish takes: what the theorems ask can be met.
+-- A recording with a jump that finish takes: what the theorems ask can be met; and wrong programs that the definitions refuse.
 use mathlib.Core.Path.{_≡_, refl}
 use mathlib.Core.List.{List, [], _∷_}
 use Prim.Native.Nat.{ℕ}
+use lib.ListN.{length}
 use Rattle.recording.specs.Calls.{Recording}
+use Rattle.fields.specs.declared.LabelUse.the-variants.{X86JmpRel32}
+use Rattle.fields.specs.Patch.{patched}
 use Rattle.seqs.specs.Over.{over}
 use Rattle.seqs.specs.Pick.{pick}
 use Rattle.words.specs.Words.{wordAt}
@@ -45,3 +48,9 @@ met = (refl, refl)
 pub refused-after-the-layout : (finish jumping rows (7 ∷ []) .0 .refusal ≡ 23) × (finish jumping rows (7 ∷ []) .1 .1 .1 ≡ (((0 ∷ 2 ∷ 0 ∷ 2 ∷ []) ∷ []), (7 ∷ [])))
 unfolding over pick wordAt conditionOf eventOf eventAt standing lastEnd all formFits eventFits keptOnly eventsFit outside labelFits labelsFit usesFit refsFit relocsFit constantsFit orderFits entriesFit form width items writes ends stands moved reaches isFar farOf any settle fillRefs displacement fillJump fillJumps fillPool fill assembled segments every countsFit withinLimits poolBoundBefore allBound whyNotLaid whyNotWritten whyUnfit relocated relaxed placedBy finish
 refused-after-the-layout = (refl, refl)
+
+-- A ref "ignores the field": what its four bytes held before makes no difference, so a program that adds it is refused.
+pub stale-field-ignored : (offset target : ℕ) (xs ys : List ℕ) → length xs ≡ 4 → length ys ≡ 4
+    → patched X86JmpRel32 offset target xs ≡ patched X86JmpRel32 offset target ys
+unfolding patched
+stale-field-ignored offset target xs ys hx hy = rw (hx, hy)
