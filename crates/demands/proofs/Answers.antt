@@ -27,7 +27,7 @@ use Rattle.fresh.proofs.Fill.{length-inPlace}
 use Rattle.checks.specs.Entries.{entriesFit}
 use Rattle.checks.proofs.Sound.{fits-sound}
 use Rattle.finish.specs.declared.Finished.{Finished}
-use Rattle.finish.specs.declared.Placed.{Placed}
+use Rattle.finish.specs.declared.Outcome.{Outcome}
 use Rattle.finish.specs.Refusals.{every, countsFit, withinLimits, poolBoundBefore, allBound, hasJump, refClear, refReaches, whyNotLaid, whyNotWritten, usesRefusal, whyNotInPlace, whyUnfit}
 use Rattle.finish.specs.Finish.{overWords, Left, relaxed, unrelaxed, finishedWith, placedBy, finish}
 use Rattle.demands.specs.Demand2.{finishedCode}
@@ -179,7 +179,7 @@ taken output code n e h =
     let z : n ≡ 0 + length code = omega arith in ap (λ (m : ℕ). take m (over output 0 code)) z ∙ take-over-end output 0 code (omega arith)
 
 -- the bytes that a stage leaves, as many as it says
-abbrev codeOf : Placed × Left → List ℕ
+abbrev codeOf : Outcome × Left → List ℕ
 codeOf placed = take (placed .0 .len) (placed .1 .1 .1 .1)
 
 relaxed-leaves : (p : Pooled) (count : ℕ) (labels relocs : List ℕ) (rows : List (List ℕ)) (output : List ℕ)
@@ -191,9 +191,9 @@ relaxed-leaves p count labels relocs rows output e =
     let c = settled p .choice in
     let early = whyNotLaid p (length rows) in
     let late = whyNotWritten p (length output) in
-    let first·zero : eqb early 0 ≡ true = chosen-zero (λ (x : Placed × Left). x .0 .refusal) (eqb early 0) _ _ (λ q. eqb-false early 0 q) e in
-    let e2 = subst (λ (x : Placed × Left). x .0 .refusal ≡ 0) (pick-yes (eqb early 0) _ _ first·zero) e in
-    let second·zero : eqb late 0 ≡ true = chosen-zero (λ (x : Placed × Left). x .0 .refusal) (eqb late 0) _ _ (λ q. eqb-false late 0 q) e2 in
+    let first·zero : eqb early 0 ≡ true = chosen-zero (λ (x : Outcome × Left). x .0 .refusal) (eqb early 0) _ _ (λ q. eqb-false early 0 q) e in
+    let e2 = subst (λ (x : Outcome × Left). x .0 .refusal ≡ 0) (pick-yes (eqb early 0) _ _ first·zero) e in
+    let second·zero : eqb late 0 ≡ true = chosen-zero (λ (x : Outcome × Left). x .0 .refusal) (eqb late 0) _ _ (λ q. eqb-false late 0 q) e2 in
     let out = passed (ltb (length rows) (length (p .events))) 16 (pick (not (every (refClear p) (p .refs))) 17 0) (λ z. omega arith) (eqb-true early 0 first·zero) in
     let far = passed (not (every (refReaches p c) (p .refs))) 18 (pick (ltb (length output) (length (assembled p c))) 23 0) (λ z. omega arith) (eqb-true late 0 second·zero) in
     let fits = ltb-false (length output) (length (assembled p c)) (passed (ltb (length output) (length (assembled p c))) 23 0 (λ z. omega arith) (far .1) .0) in
@@ -203,8 +203,8 @@ relaxed-leaves p count labels relocs rows output e =
       reach = not-false (every (refReaches p c) (p .refs)) (far .0);
       fits = fits;
       is = ap codeOf leaves ∙ taken output (assembled p c) (length (assembled p c)) refl fits;
-      mapped = ap (λ (x : Placed × Left). x .1 .0) leaves;
-      rounds = ap (λ (x : Placed × Left). x .0 .layouts) leaves;
+      mapped = ap (λ (x : Outcome × Left). x .1 .0) leaves;
+      rounds = ap (λ (x : Outcome × Left). x .0 .layouts) leaves;
     }
 
 unrelaxed-leaves : (p : Pooled) (labels relocs : List ℕ) (rows : List (List ℕ)) (output : List ℕ)
@@ -212,7 +212,7 @@ unrelaxed-leaves : (p : Pooled) (labels relocs : List ℕ) (rows : List (List �
 unfolding unrelaxed whyNotInPlace
 unrelaxed-leaves p labels relocs rows output e =
     let why = whyNotInPlace p (length output) in
-    let zero : eqb why 0 ≡ true = chosen-zero (λ (x : Placed × Left). x .0 .refusal) (eqb why 0) _ _ (λ q. eqb-false why 0 q) e in
+    let zero : eqb why 0 ≡ true = chosen-zero (λ (x : Outcome × Left). x .0 .refusal) (eqb why 0) _ _ (λ q. eqb-false why 0 q) e in
     let both = neither (usesRefusal p (p .uses)) (pick (ltb (length output) (length (p .code))) 23 0) (eqb-true why 0 zero) in
     let fits = ltb-false (length output) (length (p .code)) (passed (ltb (length output) (length (p .code))) 23 0 (λ z. omega arith) (both .1) .0) in
     record {
@@ -244,7 +244,7 @@ finish-answered r rows output e =
     let done : eqb (placed .0 .refusal) 0 ≡ true =
     chosen-zero (λ (x : Finished × Left). x .0 .refusal) (eqb (placed .0 .refusal) 0) _ _ (λ q. eqb-false (placed .0 .refusal) 0 q) e2 in
     let bound : allBound p (view r .relocs) ≡ true =
-    chosen-zero (λ (x : Placed × Left). x .0 .refusal) (allBound p (view r .relocs)) _ _ (λ q z. omega arith) (eqb-true (placed .0 .refusal) 0 done) in
+    chosen-zero (λ (x : Outcome × Left). x .0 .refusal) (allBound p (view r .relocs)) _ _ (λ q z. omega arith) (eqb-true (placed .0 .refusal) 0 done) in
     let is : finish r rows output ≡ (finishedWith b (placed .0), placed .1) = pick-yes (eqb why 0) _ _ fit ∙ pick-yes (eqb (placed .0 .refusal) 0) _ _ done in
     let inner : placed ≡ pick (hasJump p) (relaxed p (b .relocs) labels (r .relocs) rows output) (unrelaxed p labels (r .relocs) rows output) =
     pick-yes (allBound p (view r .relocs)) _ _ bound in
@@ -256,10 +256,10 @@ finish-answered r rows output e =
       jumped = λ jump.
           let all = inner ∙ pick-yes (hasJump p) (relaxed p (b .relocs) labels (r .relocs) rows output) (unrelaxed p labels (r .relocs) rows output) jump in
           subst (λ (x : Finished × Left). Assembled p labels output (take (x .0 .code .len) (x .1 .1 .1 .1)) (x .1 .0) (x .0 .code .layouts))
-          (sym (is ∙ ap (λ (x : Placed × Left). (finishedWith b (x .0), x .1)) all))
-          (relaxed-leaves p (b .relocs) labels (r .relocs) rows output (subst (λ (x : Placed × Left). x .0 .refusal ≡ 0) all zero));
+          (sym (is ∙ ap (λ (x : Outcome × Left). (finishedWith b (x .0), x .1)) all))
+          (relaxed-leaves p (b .relocs) labels (r .relocs) rows output (subst (λ (x : Outcome × Left). x .0 .refusal ≡ 0) all zero));
       straight = λ none.
           let all = inner ∙ pick-no (hasJump p) (relaxed p (b .relocs) labels (r .relocs) rows output) (unrelaxed p labels (r .relocs) rows output) none in
           subst (Kept p output) (sym (code ∙ ap codeOf all))
-          (unrelaxed-leaves p labels (r .relocs) rows output (subst (λ (x : Placed × Left). x .0 .refusal ≡ 0) all zero));
+          (unrelaxed-leaves p labels (r .relocs) rows output (subst (λ (x : Outcome × Left). x .0 .refusal ≡ 0) all zero));
     }

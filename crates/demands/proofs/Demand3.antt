@@ -3,14 +3,13 @@ use mathlib.Core.Path.{_≡_, refl, sym, ap, _∙_, subst}
 use mathlib.Core.Logic.{_≢_, ⊎-elim}
 use mathlib.Core.Bool.{true}
 use mathlib.Core.List.{List, [], _∷_, map}
-use Prim.Native.Nat.{ℕ, zero, suc, _*_, _≤_, _<_}
+use Prim.Native.Nat.{ℕ, _*_, _≤_, _<_}
 use native.Mathlib.Omega.{arith}
 use lib.ListN.{length, getD}
 use Rattle.seqs.proofs.Booleans.{both-true}
 use Rattle.seqs.proofs.Numbers.{eq-or-ne}
 use Rattle.seqs.proofs.Overwrites.{length-over}
 use Rattle.words.specs.Words.{wordAt}
-use Rattle.words.proofs.Laws.{wordAt-same, wordAt-other}
 use Rattle.relax.specs.declared.LayoutEvent.{LayoutEvent}
 use Rattle.relax.specs.declared.LayoutEvent.the-variants.{Jump, Align}
 use Rattle.buffer.specs.State.{none}
@@ -27,7 +26,7 @@ use Rattle.fresh.proofs.Fill.{built-assembled, labels-same}
 use Rattle.fresh.proofs.Demand.{demand3}
 use Rattle.finish.specs.Refusals.{every, isBound, jumpBound, hasJump}
 use Rattle.finish.specs.Finish.{bytesOfAll, overWords, finish}
-use Rattle.finish.proofs.Mapped.{set-over-words, map-entries}
+use Rattle.finish.proofs.Mapped.{word-over, map-entries}
 use Rattle.demands.specs.Demand2.{finishedCode}
 use Rattle.demands.proofs.Relaxing.{Fitting}
 use Rattle.demands.proofs.Answers.{finish-answered}
@@ -42,20 +41,9 @@ bounds labels (Jump j ∷ es) h =
 bounds labels (Align start len align ∷ es) h = bounds labels es h
 
 -- words written over a table are read from it
-word-read : (f : ℕ → ℕ) (t : List ℕ) (n : ℕ) → n * 4 ≤ length t → ((i : ℕ) → i < n → f i < 4294967296) → (i : ℕ) → i < n
-    → wordAt (overWords t (entries f n)) i ≡ f i
-word-read f t zero room small i h = absurd (omega arith)
-word-read f t (suc n) room small i h =
-    let before = overWords t (entries f n) in
-    rw (← set-over-words f t n)
-    (⊎-elim
-    (λ (e : i ≡ n). rw e (wordAt-same before n (f n) (omega (arith, length-over t 0 (bytesOfAll (entries f n)))) (small n (omega arith))))
-    (λ (ne : i ≢ n). wordAt-other before n (f n) i ne ∙ word-read f t n (omega arith) (λ j l. small j (omega arith)) i (omega arith))
-    (eq-or-ne i n))
-
 words-read : (f : ℕ → ℕ) (t : List ℕ) (n : ℕ) → n * 4 ≤ length t → ((i : ℕ) → i < n → f i < 4294967296)
     → entries (wordAt (overWords t (entries f n))) n ≡ entries f n
-words-read f t n room small = entries-same (wordAt (overWords t (entries f n))) f n (word-read f t n room small)
+words-read f t n room small = entries-same (wordAt (overWords t (entries f n))) f n (λ i h. word-over f t n i h room (small i h))
 
 -- where labels go is a word
 moved-none : (p : Pooled) (c : Choice) → moved p c none ≡ none

@@ -13,7 +13,6 @@ use Rattle.seqs.proofs.Booleans.{both-true, true-is-not-false}
 use Rattle.seqs.proofs.Numbers.{lt-or-ge, eq-or-ne}
 use Rattle.seqs.proofs.Picking.{passed, neither}
 use Rattle.words.specs.Words.{wordAt}
-use Rattle.words.proofs.Laws.{wordAt-same, wordAt-other}
 use Rattle.fields.specs.declared.LabelUse.{LabelUse}
 use Rattle.fields.specs.declared.Decoded.{Decoded}
 use Rattle.fields.specs.declared.Decoded.the-variants.{Use}
@@ -28,24 +27,23 @@ use Rattle.buffer.specs.declared.CodeBuffer.{CodeBuffer}
 use Rattle.buffer.specs.State.{none}
 use Rattle.buffer.specs.Refusals.{foreign}
 use Rattle.recording.specs.Calls.{Recording}
-use Rattle.recording.specs.Sound.{FormOf, EventsSound, Sound}
+use Rattle.recording.specs.Sound.{FormOf, Sound}
 use Rattle.recording.specs.View as tables
 use Rattle.recording.proofs.Views.{length-entries, getD-entries}
-use Rattle.fresh.specs.Pooled.{Pooled, pooledTo, pooled}
+use Rattle.fresh.specs.Pooled.{Pooled, pooled}
 use Rattle.fresh.specs.Fresh.{startOf}
 use Rattle.fresh.specs.Rounds.{jumps, settled}
 use Rattle.fresh.proofs.Shape.{Apart, WellFormed}
 use Rattle.fresh.proofs.Rounds.{rounds-settle, rounds-last, none-fits}
 use Rattle.fresh.proofs.Fill.{length-assembled}
-use Rattle.pool.specs.Pool.{labelAt, poolOffset, poolEvent, poolBound}
-use Rattle.pool.proofs.Pool.{poolStart-suc, poolStart-grows, from-poolStart, length-poolBound, poolBound-at, poolOffset-bound}
+use Rattle.pool.specs.Pool.{poolOffset, poolEvent, poolBound}
+use Rattle.pool.proofs.Pool.{poolStart-suc, poolStart-grows, from-poolStart}
 use Rattle.checks.specs.Fields.{sizeOf, reachOf}
 use Rattle.finish.specs.Tables.{poolPlaced, tablesPooled}
 use Rattle.finish.specs.Ready.{Landed, Ready}
 use Rattle.finish.specs.Refusals.{every, isBound, jumpBound, relocBound, allBound, hasJump, refClear, refReaches, useRefusal, usesRefusal}
 use Rattle.finish.proofs.Checked.{end-at}
-use Rattle.finish.proofs.Pooling.{pooledTo-tables}
-use Rattle.finish.proofs.Sounds.{pool-fits, pool-labels, pool-distinct, code-length, tied}
+use Rattle.finish.proofs.Sounds.{tied, offsets-small, pooled-is, ready}
 use Rattle.finish.proofs.Formed.{AtTable, AtPool, event-at, every-at, ref-apart, pooled-length, well-formed}
 use Rattle.demands.specs.Demand2 as demand
 use Rattle.demands.specs.Demand2.{Bytes, useOf, refOf, constantOf}
@@ -54,32 +52,6 @@ use Rattle.demands.proofs.Bytes.{bytes-take, bytes-pooled}
 use Rattle.demands.proofs.Relaxing.{Fitting}
 use Rattle.demands.proofs.Staying.{Reaching}
 use Rattle.demands.proofs.Answers.{Fit, Assembled, Kept}
-
--- a label as the table has it, or where a constant of the pool stands
-landing : (from : ℕ) (labels constants asked : List ℕ) (n l : ℕ) → ((j : ℕ) → j < n → labelAt constants asked j * 4 + 4 ≤ length labels)
-    → ((j : ℕ) → j < n → poolOffset from constants asked j < 4294967296)
-    → (wordAt (poolBound from labels constants asked n) l ≡ wordAt labels l)
-    ⊎ ((j : ℕ) × (j < n) × (wordAt (poolBound from labels constants asked n) l ≡ poolOffset from constants asked j))
-unfolding poolBound
-landing from labels constants asked zero l known small = inl refl
-landing from labels constants asked (suc n) l known small =
-    let bound = poolBound from labels constants asked n in
-    let label = labelAt constants asked n in
-    let offset = poolOffset from constants asked n in
-    ⊎-elim
-    (λ (same : l ≡ label).
-    inr (
-      n,
-      omega arith,
-      rw same (wordAt-same bound label offset (omega (arith, known n (omega arith), length-poolBound from labels constants asked n)) (small n (omega arith))),
-    ))
-    (λ (other : l ≢ label).
-    let stays = wordAt-other bound label offset l other in
-    ⊎-elim
-    (λ (e : wordAt bound l ≡ wordAt labels l). inl (stays ∙ e))
-    (λ (e : (j : ℕ) × (j < n) × (wordAt bound l ≡ poolOffset from constants asked j)). inr (e .0, omega (arith, e .1), stays ∙ e .2))
-    (landing from labels constants asked n l (λ j h. known j (omega arith)) (λ j h. small j (omega arith))))
-    (eq-or-ne l label)
 
 -- conditions up to 16 are known: 16 is none
 known-condition : (n : ℕ) → n ≤ 16 → Known (conditionOf n)
@@ -162,45 +134,20 @@ module _ (r : Recording) (s : Sound r) (few : r .buffer .asked ≤ 65536) where
   abbrev bound : List ℕ
   bound = poolBound (b .code) (r .labels) (r .constants) (r .asked) (b .asked)
 
-  -- the pooled recording as the tables have it
-  pooled-is : p
-      ≡ tablesPooled (b .arch) (b .code) (take (b .code) (r .code)) (tables.entries (wordAt bound) (b .labels)) (tables.entries (eventAt (r .events)) (b .events))
-      (tables.entries (tables.useAt (r .uses)) (b .uses)) (tables.entries (tables.refAt (r .refs)) (b .refs)) (r .constants) (r .asked) (b .asked)
-  pooled-is =
-      let v = tables.view r in
-      ap (pooledTo (b .arch) v) (length-entries (wordAt (r .asked)) (b .asked))
-      ∙ pooledTo-tables (b .arch) v (r .labels) (r .constants) (r .asked) (b .labels) (b .asked) (tied r s few)
-      ∙ ap
-      (λ (n : ℕ).
-      tablesPooled (b .arch) n (v .code) (tables.entries (wordAt (poolBound n (r .labels) (r .constants) (r .asked) (b .asked))) (b .labels)) (v .events) (v .uses) (v .refs)
-      (r .constants) (r .asked) (b .asked))
-      (code-length r s few)
-
-  small-offset : (j : ℕ) → j < b .asked → poolOffset (b .code) (r .constants) (r .asked) j < 4294967296
-  small-offset j h = omega (arith, s .code .limit, few, poolOffset-bound (b .code) (r .constants) (r .asked) (b .asked) (pool-fits r s few) j h)
-
-  lands : (l : ℕ)
-      → (wordAt bound l ≡ wordAt (r .labels) l) ⊎ ((j : ℕ) × (j < b .asked) × (wordAt bound l ≡ poolOffset (b .code) (r .constants) (r .asked) j))
-  lands l = landing (b .code) (r .labels) (r .constants) (r .asked) (b .asked) l (pool-labels r s few .known) small-offset
-
   -- a label as recordings leave it, or one of the pool
   landed : (l : ℕ) → l < b .labels → Landed (r .events) (b .events) (b .code) (r .constants) (r .asked) (b .asked) (wordAt bound l)
-  landed l h =
-      ⊎-elim
-      (λ (e : wordAt bound l ≡ wordAt (r .labels) l). inl (rw e (s .labels .entry l h)))
-      (λ (e : (j : ℕ) × (j < b .asked) × (wordAt bound l ≡ poolOffset (b .code) (r .constants) (r .asked) j)). inr e)
-      (lands l)
+  landed = ready r s few .landed
 
   label-small : (l : ℕ) → getD (p .labels) l none < modulus
   label-small l =
-      rw pooled-is
+      rw (pooled-is r s few)
       (⊎-elim
       (λ (h : l < b .labels).
       rw (getD-entries (wordAt bound) (b .labels) l none h)
       (⊎-elim
       (λ sound. ⊎-elim (λ (e : wordAt bound l ≡ none). omega arith) (λ q. omega (arith, q .0, s .code .limit)) sound)
       (λ (e : (j : ℕ) × (j < b .asked) × (wordAt bound l ≡ poolOffset (b .code) (r .constants) (r .asked) j)).
-      omega (arith, e .2, small-offset (e .0) (e .1)))
+      omega (arith, e .2, offsets-small r s few (e .0) (e .1)))
       (landed l h)))
       (λ (h : b .labels ≤ l).
       let past : length (tables.entries (wordAt bound) (b .labels)) ≤ l = omega (arith, length-entries (wordAt bound) (b .labels)) in
@@ -209,11 +156,11 @@ module _ (r : Recording) (s : Sound r) (few : r .buffer .asked ≤ 65536) where
 
   -- the labels of the pooled recording, as a table has them
   pub labelled : (at : ℕ → ℕ) × (p .labels ≡ tables.entries at (b .labels))
-  labelled = (wordAt bound, ap (λ (x : Pooled). x .labels) pooled-is)
+  labelled = (wordAt bound, ap (λ (x : Pooled). x .labels) (pooled-is r s few))
 
   ref-is : (i : ℕ) → i < length (p .refs) → (i < b .refs) × (refOf p i ≡ tables.refAt (r .refs) i)
   ref-is i h =
-      let e : p .refs ≡ tables.entries (tables.refAt (r .refs)) (b .refs) = ap (λ (q : Pooled). q .refs) pooled-is in
+      let e : p .refs ≡ tables.entries (tables.refAt (r .refs)) (b .refs) = ap (λ (q : Pooled). q .refs) (pooled-is r s few) in
       let l : i < b .refs = omega (arith, ap length e, length-entries (tables.refAt (r .refs)) (b .refs)) in
       (l, ap (λ (x : List tables.Ref). getD x i (record { offset = 0; label = 0; code = 0; addend = 0 })) e ∙ getD-entries (tables.refAt (r .refs)) (b .refs) i _ l)
 
@@ -238,24 +185,13 @@ module _ (r : Recording) (s : Sound r) (few : r .buffer .asked ≤ 65536) where
       (λ (e : b .arch ≡ 2). e)
       (λ (ne : b .arch ≢ 2).
       let none : b .events ≡ 0 = ⊎-elim (λ (e : b .arch ≡ 2). absurd (ne e)) (λ (z : b .events ≡ 0). z) (s .events .tracked) in
-      let zero : jumps (p .events) ≡ 0 = ap (λ (q : Pooled). jumps (q .events)) pooled-is ∙ no-events (eqb (b .arch) 2) _ none (ne-eqb (b .arch) 2 ne) in
+      let zero : jumps (p .events) ≡ 0 = ap (λ (q : Pooled). jumps (q .events)) (pooled-is r s few) ∙ no-events (eqb (b .arch) 2) _ none (ne-eqb (b .arch) 2 ne) in
       absurd (eqb-false (jumps (p .events)) 0 (not-true (eqb (jumps (p .events)) 0) jump) zero))
       (eq-or-ne (b .arch) 2)
 
   module _ (is64 : b .arch ≡ 2) where
-    ready : Ready (r .code) bound (r .events) (r .constants) (r .asked) 2 (b .code) (b .labels) (b .events) (b .asked)
-    ready =
-        record {
-          bytes = s .code;
-          recorded = subst (λ (a : ℕ). EventsSound (r .events) (b .events) (b .labels) (b .code) a) is64 (s .events);
-          pool = pool-fits r s few;
-          named = record { known = λ j h. omega (arith, pool-labels r s few .known j h, length-poolBound (b .code) (r .labels) (r .constants) (r .asked) (b .asked)) };
-          owned = tied r s few .known;
-          stands = poolBound-at (b .code) (r .labels) (r .constants) (r .asked) (b .asked) (pool-distinct r s few) (pool-labels r s few .known) small-offset;
-          room = omega (arith, s .labels .room, length-poolBound (b .code) (r .labels) (r .constants) (r .asked) (b .asked));
-          limit = s .labels .limit;
-          landed = landed;
-        }
+    ready64 : Ready (r .code) bound (r .events) (r .constants) (r .asked) 2 (b .code) (b .labels) (b .events) (b .asked)
+    ready64 = subst (λ (a : ℕ). Ready (r .code) bound (r .events) (r .constants) (r .asked) a (b .code) (b .labels) (b .events) (b .asked)) is64 (ready r s few)
 
     abbrev q : Pooled
     q =
@@ -264,7 +200,7 @@ module _ (r : Recording) (s : Sound r) (few : r .buffer .asked ≤ 65536) where
 
     pooled-q : p ≡ q
     pooled-q =
-        pooled-is
+        (pooled-is r s few)
         ∙ ap
         (λ (a : ℕ).
         tablesPooled a (b .code) (take (b .code) (r .code)) (tables.entries (wordAt bound) (b .labels)) (tables.entries (eventAt (r .events)) (b .events))
@@ -274,7 +210,7 @@ module _ (r : Recording) (s : Sound r) (few : r .buffer .asked ≤ 65536) where
     pub formed : every (refClear p) (p .refs) ≡ true → WellFormed p
     formed clear =
         subst WellFormed (sym pooled-q)
-        (well-formed (r .code) bound (r .events) (r .constants) (r .asked) (b .code) (b .labels) (b .events) (b .asked) ready (q .uses) (q .refs)
+        (well-formed (r .code) bound (r .events) (r .constants) (r .asked) (b .code) (b .labels) (b .events) (b .asked) ready64 (q .uses) (q .refs)
         (subst (λ (x : Pooled). every (refClear x) (x .refs) ≡ true) pooled-q clear))
 
     table-known : (i : ℕ) → i < b .events → KnownEvent (eventAt (r .events) i)
@@ -305,7 +241,7 @@ module _ (r : Recording) (s : Sound r) (few : r .buffer .asked ≤ 65536) where
         rw (getD-entries (poolPlaced from ks order) (b .asked) i (record { offset = 0; bytes = [] }) lt, size) (
           omega (
             arith,
-            pooled-length (r .code) bound (r .events) ks order from (b .labels) (b .events) (b .asked) ready (q .uses) (q .refs),
+            pooled-length (r .code) bound (r .events) ks order from (b .labels) (b .events) (b .asked) ready64 (q .uses) (q .refs),
             next,
             poolStart-grows from ks order (suc i) (b .asked) (omega arith),
           ),

@@ -13,3 +13,4 @@ pub mod Recorded
 pub mod Demand2
 pub mod Demand3
 pub mod Example
+pub mod Demand1

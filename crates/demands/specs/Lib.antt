@@ -1,2 +1,3 @@
+pub mod Demand1
 pub mod Reading
 pub mod Demand2

@@ -21,6 +21,7 @@ use Rattle.fresh.proofs.Events.{end-is, ordered-le}
 use Rattle.fresh.proofs.Loops.{length-runs}
 use Rattle.pool.specs.Pool.{sizeAt, poolStart, poolPadding, poolEvent, poolBytes}
 use Rattle.pool.proofs.Pool.{length-poolBytes, poolStart-suc}
+use Rattle.layout.proofs.Pooling.{ordered-snoc}
 use Rattle.layout.proofs.Turns.{after-snoc}
 
 -- a part of the code is that whatever follows the code
@@ -55,11 +56,6 @@ runs-snoc (x ∷ es) o n code more c e h s =
     let within : o + (startOf x - o) ≤ length code = omega (arith, h .0, end-is x, ordered-le (endOf x) (length code) es (h .1)) in
     rw (part-append code more o (startOf x - o) within, runs-snoc es (endOf x) next code more (others c) e (h .1) s, others-getD c (length es))
     (simp append-assoc)
-
-ordered-snoc : (es : List LayoutEvent) (o n k : ℕ) (e : LayoutEvent) → Ordered o n es → n ≤ startOf e → endOf e ≤ k → Ordered o k (es ++ (e ∷ []))
-unfolding Ordered
-ordered-snoc [] o n k e h a b = (omega arith, b)
-ordered-snoc (x ∷ es) o n k e h a b = (h .0, ordered-snoc es (endOf x) n k e (h .1) a b)
 
 -- What holds once n constants are pooled after the recorded code, whose runs end at `to`: the runs end with the pool laid out from there, and so does
 -- the layout.

@@ -8,25 +8,21 @@ use borrow.Author.Tests.{not-false, ltb-false}
 use lib.Dec.{ltb}
 use lib.ListN.{length, length-append}
 use Rattle.seqs.proofs.Picking.{pick-yes, pick-no, yes-eq, no-eq, yes-not, no-not, yes-lt, no-lt, passed, neither}
-use Rattle.words.specs.Words.{wordAt}
 use Rattle.buffer.specs.Refusals.{standing}
 use Rattle.buffer.proofs.Standing.{stands}
 use Rattle.recording.specs.Calls.{Recording}
 use Rattle.recording.specs.Sound.{CodeSound, Sound}
-use Rattle.recording.specs.View.{entries, view}
-use Rattle.recording.proofs.Views.{length-entries}
-use Rattle.fresh.specs.Pooled.{Pooled, pooledTo, pooled}
-use Rattle.pool.specs.Pool.{poolStart, poolBytes, poolBound, poolIsBound}
+use Rattle.recording.specs.View.{view}
+use Rattle.fresh.specs.Pooled.{Pooled, pooled}
+use Rattle.pool.specs.Pool.{poolStart, poolBytes, poolIsBound}
 use Rattle.pool.proofs.Pool.{length-poolBytes}
 use Rattle.checks.specs.Entries.{entriesFit}
 use Rattle.checks.specs.Handed.{CountsFit, tables}
 use Rattle.checks.proofs.Sound.{fits-sound, code-unread}
 use Rattle.finish.specs.Refusals.{countsFit, withinLimits, poolBoundBefore, whyUnfit}
-use Rattle.finish.specs.Tables.{tablesPooled}
-use Rattle.finish.specs.Ready.{pooledOf}
 use Rattle.finish.proofs.Counted.{Counted, counted}
-use Rattle.finish.proofs.Pooling.{Tied, pooledTo-tables}
-use Rattle.finish.proofs.Sounds.{code-length, tied}
+use Rattle.finish.proofs.Pooling.{Tied}
+use Rattle.finish.proofs.Sounds.{code-length, tied, pooled-is}
 use Rattle.finish.proofs.Checked.{pool-bound}
 
 module _ (r : Recording) (segments output : ℕ) (stood : standing (r .buffer) (countsFit r) (withinLimits r segments output) ≡ 0) where
@@ -67,23 +63,10 @@ module _ (r : Recording) (segments output : ℕ) (stood : standing (r .buffer) (
         pool-bound (view r) (r .labels) (r .constants) (r .asked) (r .buffer .labels) (r .buffer .constants) (r .buffer .asked) refl refl refl
         (λ j h. sound .asked .listed j h .0) (ties .known)
 
-    -- the pooled recording, once the pool's labels are bound in the table
-    pub pooled-is : pooled (r .buffer .arch) (view r)
-        ≡ pooledOf (r .buffer) (r .code) (poolBound (r .buffer .code) (r .labels) (r .constants) (r .asked) (r .buffer .asked)) (r .events) (r .uses) (r .refs)
-        (r .constants) (r .asked)
-    pooled-is =
-        ap (pooledTo (r .buffer .arch) (view r)) (length-entries (wordAt (r .asked)) (r .buffer .asked))
-        ∙ pooledTo-tables (r .buffer .arch) (view r) (r .labels) (r .constants) (r .asked) (r .buffer .labels) (r .buffer .asked) ties
-        ∙ ap
-        (λ (from : ℕ).
-        tablesPooled (r .buffer .arch) from (view r .code) (entries (wordAt (poolBound from (r .labels) (r .constants) (r .asked) (r .buffer .asked))) (r .buffer .labels))
-        (view r .events) (view r .uses) (view r .refs) (r .constants) (r .asked) (r .buffer .asked))
-        (code-length r sound asked-few)
-
     -- 14, as the tables say it
     pub pooled-ends : length (pooled (r .buffer .arch) (view r) .code) ≡ poolStart (r .buffer .code) (r .constants) (r .asked) (r .buffer .asked)
     pooled-ends =
-        ap (λ (p : Pooled). length (p .code)) pooled-is
+        ap (λ (p : Pooled). length (p .code)) (pooled-is r sound asked-few)
         ∙ length-append (view r .code) (poolBytes (r .buffer .arch) (r .buffer .code) (r .constants) (r .asked) (r .buffer .asked))
         ∙ ap (λ (k : ℕ). k + length (poolBytes (r .buffer .arch) (r .buffer .code) (r .constants) (r .asked) (r .buffer .asked))) (code-length r sound asked-few)
         ∙ length-poolBytes (r .buffer .arch) (r .buffer .code) (r .constants) (r .asked) (r .buffer .asked)

@@ -21,7 +21,7 @@ use Rattle.pool.specs.Pool.{poolEvent}
 use Rattle.emit.specs.Emit.{WordsFit}
 use Rattle.checks.specs.Entries.{all}
 use Rattle.checks.specs.Fields as checked
-use Rattle.finish.specs.declared.Placed.{Placed}
+use Rattle.finish.specs.declared.Outcome.{Outcome}
 use Rattle.finish.specs.Refusals.{allBound, hasJump, whyNotInPlace}
 use Rattle.finish.specs.Finish.{Left, refusedWith, relaxed, unrelaxed}
 use Rattle.finish.specs.Tables.{tablesPooled}
@@ -34,16 +34,16 @@ no-entries f true n = refl
 no-entries f false n = refl
 
 -- what is kept, beside what is left alone
-abbrev beside : List ℕ → List ℕ → List (List ℕ) → Placed × List ℕ → Placed × Left
+abbrev beside : List ℕ → List ℕ → List (List ℕ) → Outcome × List ℕ → Outcome × Left
 beside labels relocs rows x = (x .0, (labels, (relocs, (rows, x .1))))
 
-pick-beside : (labels relocs : List ℕ) (rows : List (List ℕ)) (t : Bool) (x y : Placed × List ℕ)
+pick-beside : (labels relocs : List ℕ) (rows : List (List ℕ)) (t : Bool) (x y : Outcome × List ℕ)
     → beside labels relocs rows (pick t x y) ≡ pick t (beside labels relocs rows x) (beside labels relocs rows y)
 unfolding pick
 pick-beside labels relocs rows true x y = refl
 pick-beside labels relocs rows false x y = refl
 
-kept-beside : (p : Pooled) (labels relocs : List ℕ) (rows : List (List ℕ)) (output left : List ℕ) (r : Placed) → (r, left) ≡ kept p output
+kept-beside : (p : Pooled) (labels relocs : List ℕ) (rows : List (List ℕ)) (output left : List ℕ) (r : Outcome) → (r, left) ≡ kept p output
     → beside labels relocs rows (r, left) ≡ unrelaxed p labels relocs rows output
 unfolding kept unrelaxed
 kept-beside p labels relocs rows output left r e =
@@ -120,12 +120,12 @@ module _ (b : CodeBuffer) (code labels events uses refs constants asked relocs o
   module _ (bound : Bool)
       (bound·answer : bound ≡ (checked.usesBound uses (b .uses) labels
       && (checked.relocsBound relocs (b .relocs) labels && (checked.refsBound refs (b .refs) labels && checked.jumpsBound events (b .events) labels)))) where
-    pub placed-unbound : (r : Placed) → bound ≡ false → r ≡ refusedWith 15 → (r, (labels, (relocs, (rows, output)))) ≡ placedAs p b labels relocs rows output
+    pub placed-unbound : (r : Outcome) → bound ≡ false → r ≡ refusedWith 15 → (r, (labels, (relocs, (rows, output)))) ≡ placedAs p b labels relocs rows output
     unfolding placedAs
     placed-unbound r e er = rw (er, bound-is ∙ sym bound·answer) (sym (pick-no bound _ _ e))
 
     module _ (all·bound : bound ≡ true) (jump : Bool) (jump·answer : jump ≡ checked.hasJump events (b .events)) where
-      pub placed-relaxed : jump ≡ true → (left : Placed × Left)
+      pub placed-relaxed : jump ≡ true → (left : Outcome × Left)
           → ((us : List tables.Use) → left ≡ relaxed (tablesPooled 2 (b .code) (take (b .code) code) (tables.entries (wordAt labels) (b .labels)) (tables.entries (eventAt events) (b .events)) us (tables.entries (tables.refAt refs) (b .refs)) constants asked (b .asked)) (b .relocs) labels relocs rows output)
           → left ≡ placedAs p b labels relocs rows output
       unfolding placedAs
@@ -133,7 +133,7 @@ module _ (b : CodeBuffer) (code labels events uses refs constants asked relocs o
           rw (bound-is ∙ sym bound·answer, jump-is ∙ sym jump·answer)
           (sym (pick-yes bound _ _ all·bound ∙ pick-yes jump _ _ e ∙ rw (arch-is (sym jump·answer ∙ e)) (sym (is (tables.entries (tables.useAt uses) (b .uses))))))
 
-      pub placed-kept : jump ≡ false → (r : Placed) (left : List ℕ)
+      pub placed-kept : jump ≡ false → (r : Outcome) (left : List ℕ)
           → ((es : List LayoutEvent) (rs : List tables.Ref) → (r, left) ≡ kept (tablesPooled (b .arch) (b .code) (take (b .code) code) (tables.entries (wordAt labels) (b .labels)) es (tables.entries (tables.useAt uses) (b .uses)) rs constants asked (b .asked)) output)
           → (r, (labels, (relocs, (rows, left)))) ≡ placedAs p b labels relocs rows output
       unfolding placedAs

@@ -43,7 +43,7 @@ use Rattle.layout.specs.Layout.{rowsFrom, tableOf, allEvents, finishedLength, r
 use Rattle.layout.proofs.Pooling.{length-all}
 use Rattle.layout.proofs.Settled.{relaxed-entries, relaxed-settled, finished-placed}
 use Rattle.checks.specs.Entries.{all}
-use Rattle.finish.specs.declared.Placed.{Placed}
+use Rattle.finish.specs.declared.Outcome.{Outcome}
 use Rattle.finish.specs.Refusals.{every, reachesBy, refReaches, whyNotLaid, whyNotWritten, whyNotInPlace}
 use Rattle.finish.specs.Finish.{refusedWith, overWords, relocated, settledRows, relaxed}
 use Rattle.finish.specs.Tables.{tablesPooled}
@@ -79,7 +79,7 @@ module _ (code labels uses constants asked : List ℕ) (arch len count u m : ℕ
   unfolding whyNotInPlace
   why-is = rw (uses-refused q uses labels count end u refl q-length (k .known), q-length) (sym answer)
 
-  pub kept-refused : (r : Placed) → why ≢ 0 → r ≡ refusedWith why → (r, output) ≡ kept q output
+  pub kept-refused : (r : Outcome) → why ≢ 0 → r ≡ refusedWith why → (r, output) ≡ kept q output
   unfolding kept
   kept-refused r ne e = rw (e, why-is) (sym (no-eq why 0 _ _ ne))
 
@@ -115,7 +115,7 @@ module _ (code labels uses constants asked : List ℕ) (arch len count u m : ℕ
       };
     }
 
-    pub kept-done : (r : Placed) (left : List ℕ) → r ≡ record { refusal = 0; len = end; layouts = 0 }
+    pub kept-done : (r : Outcome) (left : List ℕ) → r ≡ record { refusal = 0; len = end; layouts = 0 }
         → left ≡ codeCopied output code labels uses constants asked arch len u m → (r, left) ≡ kept q output
     unfolding kept
     kept-done r left er el =
@@ -146,7 +146,7 @@ module _ (code labels events refs constants asked relocs output : List ℕ) (row
   early-is = rw (length-all events n len constants asked m, refs-clear p refs events constants asked f n m len refl refl p-length)
 
   module _ (early : ℕ) (early·answer : early ≡ first ((ltb (length rows) (n + m), 16) ∷ (not (refsClear refs f events n len constants asked m), 17) ∷ [])) where
-    pub refused-early : (r : Placed) → early ≢ 0 → r ≡ refusedWith early
+    pub refused-early : (r : Outcome) → early ≢ 0 → r ≡ refusedWith early
         → (r, (labels, (relocs, (rows, output)))) ≡ relaxed p l labels relocs rows output
     unfolding relaxed
     refused-early r ne e = rw (e, early-is ∙ sym early·answer) (sym (no-eq early 0 _ _ ne))
@@ -214,7 +214,7 @@ module _ (code labels events refs constants asked relocs output : List ℕ) (row
         rows-settled = rw (← choice-is) rows-are
 
         module _ (late : ℕ) (late·answer : late ≡ first ((not (emit.refsReach refs labels rows′ (n + m) f), 18) ∷ (ltb (length output) len′, 23) ∷ [])) where
-          pub refused-late : (r : Placed) → late ≢ 0 → r ≡ refusedWith late
+          pub refused-late : (r : Outcome) → late ≢ 0 → r ≡ refusedWith late
               → (r, (labels, (relocs, (rows′, output)))) ≡ relaxed p l labels relocs rows output
           unfolding relaxed
           refused-late r ne e =
@@ -285,7 +285,7 @@ module _ (code labels events refs constants asked relocs output : List ℕ) (row
                 })
                 output _ _ _ refl refl refl code-fits
 
-            pub done : (r : Placed) → r ≡ record { refusal = 0; len = len′; layouts = layouts }
+            pub done : (r : Outcome) → r ≡ record { refusal = 0; len = len′; layouts = layouts }
                 → relocs′ ≡ mappedWords (mapOffset (tableOf rows′ (n + m))) relocs 6 l
                 → left ≡ codeWritten output code final events refs constants asked c rows′ len n m f
                 → (r, (final, (relocs′, (rows′, left)))) ≡ relaxed p l labels relocs rows output

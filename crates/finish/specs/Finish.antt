@@ -16,8 +16,23 @@ use Rattle.fresh.specs.Fill.{assembled, inPlace}
 use Rattle.fresh.specs.Segments.{mapOffset, segmentsOf}
 use Rattle.layout.specs.Layout.{rowOf}
 use Rattle.finish.specs.declared.Finished.{Finished}
-use Rattle.finish.specs.declared.Placed.{Placed}
+use Rattle.finish.specs.declared.Outcome.{Outcome}
 use Rattle.finish.specs.Refusals.{allBound, hasJump, whyNotLaid, whyNotWritten, whyNotInPlace, whyUnfit}
+
+-- the recording that is lent: its counts and its tables
+abbrev pub recordingOf : CodeBuffer → List ℕ → List ℕ → List ℕ → List ℕ → List ℕ → List ℕ → List ℕ → List ℕ → Recording
+recordingOf b code labels events uses refs constants asked relocs =
+    record {
+      buffer = b;
+      code = code;
+      labels = labels;
+      events = events;
+      uses = uses;
+      refs = refs;
+      constants = constants;
+      asked = asked;
+      relocs = relocs;
+    }
 
 -- a table of words, the first of them anew
 abbrev pub bytesOfAll : List ℕ → List ℕ
@@ -40,12 +55,12 @@ settledRows p rows = over rows 0 (map rowOf (segmentsOf p (settled p .choice)))
 abbrev pub Left : Type 0
 Left = List ℕ × (List ℕ × (List (List ℕ) × List ℕ))
 
-abbrev pub refusedWith : ℕ → Placed
+abbrev pub refusedWith : ℕ → Outcome
 refusedWith why = record { refusal = why; len = 0; layouts = 0 }
 
 -- With a jump: "Then labels, relocations and pool offsets are mapped, refs patched in order, then jumps". 18 and 23 leave the settled segments, 16 and 17
 -- leave the table untouched.
-unfoldable pub relaxed : Pooled → ℕ → List ℕ → List ℕ → List (List ℕ) → List ℕ → Placed × Left
+unfoldable pub relaxed : Pooled → ℕ → List ℕ → List ℕ → List (List ℕ) → List ℕ → Outcome × Left
 relaxed p count labels relocs rows output =
     let c = settled p .choice in
     let early = whyNotLaid p (length rows) in
@@ -62,7 +77,7 @@ relaxed p count labels relocs rows output =
     (refusedWith early, (labels, (relocs, (rows, output))))
 
 -- Without a jump: "uses are patched in order, refs are not .., nothing moves, and layouts are 0".
-unfoldable pub unrelaxed : Pooled → List ℕ → List ℕ → List (List ℕ) → List ℕ → Placed × Left
+unfoldable pub unrelaxed : Pooled → List ℕ → List ℕ → List (List ℕ) → List ℕ → Outcome × Left
 unrelaxed p labels relocs rows output =
     let why = whyNotInPlace p (length output) in
     pick (eqb why 0)
@@ -77,7 +92,7 @@ abbrev pub withFinished : CodeBuffer → CodeBuffer
 withFinished b = record { arch = b .arch; symbols = b .symbols; finished = 1; refusal = b .refusal; code = b .code; labels = b .labels; events = b .events; uses = b .uses; refs = b .refs; constants = b .constants; asked = b .asked; relocs = b .relocs }
 
 -- "With the record, finish reports how many layouts it made."
-abbrev pub finishedWith : CodeBuffer → Placed → Finished
+abbrev pub finishedWith : CodeBuffer → Outcome → Finished
 finishedWith b placed =
     record {
       buffer = withFinished b;
@@ -98,7 +113,7 @@ unfinished b why =
     record { buffer = b; refusal = why; code = record { arch = 0; len = 0; alignment = 0; layouts = 0; labels = 0; relocs = 0 } }
 
 -- once the recording is fit: 15, then with or without a jump
-unfoldable pub placedBy : Pooled → Recording → List (List ℕ) → List ℕ → Placed × Left
+unfoldable pub placedBy : Pooled → Recording → List (List ℕ) → List ℕ → Outcome × Left
 placedBy p r rows output =
     let labels = overWords (r .labels) (p .labels) in
     pick (allBound p (view r .relocs))

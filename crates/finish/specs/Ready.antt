@@ -21,7 +21,7 @@ use Rattle.pool.specs.Pool.{labelAt, poolStart, poolOffset, poolBytes, poolWrit
 use Rattle.layout.specs.Layout.{tableOf, Rising}
 use Rattle.emit.specs.Emit.{usesFilled, refsFilled, jumpsFilled, Emits, UsesFit, RefsFit, JumpsFit, WordsFit}
 use Rattle.checks.specs.Search as search
-use Rattle.finish.specs.declared.Placed.{Placed}
+use Rattle.finish.specs.declared.Outcome.{Outcome}
 use Rattle.finish.specs.Refusals.{allBound, hasJump, whyNotInPlace}
 use Rattle.finish.specs.Finish.{Left, refusedWith, relaxed, unrelaxed}
 use Rattle.finish.specs.Tables.{tablesPooled}
@@ -124,7 +124,7 @@ pub record Keepable (code labels uses constants asked : List ℕ) (len count u m
   pub known : (i : ℕ) → i < u → wordAt uses (i * 3 + 1) < count
 
 -- what it answers, and leaves of the output
-unfoldable pub kept : Pooled → List ℕ → Placed × List ℕ
+unfoldable pub kept : Pooled → List ℕ → Outcome × List ℕ
 kept p output =
     let why = whyNotInPlace p (length output) in
     pick (eqb why 0) (record { refusal = 0; len = length (p .code); layouts = 0 }, over output 0 (inPlace p)) (refusedWith why, output)
@@ -144,7 +144,7 @@ pooledOf b code labels events uses refs constants asked =
     (entries (refAt refs) (b .refs)) constants asked (b .asked)
 
 -- what is answered and left, where the table of labels has the pool's labels bound
-unfoldable pub placedAs : Pooled → CodeBuffer → List ℕ → List ℕ → List (List ℕ) → List ℕ → Placed × Left
+unfoldable pub placedAs : Pooled → CodeBuffer → List ℕ → List ℕ → List (List ℕ) → List ℕ → Outcome × Left
 placedAs p b labels relocs rows output =
     pick (allBound p (entries (relocAt relocs) (b .relocs)))
     (pick (hasJump p) (relaxed p (b .relocs) labels relocs rows output) (unrelaxed p labels relocs rows output))

@@ -5,8 +5,6 @@ use mathlib.Core.List.{List, [], _++_}
 use Prim.Native.Nat.{ℕ}
 use lib.Dec.{eqb}
 use Rattle.relax.specs.declared.LayoutEvent.{LayoutEvent}
-use Rattle.buffer.specs.declared.CodeBuffer.{CodeBuffer}
-use Rattle.recording.specs.Calls.{Recording}
 use Rattle.recording.specs.View.{entries, Use, Ref}
 use Rattle.fresh.specs.Pooled.{Placed, Pooled}
 use Rattle.pool.specs.Pool.{bytesAt, poolOffset, poolEvent, poolBytes}
@@ -23,19 +21,4 @@ tablesPooled arch from code labels events uses refs constants asked m =
       uses = uses;
       refs = refs;
       pool = entries (poolPlaced from constants asked) m;
-    }
-
--- a recording of what is lent
-abbrev pub recordingOf : CodeBuffer → List ℕ → List ℕ → List ℕ → List ℕ → List ℕ → List ℕ → List ℕ → List ℕ → Recording
-recordingOf b code labels events uses refs constants asked relocs =
-    record {
-      buffer = b;
-      code = code;
-      labels = labels;
-      events = events;
-      uses = uses;
-      refs = refs;
-      constants = constants;
-      asked = asked;
-      relocs = relocs;
     }

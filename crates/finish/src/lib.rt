@@ -6,8 +6,7 @@ ghost use Prim.Native.Nat.{_/_};
 ghost use lib.Dec.{leb};
 ghost use Rattle.buffer.specs.Refusals.{standing};
 ghost use Rattle.finish.specs.Refusals.{countsFit, withinLimits, whyUnfit};
-ghost use Rattle.finish.specs.Finish.{unfinished, finishedWith, finish};
-ghost use Rattle.finish.specs.Tables.{recordingOf};
+ghost use Rattle.finish.specs.Finish.{recordingOf, unfinished, finishedWith, finish};
 use buffer::CodeBuffer;
 
 mod pooled;
@@ -34,7 +33,7 @@ pub struct Finished {
 }
 
 // What becomes of a pooled recording: 0 or the refusal's number, bytes of finished code, rounds.
-pub struct Placed {
+pub struct Outcome {
     pub refusal: u32,
     pub len: u32,
     pub layouts: u32,
@@ -228,7 +227,7 @@ fn unfinished(b: CodeBuffer, why: u32) -> Finished
     }
 }
 
-fn finished_with(mut b: CodeBuffer, placed: Placed) -> Finished
+fn finished_with(mut b: CodeBuffer, placed: Outcome) -> Finished
     ensures { λ r. ⌜ r ≡ finishedWith b placed ⌝ }
 {
     b.finished = 1;

@@ -5,31 +5,25 @@ ghost use mathlib.Core.List.{List, [], _∷_, map};
 ghost use Prim.Native.Nat.{_+_, _*_, _≤_};
 ghost use lib.Dec.{ltb};
 ghost use lib.ListN.{length, take, replicate};
-ghost use Rattle.seqs.specs.Over.{over};
 ghost use Rattle.seqs.specs.Pick.{first, orElse};
 ghost use Rattle.words.specs.Words.{wordAt};
 ghost use Rattle.relax.specs.declared.LayoutEvent.{LayoutEvent};
 ghost use Rattle.relax.specs.Events.{eventAt};
-ghost use Rattle.recording.specs.Sound.{UsesSound, RefsSound, RelocsSound};
 ghost use Rattle.recording.specs.View as tables;
-ghost use Rattle.fresh.specs.Fresh.{moved};
-ghost use Rattle.fresh.specs.Fill.{assembled, inPlace};
-ghost use Rattle.fresh.specs.Segments.{mapOffset, segmentsOf};
-ghost use Rattle.pool.specs.Pool.{poolStart};
-ghost use Rattle.layout.specs.Layout.{allEvents, rowsFrom, finishedLength, Rising};
+ghost use Rattle.layout.specs.Layout.{Rising};
 ghost use Rattle.emit.specs.Emit.{refsReach, RefsKnown};
 ghost use Rattle.checks.specs.Fields.{usesBound, refsBound, jumpsBound, relocsBound, refsClear, whyUses};
 ghost use Rattle.checks.specs.Handed.{useLabel, Named};
 ghost use Rattle.finish.specs.Finish.{relaxed};
 ghost use Rattle.finish.specs.Tables.{tablesPooled};
 ghost use Rattle.finish.specs.Ready.{Entered, Clearing, endOfRuns, codeWritten, Writing, Relaxable, codeCopied, Copying, Keepable, kept, Placeable, pooledOf, placedAs};
-use crate::Placed;
+use crate::Outcome;
 use buffer::CodeBuffer;
 
-fn refused(why: u32) -> Placed
+fn refused(why: u32) -> Outcome
     ensures { λ r. ⌜ r ≡ record { refusal = why; len = 0; layouts = 0 } ⌝ }
 {
-    Placed {
+    Outcome {
         refusal: why,
         len: 0,
         layouts: 0,
@@ -155,7 +149,7 @@ fn lay_out(
     m: usize,
     f: usize,
     l: usize,
-) -> Placed
+) -> Outcome
     requires { ⌜ Relaxable (now code) (now labels) (now events) (now refs) (now constants) (now asked) (now relocs) (now output) (length (now segments)) len count n m f l ⌝ ∗ ⌜ 0 ≡ first ((ltb (length (now segments)) (n + m), 16) ∷ (not (refsClear (now refs) f (now events) n len (now constants) (now asked) m), 17) ∷ []) ⌝ ∗ ⌜ now long ≡ replicate (n + m) false ⌝ }
     ensures { λ r. ⌜ ((us : List tables.Use) → (r, (now (labels .exit), (now (relocs .exit), (now (segments .exit), now (output .exit))))) ≡ relaxed (tablesPooled 2 len (take len (now (code .entry))) (tables.entries (wordAt (now (labels .entry))) count) (tables.entries (eventAt (now (events .entry))) n) us (tables.entries (tables.refAt (now (refs .entry))) f) (now (constants .entry)) (now (asked .entry)) m) l (now (labels .entry)) (now (relocs .entry)) (now (segments .entry)) (now (output .entry))) ⌝ }
 {
@@ -181,7 +175,7 @@ fn lay_out(
         m,
         f,
     );
-    Placed {
+    Outcome {
         refusal: 0,
         len: laid.len,
         layouts: laid.layouts,
@@ -205,7 +199,7 @@ fn relaxed(
     m: usize,
     f: usize,
     l: usize,
-) -> Placed
+) -> Outcome
     requires { ⌜ Relaxable (now code) (now labels) (now events) (now refs) (now constants) (now asked) (now relocs) (now output) (length (now segments)) len count n m f l ⌝ }
     ensures { λ r. ⌜ ((us : List tables.Use) → (r, (now (labels .exit), (now (relocs .exit), (now (segments .exit), now (output .exit))))) ≡ relaxed (tablesPooled 2 len (take len (now (code .entry))) (tables.entries (wordAt (now (labels .entry))) count) (tables.entries (eventAt (now (events .entry))) n) us (tables.entries (tables.refAt (now (refs .entry))) f) (now (constants .entry)) (now (asked .entry)) m) l (now (labels .entry)) (now (relocs .entry)) (now (segments .entry)) (now (output .entry))) ⌝ }
 {
@@ -298,7 +292,7 @@ fn unrelaxed(
     count: usize,
     u: usize,
     m: usize,
-) -> Placed
+) -> Outcome
     requires { ⌜ Keepable (now code) (now labels) (now uses) (now constants) (now asked) len count u m ⌝ }
     ensures { λ r. ⌜ ((es : List LayoutEvent) (rs : List tables.Ref) → (r, now (output .exit)) ≡ kept (tablesPooled arch len (take len (now (code .entry))) (tables.entries (wordAt (now (labels .entry))) count) es (tables.entries (tables.useAt (now (uses .entry))) u) rs (now (constants .entry)) (now (asked .entry)) m) (now (output .entry))) ⌝ }
 {
@@ -319,7 +313,7 @@ fn unrelaxed(
         u,
         m,
     );
-    Placed {
+    Outcome {
         refusal: 0,
         len: end,
         layouts: 0,
@@ -339,7 +333,7 @@ pub(crate) fn place(
     relocs: &mut [u8],
     segments: &mut [[u32; 4]],
     output: &mut [u8],
-) -> Placed
+) -> Outcome
     requires { ⌜ Placeable b (now code) (now labels) (now events) (now uses) (now refs) (now constants) (now asked) (now relocs) (now output) (length (now segments)) ⌝ }
     ensures { λ r. ⌜ (r, (now (labels .exit), (now (relocs .exit), (now (segments .exit), now (output .exit))))) ≡ placedAs (pooledOf b (now (code .entry)) (now (labels .entry)) (now (events .entry)) (now (uses .entry)) (now (refs .entry)) (now (constants .entry)) (now (asked .entry))) b (now (labels .entry)) (now (relocs .entry)) (now (segments .entry)) (now (output .entry)) ⌝ }
 {

@@ -47,7 +47,7 @@ far-short at j true end h = no-confusion h
 far-short at j false end h = rw h (omega arith)
 
 -- A round that lengthens a jump leaves fewer short ones.
-shorts-lt : (at : ℕ → ℕ) (es : List LayoutEvent) (c : Choice) (ends : List ℕ) → any (farOf at es c ends) ≡ true
+pub shorts-lt : (at : ℕ → ℕ) (es : List LayoutEvent) (c : Choice) (ends : List ℕ) → any (farOf at es c ends) ≡ true
     → shorts es (join c (farOf at es c ends)) < shorts es c
 unfolding shorts join farOf any isFar
 shorts-lt at [] c ends h = no-confusion h
@@ -61,7 +61,7 @@ shorts-lt at (Jump j ∷ es) c ends h = go (isFar at (Jump j) (isLong c) (firstE
     go false e a ih = omega (arith, short-le (isLong c) (isFar at (Jump j) (isLong c) (firstEnd ends)), ih a)
 shorts-lt at (Align start len align ∷ es) c ends h = shorts-lt at es (others c) (otherEnds ends) h
 
-shorts-all : (es : List LayoutEvent) → shorts es (allShort es) ≡ jumps es
+pub shorts-all : (es : List LayoutEvent) → shorts es (allShort es) ≡ jumps es
 unfolding shorts
 shorts-all [] = refl
 shorts-all (Jump j ∷ es) = ap (λ x. 1 + x) (shorts-all es)

@@ -22,7 +22,7 @@ use Rattle.fresh.proofs.Shape.{size, Ordered, Modest, Cursor, after}
 use Rattle.fresh.proofs.Forms.{width-size}
 use Rattle.pool.specs.Pool.{sizeAt, poolStart, poolPadding, poolEvent, PoolFits}
 use Rattle.layout.specs.Layout.{rowOf, rowsFrom, endFrom, finishedLength, allEvents, Recorded}
-use Rattle.layout.proofs.Entries.{length-entries}
+use Rattle.recording.proofs.Views.{length-entries}
 use Rattle.layout.proofs.Turns.{after-snoc, rows-snoc, length-rows}
 
 alignment-range : (n : ℕ) → (0 < constantAlignment n) × (constantAlignment n ≤ 16)
@@ -105,7 +105,7 @@ module _ (before rows : List (List ℕ)) (constants asked : List ℕ) (n from to
       }
 
 -- Events in order, one more.
-ordered-snoc : (es : List LayoutEvent) (o n k : ℕ) (e : LayoutEvent) → Ordered o n es → n ≤ startOf e → endOf e ≤ k → Ordered o k (es ++ (e ∷ []))
+pub ordered-snoc : (es : List LayoutEvent) (o n k : ℕ) (e : LayoutEvent) → Ordered o n es → n ≤ startOf e → endOf e ≤ k → Ordered o k (es ++ (e ∷ []))
 unfolding Ordered
 ordered-snoc [] o n k e h a b = (omega arith, b)
 ordered-snoc (x ∷ es) o n k e h a b = (h .0, ordered-snoc es (endOf x) n k e (h .1) a b)

@@ -19,7 +19,7 @@ use Rattle.fresh.specs.Segments.{mapOffset}
 use Rattle.fresh.proofs.Shape.{newEnds}
 use Rattle.fresh.proofs.Choices.{farOf-getD, length-farOf, length-join, join-getD, any-suc}
 use Rattle.layout.specs.Layout.{segmentOf, tableOf, farIn}
-use Rattle.layout.proofs.Entries.{length-entries, getD-entries}
+use Rattle.recording.proofs.Views.{length-entries, getD-entries}
 use Rattle.layout.proofs.Search.{row-at}
 
 -- the scan has passed i events, f being those that it lengthens

@@ -1,7 +1,7 @@
 -- The rounds by segments: they end, and settle where the rounds of a fresh assembly do.
 use mathlib.Core.Path.{_≡_, refl, sym, _∙_, ap}
 use mathlib.Core.Logic.{⊎-elim}
-use mathlib.Core.Bool.{Bool, true, false, _||_}
+use mathlib.Core.Bool.{Bool, true, false}
 use mathlib.Core.List.{List, [], _∷_, _++_}
 use Prim.Native.Nat.{ℕ, zero, suc, _+_, _-_, _≤_, _<_}
 use native.Mathlib.Omega.{arith}
@@ -20,62 +20,12 @@ use Rattle.fresh.specs.Fresh.{Choice, isLong, others, placed}
 use Rattle.fresh.specs.Rounds.{allShort, jumps, isFar, firstEnd, otherEnds, farOf, far, any, join, longer, Settled, settle, settled}
 use Rattle.fresh.specs.Segments.{segments, mapOffset}
 use Rattle.fresh.proofs.Shape.{WellFormed, newEnds, after, runsTo}
-use Rattle.fresh.proofs.Tests.{split, no-confusion}
+use Rattle.fresh.proofs.Tests.{split}
 use Rattle.fresh.proofs.Segments.{far-segments, placed-runs}
 use Rattle.fresh.proofs.Loops.{runs-all, length-runsTo}
 use Rattle.pool.specs.Pool.{poolEvent}
 use Rattle.layout.specs.Layout.{allEvents, farBy, relaxing, relaxedBy, relaxed, finishedLength}
-use Rattle.layout.proofs.Entries.{length-entries, getD-entries}
-
-abbrev short : Bool → ℕ
-short true = 0
-short false = 1
-
--- how many jumps are short
-pub shorts : List LayoutEvent → Choice → ℕ
-shorts [] c = 0
-shorts (Jump j ∷ es) c = short (isLong c) + shorts es (others c)
-shorts (Align start len align ∷ es) c = shorts es (others c)
-
-short-le : (a f : Bool) → short (a || f) ≤ short a
-short-le true f = omega arith
-short-le false true = omega arith
-short-le false false = omega arith
-
-shorts-le : (at : ℕ → ℕ) (es : List LayoutEvent) (c : Choice) (ends : List ℕ) → shorts es (join c (farOf at es c ends)) ≤ shorts es c
-unfolding shorts join farOf
-shorts-le at [] c ends = omega arith
-shorts-le at (Jump j ∷ es) c ends =
-    omega (arith, short-le (isLong c) (isFar at (Jump j) (isLong c) (firstEnd ends)), shorts-le at es (others c) (otherEnds ends))
-shorts-le at (Align start len align ∷ es) c ends = shorts-le at es (others c) (otherEnds ends)
-
--- a jump that a round lengthens was short
-far-short : (at : ℕ → ℕ) (j : RelaxableJump) (long : Bool) (end : ℕ) → isFar at (Jump j) long end ≡ true
-    → short (long || isFar at (Jump j) long end) < short long
-unfolding isFar
-far-short at j true end h = no-confusion h
-far-short at j false end h = rw h (omega arith)
-
--- A round that lengthens a jump leaves fewer short ones.
-pub shorts-lt : (at : ℕ → ℕ) (es : List LayoutEvent) (c : Choice) (ends : List ℕ) → any (farOf at es c ends) ≡ true
-    → shorts es (join c (farOf at es c ends)) < shorts es c
-unfolding shorts join farOf any isFar
-shorts-lt at [] c ends h = no-confusion h
-shorts-lt at (Jump j ∷ es) c ends h = go (isFar at (Jump j) (isLong c) (firstEnd ends)) refl h (shorts-lt at es (others c) (otherEnds ends))
-  where
-    go : (f : Bool) → isFar at (Jump j) (isLong c) (firstEnd ends) ≡ f → (f || any (farOf at es (others c) (otherEnds ends))) ≡ true
-        → (any (farOf at es (others c) (otherEnds ends)) ≡ true → shorts es (join (others c) (farOf at es (others c) (otherEnds ends))) < shorts es (others c))
-        → short (isLong c || isFar at (Jump j) (isLong c) (firstEnd ends)) + shorts es (join (others c) (farOf at es (others c) (otherEnds ends)))
-        < short (isLong c) + shorts es (others c)
-    go true e a ih = omega (arith, far-short at j (isLong c) (firstEnd ends) e, shorts-le at es (others c) (otherEnds ends))
-    go false e a ih = omega (arith, short-le (isLong c) (isFar at (Jump j) (isLong c) (firstEnd ends)), ih a)
-shorts-lt at (Align start len align ∷ es) c ends h = shorts-lt at es (others c) (otherEnds ends) h
-
-pub shorts-all : (es : List LayoutEvent) → shorts es (allShort es) ≡ jumps es
-unfolding shorts
-shorts-all [] = refl
-shorts-all (Jump j ∷ es) = ap (λ x. 1 + x) (shorts-all es)
-shorts-all (Align start len align ∷ es) = shorts-all es
+use Rattle.recording.proofs.Views.{length-entries, getD-entries}
 
 pub jumps-le : (es : List LayoutEvent) → jumps es ≤ length es
 jumps-le [] = omega arith

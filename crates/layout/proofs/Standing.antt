@@ -20,11 +20,12 @@ use Rattle.fresh.proofs.Tests.{no-confusion}
 use Rattle.fresh.proofs.Choices.{isLong-getD, others-getD, length-farOf, length-join}
 use Rattle.pool.specs.Pool.{poolStart, PoolFits}
 use Rattle.layout.specs.Layout.{tableOf, allEvents, rowsFrom, finishedLength, farIn, farBy, relaxing, relaxedBy, Relaxed, Recorded, Rising}
-use Rattle.layout.proofs.Entries.{length-entries}
+use Rattle.recording.proofs.Views.{length-entries}
 use Rattle.layout.proofs.Turns.{length-rows}
 use Rattle.layout.proofs.Pooling.{all-none, all-suc, length-all, all-ordered, all-modest, pool-near}
 use Rattle.layout.proofs.Rows.{table-laid, rising-laid}
-use Rattle.layout.proofs.Settled.{shorts, shorts-lt, shorts-all, jumps-le, all-short, relaxing-last, relaxing-again}
+use Rattle.fresh.proofs.Rounds.{shorts, shorts-lt, shorts-all}
+use Rattle.layout.proofs.Settled.{jumps-le, all-short, relaxing-last, relaxing-again}
 
 -- An alignment is never lengthened.
 far-snoc : (g : ℕ → ℕ) (es : List LayoutEvent) (c : Choice) (ends : List ℕ) (start len align : ℕ)

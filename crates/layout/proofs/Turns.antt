@@ -21,7 +21,8 @@ use Rattle.fresh.proofs.Choices.{isLong-getD, others-getD}
 use Rattle.fresh.proofs.Forms.{width-size}
 use Rattle.fresh.proofs.Loops.{length-segments, segments-snoc, size-le, after-le}
 use Rattle.layout.specs.Layout.{rowOf, rowsFrom, Follows, Recorded, Laid}
-use Rattle.layout.proofs.Entries.{length-entries, entries-split, map-snoc}
+use Rattle.recording.proofs.Views.{length-entries}
+use Rattle.layout.proofs.Entries.{entries-split, map-snoc}
 
 pub width-le : (e : LayoutEvent) (long : Bool) (n : ℕ) → Modest (e ∷ []) → width e long n ≤ 4096
 width-le e long n h = omega (arith, width-size e long n, size-le (e ∷ []) 0 long n h (omega arith))
