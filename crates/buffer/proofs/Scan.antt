@@ -1,35 +1,26 @@
 -- The search for a label between two offsets.
-use mathlib.Core.Path.{_≡_, refl}
-use mathlib.Core.Logic.{⊎-elim}
-use mathlib.Core.Bool.{Bool, true, false, _&&_, _||_}
+use mathlib.Core.Path.{_≡_, sym, _∙_}
+use mathlib.Core.Bool.{false, not, _&&_, _||_}
 use mathlib.Core.List.{List}
-use Prim.Native.Nat.{ℕ, zero, suc, _+_, _<_}
-use native.Mathlib.Nat.{not-suc-le-zero}
+use borrow.Author.Tests.{eqb-true, not-false}
+use Prim.Native.Nat.{ℕ, _+_}
 use native.Mathlib.Numerals.{add-one}
-use native.Mathlib.Omega.{arith}
-use lib.Dec.{ltb}
-use Rattle.seqs.proofs.Numbers.{eq-or-ne}
+use lib.Dec.{eqb, ltb}
+use Rattle.seqs.proofs.Booleans.{both-false}
 use Rattle.words.specs.Words.{wordAt}
-use Rattle.buffer.specs.Refusals.{labelInside}
+use Rattle.buffer.specs.Refusals.{labelInside, jumpMalformed}
 
--- label i is bound strictly between the offsets
-abbrev pub inside : List ℕ → ℕ → ℕ → ℕ → Bool
-inside labels i start end = ltb start (wordAt labels i) && ltb (wordAt labels i) end
-
-or-true : (t : Bool) → (t || true) ≡ true
-or-true true = refl
-or-true false = refl
-
-pub one-inside : (labels : List ℕ) (i n start end : ℕ) → i < n → inside labels i start end ≡ true → labelInside labels n start end ≡ true
+-- one more label is looked at
+pub scan-step : (labels : List ℕ) (i start end : ℕ)
+    → (ltb start (wordAt labels i) && ltb (wordAt labels i) end || labelInside labels i start end) ≡ labelInside labels (i + 1) start end
 unfolding labelInside
-one-inside labels i zero start end h e = absurd (not-suc-le-zero h)
-one-inside labels i (suc n) start end h e =
-    ⊎-elim
-    (λ (same : i ≡ n). rw (← same, e))
-    (λ other. rw (one-inside labels i n start end (omega arith) e) (or-true (inside labels n start end)))
-    (eq-or-ne i n)
+scan-step labels i start end = rw (add-one i)
 
-pub none-inside : (labels : List ℕ) (i start end : ℕ) → labelInside labels i start end ≡ false → inside labels i start end ≡ false
-    → labelInside labels (i + 1) start end ≡ false
-unfolding labelInside
-none-inside labels i start end h e = rw (add-one i, e, h)
+-- a jump that is not malformed ends at the current offset
+pub ends-here : (code start len cc : ℕ) → jumpMalformed code start len cc ≡ false → start + len ≡ code
+unfolding jumpMalformed
+ends-here code start len cc h =
+    let a = both-false _ _ h in
+    let b = both-false _ _ (a .0) in
+    let c = both-false _ _ (b .0) in
+    eqb-true (start + len) code (not-false (eqb (start + len) code) (c .0))

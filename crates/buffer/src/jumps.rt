@@ -7,6 +7,7 @@ ghost use Rattle.buffer.specs.Calls.{recordJump};
 use crate::CodeBuffer;
 use crate::Recorded;
 use crate::both;
+use crate::either;
 
 // The end of the last of `n` events.
 fn last_end(events: &[u8], n: usize) -> u64
@@ -19,20 +20,19 @@ fn last_end(events: &[u8], n: usize) -> u64
     relax::event_end(relax::event_at(events, n - 1))
 }
 
-// One of the first `n` labels is bound strictly between two offsets.
-fn label_inside(labels: &[u8], n: usize, start: u32, end: u64) -> bool
+// One of the first `n` labels is bound strictly between two offsets. The scan looks at every label, so that it compiles to vector instructions.
+fn label_inside(labels: &[u8], n: usize, start: u32, end: u32) -> bool
     requires { ⌜ n * 4 ≤ length (now labels) ⌝ }
     ensures { λ r. ⌜ r ≡ labelInside (now (labels .entry)) n start end ⌝ }
 {
+    let mut found = false;
     let mut i: usize = 0;
     while i < n {
         let at = words::word_at(labels, i);
-        if both(start < at, (at as u64) < end) {
-            return true;
-        }
+        found = either(both(start < at, at < end), found);
         i += 1;
     }
-    false
+    found
 }
 
 // It does not end at `code`, or its length is not 2 to 15, or its condition is above 16.
@@ -62,12 +62,7 @@ impl CodeBuffer {
         if (start as u64) < last_end(events, self.events as usize) {
             return true;
         }
-        label_inside(
-            labels,
-            self.labels as usize,
-            start,
-            start as u64 + len as u64,
-        )
+        label_inside(labels, self.labels as usize, start, self.code)
     }
 
     fn why_not_jump(

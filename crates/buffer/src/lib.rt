@@ -1,7 +1,7 @@
 // `CodeBuffer`: a recording's counts, and the calls that record. After asmkit's core/buffer.rs (see NOTICE).
 // The tables are lent by the caller as byte slices, whole entries of little-endian words; their lengths are their capacities.
 ghost use mathlib.Core.Path.{_≡_};
-ghost use mathlib.Core.Bool.{_&&_};
+ghost use mathlib.Core.Bool.{_&&_, _||_};
 ghost use Rattle.buffer.specs.State.{turnedDown, noneMade};
 ghost use Rattle.buffer.specs.Refusals.{archOccurs, refusalOccurs, standing};
 ghost use Rattle.buffer.specs.Calls.{started};
@@ -56,6 +56,15 @@ pub fn both(a: bool, b: bool) -> bool
         return b;
     }
     false
+}
+
+pub fn either(a: bool, b: bool) -> bool
+    ensures { λ r. ⌜ r ≡ (a || b) ⌝ }
+{
+    if a {
+        return true;
+    }
+    b
 }
 
 fn arch_occurs(arch: u32) -> bool

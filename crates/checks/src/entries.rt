@@ -9,7 +9,6 @@ ghost use Rattle.recording.specs.Sound.{startAt, endAt};
 ghost use Rattle.checks.specs.Entries.{all, formFits, eventFits, keptOnly, eventsFit, outside, labelFits, labelsFit, useFits, usesFit, refFits, refsFit, relocFits, relocsFit, constantFits, constantsFit, orderFits, entriesFit};
 ghost use Rattle.checks.specs.Search.{Ordered};
 ghost use Rattle.checks.specs.Handed.{CountsFit, tables, Labelled, askedLabel, Marks, newAt, unlabelledOr};
-use crate::either;
 use buffer::CodeBuffer;
 
 // A jump has 2 to 15 bytes, a known label, and a condition up to 16; an alignment is on a power of two up to 4,096, with the least padding.
@@ -80,7 +79,7 @@ fn each_event_fits(events: &[u8], n: usize, labels: u32, code: u32) -> bool
 fn is_kept(arch: u32, n: usize) -> bool
     ensures { λ r. ⌜ r ≡ keptOnly arch n ⌝ }
 {
-    either(arch == 2, n == 0)
+    buffer::either(arch == 2, n == 0)
 }
 
 pub fn events_fit(arch: u32, events: &[u8], n: usize, labels: u32, code: u32) -> bool
@@ -222,7 +221,10 @@ fn constant_fits(constants: &[u8], labels: u32, i: usize) -> bool
 {
     let size = words::word_at(constants, i * 18);
     let label = words::word_at(constants, i * 18 + 1);
-    buffer::both(size <= 64, either(label == buffer::NONE, label < labels))
+    buffer::both(
+        size <= 64,
+        buffer::either(label == buffer::NONE, label < labels),
+    )
 }
 
 pub fn constants_fit(constants: &[u8], n: usize, labels: u32) -> bool
@@ -300,7 +302,7 @@ fn is_each_marked(constants: &[u8], n: u32, seen: &[bool]) -> bool
     while i < count {
         let label = words::word_at(constants, i * 18 + 1);
         let marked = seen[i];
-        if !either(label == buffer::NONE, marked) {
+        if !buffer::either(label == buffer::NONE, marked) {
             return false;
         }
         i += 1;

@@ -3,6 +3,7 @@ use borrow.Author.Needs.{needs}
 use borrow.Author.Tests.{lt-ltb, le-ltb}
 use mathlib.Core.Path.{sym, _∙_}
 use Rattle.buffer.specs.Refusals.{jumpUnfit}
+use Rattle.buffer.proofs.Scan.{ends-here}
 use Rattle.buffer.proofs.CodeBuffer.is_unfit.Statement.{statement}
 use Rattle.buffer.proofs.CodeBuffer.is_unfit.Tie as tie
 
@@ -26,10 +27,13 @@ unfolding jumpUnfit
 returns-3 c =
     let last = c .before .before .before in
     let one = last .before .before in
+    let a = one .before .before .before .before .args in
+    let sound = sym (one .before .is-malformed .ensures) ∙ one .if1 .left in
     rw (
-      sym (one .before .is-malformed .ensures) ∙ one .if1 .left,
+      sound,
+      ends-here (a .self .code) (a .start) (a .len) (a .cc) sound,
       ← last .last-end .ensures,
-      le-ltb (one .before .before .before .before .args .start) (last .last-end .result) (c .before .before .if2 .left),
+      le-ltb (a .start) (last .last-end .result) (c .before .before .if2 .left),
     )
     (c .label-inside .ensures)
 
@@ -42,7 +46,6 @@ is-unfit-spec =
     (λ c. search needs)
     (λ c κs. search needs)
     returns-2
-    (λ c. search needs)
     (λ c. search needs)
     (λ c κs. search needs)
     returns-3)

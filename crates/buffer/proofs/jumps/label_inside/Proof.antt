@@ -1,38 +1,51 @@
--- `label_inside` meets its contract: none of the labels passed is inside.
+-- `label_inside` meets its contract: what was found among the labels passed.
 use borrow.Author.Needs.{needs}
-use mathlib.Core.Path.{_≡_, refl, sym, _∙_}
-use mathlib.Core.Bool.{false}
-use Prim.Native.Nat.{_≤_, _-_}
+use mathlib.Core.Path.{_≡_, refl, _∙_}
+use Prim.Native.Nat.{_-_, _≤_}
 use native.Mathlib.Omega.{arith}
 use Rattle.buffer.specs.Refusals.{labelInside}
-use Rattle.buffer.proofs.Scan.{one-inside, none-inside}
+use Rattle.buffer.proofs.Scan.{scan-step}
 use Rattle.buffer.proofs.jumps.label_inside.Statement.{statement}
 use Rattle.buffer.proofs.jumps.label_inside.Tie as tie
 
 abbrev Inv-loop : tie.InvT-loop
-Inv-loop labels n start end i₀ i = (i ≤ n) × (labelInside labels i start end ≡ false)
+Inv-loop labels n start end found₀ i₀ found i = (i ≤ n) × (found ≡ labelInside labels i start end)
 
 abbrev μ-loop : tie.MeasureT-loop
-μ-loop labels n start end i₀ i = n - i
+μ-loop labels n start end found₀ i₀ found i = n - i
 
+-- src/jumps.rt:30:5
 loop-holds : tie.Need-loop-holds Inv-loop μ-loop
 unfolding labelInside
 loop-holds c = (omega arith, refl)
 
-returns : tie.Need-returns Inv-loop μ-loop
-returns c =
-    let test = rw (c .before .before .word-at .ensures) at (c .before .both .ensures) in
-    sym (one-inside _ (c .before .before .before .before .loop .i) _ _ _ (omega arith) (sym test ∙ c .if1 .taken))
+-- src/jumps.rt:31:13
+word-at-requires : tie.Need-word-at-requires Inv-loop μ-loop
+word-at-requires c κs = search needs
 
+-- src/jumps.rt:32:24
+both-requires : tie.Need-both-requires Inv-loop μ-loop
+both-requires c κs = search needs
+
+-- src/jumps.rt:32:9
+either-requires : tie.Need-either-requires Inv-loop μ-loop
+either-requires c κs = search needs
+
+-- src/jumps.rt:33:9
+add-i : tie.Need-add-i Inv-loop μ-loop
+add-i c = search needs
+
+-- src/jumps.rt:30:5
+loop-less : tie.Need-loop-less Inv-loop μ-loop
+loop-less c = search needs
+
+-- src/jumps.rt:30:5
 loop-again : tie.Need-loop-again Inv-loop μ-loop
-loop-again c =
-    let test = rw (c .before .before .word-at .ensures) at (c .before .both .ensures) in
-    (omega arith, none-inside _ _ _ _ (c .before .before .before .before .loop .inv .1) (sym test ∙ c .if1 .left))
+loop-again c = (omega arith, (rw (c .before .both .ensures, c .before .before .word-at .ensures, c .before .before .before .before .loop .inv .1) at (c .either .ensures)) ∙ scan-step _ _ _ _)
 
-returns-2 : tie.Need-returns-2 Inv-loop μ-loop
-returns-2 c =
-    let all : c .before .loop .i ≡ c .before .before .before .args .n = omega arith in
-    sym (rw all at (c .before .loop .inv .1))
+-- src/jumps.rt:24:1
+returns : tie.Need-returns Inv-loop μ-loop
+returns c = let all : c .before .loop .i ≡ c .before .before .before .args .n = omega arith in rw all at (c .before .loop .inv .1)
 
 pub label-inside-spec : {M : Type 1} → statement M
 label-inside-spec =
@@ -41,11 +54,10 @@ label-inside-spec =
     Inv-loop
     μ-loop
     loop-holds
-    (λ c κs. search needs)
-    (λ c. search needs)
-    (λ c κs. search needs)
-    returns
-    (λ c. search needs)
-    (λ c. search needs)
+    word-at-requires
+    both-requires
+    either-requires
+    add-i
+    loop-less
     loop-again
-    returns-2)
+    returns)
