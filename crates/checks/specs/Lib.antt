@@ -1,3 +1,4 @@
+pub mod Lent
 pub mod Entries
 pub mod Fields
 pub mod Search

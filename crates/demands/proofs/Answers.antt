@@ -28,7 +28,8 @@ use Rattle.checks.specs.Entries.{entriesFit}
 use Rattle.checks.proofs.Sound.{fits-sound}
 use Rattle.finish.specs.declared.Finished.{Finished}
 use Rattle.finish.specs.declared.Outcome.{Outcome}
-use Rattle.finish.specs.Refusals.{every, countsFit, withinLimits, poolBoundBefore, allBound, hasJump, refClear, refReaches, whyNotLaid, whyNotWritten, usesRefusal, whyNotInPlace, whyUnfit}
+use Rattle.checks.specs.Lent.{countsFit, withinLimits}
+use Rattle.finish.specs.Refusals.{every, poolBoundBefore, allBound, hasJump, refClear, refReaches, whyNotLaid, whyNotWritten, usesRefusal, whyNotInPlace, whyUnfit}
 use Rattle.finish.specs.Finish.{overWords, Left, relaxed, unrelaxed, finishedWith, placedBy, finish}
 use Rattle.demands.specs.Demand2.{finishedCode}
 

@@ -17,7 +17,8 @@ use Rattle.fresh.specs.Fresh.{items, writes, ends, stands, moved}
 use Rattle.fresh.specs.Rounds.{reaches, isFar, farOf, any, settle}
 use Rattle.fresh.specs.Fill.{fillRefs, displacement, fillJump, fillJumps, fillPool, fill, assembled}
 use Rattle.fresh.specs.Segments.{segments}
-use Rattle.finish.specs.Refusals.{every, countsFit, withinLimits, poolBoundBefore, allBound, whyNotLaid, whyNotWritten, whyUnfit}
+use Rattle.checks.specs.Lent.{countsFit, withinLimits}
+use Rattle.finish.specs.Refusals.{every, poolBoundBefore, allBound, whyNotLaid, whyNotWritten, whyUnfit}
 use Rattle.finish.specs.Finish.{relocated, relaxed, placedBy, finish}
 use Rattle.demands.specs.Demand2.{finishedCode}
 

@@ -7,7 +7,7 @@ use lib.Dec.{leb}
 use lib.ListN.{length}
 use Rattle.seqs.proofs.Booleans.{both-true}
 use Rattle.recording.specs.Calls.{Recording}
-use Rattle.finish.specs.Refusals.{countsFit, withinLimits}
+use Rattle.checks.specs.Lent.{countsFit, withinLimits}
 
 pub record Counted (r : Recording) (segments output : ℕ) : Type 0 where
   pub code : r .buffer .code ≤ length (r .code)

@@ -19,7 +19,8 @@ use Rattle.pool.proofs.Pool.{length-poolBytes}
 use Rattle.checks.specs.Entries.{entriesFit}
 use Rattle.checks.specs.Handed.{CountsFit, tables}
 use Rattle.checks.proofs.Sound.{fits-sound, code-unread}
-use Rattle.finish.specs.Refusals.{countsFit, withinLimits, poolBoundBefore, whyUnfit}
+use Rattle.checks.specs.Lent.{countsFit, withinLimits}
+use Rattle.finish.specs.Refusals.{poolBoundBefore, whyUnfit}
 use Rattle.finish.proofs.Counted.{Counted, counted}
 use Rattle.finish.proofs.Pooling.{Tied}
 use Rattle.finish.proofs.Sounds.{code-length, tied, pooled-is}

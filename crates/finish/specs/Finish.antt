@@ -19,21 +19,6 @@ use Rattle.finish.specs.declared.Finished.{Finished}
 use Rattle.finish.specs.declared.Outcome.{Outcome}
 use Rattle.finish.specs.Refusals.{allBound, hasJump, whyNotLaid, whyNotWritten, whyNotInPlace, whyUnfit}
 
--- the recording that is lent: its counts and its tables
-abbrev pub recordingOf : CodeBuffer → List ℕ → List ℕ → List ℕ → List ℕ → List ℕ → List ℕ → List ℕ → List ℕ → Recording
-recordingOf b code labels events uses refs constants asked relocs =
-    record {
-      buffer = b;
-      code = code;
-      labels = labels;
-      events = events;
-      uses = uses;
-      refs = refs;
-      constants = constants;
-      asked = asked;
-      relocs = relocs;
-    }
-
 -- a table of words, the first of them anew
 abbrev pub bytesOfAll : List ℕ → List ℕ
 bytesOfAll [] = []

@@ -2,7 +2,7 @@
 -- jump 16, 17, the rounds, 18, 23; without one 19 to 22, 23.
 use mathlib.Core.Bool.{Bool, true, not, _&&_, _||_}
 use mathlib.Core.List.{List, [], _∷_}
-use Prim.Native.Nat.{ℕ, _+_, _-_, _/_}
+use Prim.Native.Nat.{ℕ, _+_, _-_}
 use lib.Dec.{eqb, leb, ltb}
 use lib.ListN.{length, getD}
 use Rattle.seqs.specs.Pick.{pick, first, orElse}
@@ -14,7 +14,7 @@ use Rattle.fields.specs.Reach.{canReachDelta}
 use Rattle.relax.specs.declared.LayoutEvent.{LayoutEvent}
 use Rattle.relax.specs.declared.LayoutEvent.the-variants.{Jump, Align}
 use Rattle.relax.specs.Events.{endOf}
-use Rattle.buffer.specs.State.{none, mostEntries, mostCode}
+use Rattle.buffer.specs.State.{none, mostCode}
 use Rattle.buffer.specs.Refusals.{standing}
 use Rattle.recording.specs.Calls.{Recording}
 use Rattle.recording.specs.View as tables
@@ -22,6 +22,7 @@ use Rattle.fresh.specs.Pooled.{Pooled, pooled}
 use Rattle.fresh.specs.Fresh.{Choice, startOf, moved, target}
 use Rattle.fresh.specs.Rounds.{jumps, settled}
 use Rattle.fresh.specs.Fill.{assembled}
+use Rattle.checks.specs.Lent.{countsFit, withinLimits}
 use Rattle.checks.specs.Entries.{entriesFit}
 use Rattle.checks.specs.Fields.{sizeOf, reachOf}
 
@@ -29,30 +30,6 @@ use Rattle.checks.specs.Fields.{sizeOf, reachOf}
 unfoldable pub every : {A : Type 0} → (A → Bool) → List A → Bool
 every f [] = true
 every f (x ∷ xs) = f x && every f xs
-
--- "a count handed in passes what is lent": none does
-unfoldable pub countsFit : Recording → Bool
-countsFit r =
-    let b = r .buffer in
-    leb (b .code) (length (r .code))
-    && (leb (b .labels) (length (r .labels) / 4)
-    && (leb (b .events) (length (r .events) / 20)
-    && (leb (b .uses) (length (r .uses) / 12)
-    && (leb (b .refs) (length (r .refs) / 16)
-    && (leb (b .constants) (length (r .constants) / 72)
-    && (leb (b .asked) (length (r .asked) / 4) && leb (b .relocs) (length (r .relocs) / 24)))))))
-
--- "a call is lent more than a limit": it is not; segments and output count too
-unfoldable pub withinLimits : Recording → ℕ → ℕ → Bool
-withinLimits r segments output =
-    leb (length (r .code)) mostCode
-    && (leb (length (r .labels) / 4) mostEntries
-    && (leb (length (r .events) / 20) mostEntries
-    && (leb (length (r .uses) / 12) mostEntries
-    && (leb (length (r .refs) / 16) mostEntries
-    && (leb (length (r .constants) / 72) mostEntries
-    && (leb (length (r .asked) / 4) mostEntries
-    && (leb (length (r .relocs) / 24) mostEntries && (leb segments mostEntries && leb output mostCode))))))))
 
 abbrev pub isBound : List ℕ → ℕ → Bool
 isBound labels label = not (eqb (getD labels label none) none)

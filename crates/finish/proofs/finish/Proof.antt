@@ -1,7 +1,7 @@
 -- `finish` meets its contract: each return is one case of proofs/Finishing.
 use mathlib.Core.Path.{sym, _∙_}
 use native.Mathlib.Omega.{arith}
-use Rattle.finish.specs.Finish.{recordingOf}
+use Rattle.checks.specs.Lent.{recordingOf}
 use Rattle.finish.proofs.Sounds.{pool-fits, pool-labels}
 use Rattle.finish.proofs.Fit.{asked-few, sound, passed-unfit}
 use Rattle.finish.proofs.Finishing.{placeable, finish-unfit, finish-refused, finish-done}

@@ -3,7 +3,7 @@ use mathlib.Core.Path.{sym, _∙_}
 use mathlib.Core.Bool.{true, false}
 use native.Mathlib.Omega.{arith}
 use borrow.Author.Tests.{not-true, not-false}
-use Rattle.finish.specs.Finish.{recordingOf}
+use Rattle.checks.specs.Lent.{recordingOf}
 use Rattle.finish.proofs.Sounds.{pool-fits, pool-labels}
 use Rattle.finish.proofs.Fit.{counts, code-fits, asked-few, sound, entries-read, unfit-standing, unfit-entries, unfit-bound, unfit-long, unfit-none}
 use borrow.Author.Needs.{needs}

@@ -1,8 +1,8 @@
 -- `why_not_standing` meets its contract: counts and limits, then what every call looks at first.
 use borrow.Author.Needs.{needs}
-use Rattle.finish.specs.Refusals.{countsFit, withinLimits}
-use Rattle.finish.proofs.why_not_standing.Statement.{statement}
-use Rattle.finish.proofs.why_not_standing.Tie as tie
+use Rattle.checks.specs.Lent.{countsFit, withinLimits}
+use Rattle.checks.proofs.lent.why_not_standing.Statement.{statement}
+use Rattle.checks.proofs.lent.why_not_standing.Tie as tie
 
 returns : tie.Need-returns
 unfolding countsFit withinLimits
