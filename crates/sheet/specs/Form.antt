@@ -1,0 +1,56 @@
+-- The form of a sheet: document 01, "A sheet of calls". "A sheet is a count n (word), n kind bytes, then n arguments of four words."
+use mathlib.Core.Bool.{Bool, true, _&&_, _||_}
+use mathlib.Core.List.{List, [], _∷_}
+use Prim.Native.Nat.{ℕ, suc, _+_, _*_}
+use lib.Dec.{eqb, leb}
+use lib.ListN.{length, getD, take, drop}
+use Rattle.seqs.specs.Pick.{pick}
+use Rattle.words.specs.Words.{wordAt}
+
+-- its length is that of the calls it counts
+unfoldable pub isWhole : List ℕ → Bool
+isWhole sheet = leb 4 (length sheet) && eqb (length sheet) (4 + 17 * wordAt sheet 0)
+
+abbrev pub kindsOf : List ℕ → List ℕ
+kindsOf sheet = take (wordAt sheet 0) (drop 4 sheet)
+
+-- the arguments, 16 bytes for each call
+abbrev pub argumentsOf : List ℕ → List ℕ
+argumentsOf sheet = drop (4 + wordAt sheet 0) sheet
+
+-- kinds 1 and 8, bytes and constants, carry a count and as many bytes
+abbrev pub isCounted : ℕ → Bool
+isCounted kind = eqb kind 1 || eqb kind 8
+
+-- kinds 5 and 6, uses and refs, carry a code
+abbrev pub hasCode : ℕ → Bool
+hasCode kind = eqb kind 5 || eqb kind 6
+
+-- "1 bytes (count 0–12, the bytes)", "8 constant (as kind 1)"; the code of a use or ref is at most 16; "10 relocation (offset, kind 0–27 ..)"
+unfoldable pub inRange : ℕ → List ℕ → Bool
+inRange kind arguments =
+    pick (isCounted kind) (leb (wordAt arguments 0) 12)
+    (pick (hasCode kind) (leb (wordAt arguments 2) 16)
+    (pick (eqb kind 10) (leb (wordAt arguments 1) 27) true))
+
+-- how many bytes of an argument each kind from 0 on uses: four for each of its words
+abbrev pub usedBytes : List ℕ
+usedBytes = 0 ∷ 4 ∷ 0 ∷ 4 ∷ 4 ∷ 12 ∷ 16 ∷ 16 ∷ 4 ∷ 4 ∷ 16 ∷ []
+
+-- and the bytes that a count counts
+unfoldable pub used : ℕ → List ℕ → ℕ
+used kind arguments = getD usedBytes kind 0 + pick (isCounted kind) (wordAt arguments 0) 0
+
+-- every byte is 0
+unfoldable pub isClear : List ℕ → Bool
+isClear [] = true
+isClear (x ∷ xs) = eqb x 0 && isClear xs
+
+-- a call's form: its kind is 1 to 10, what has a range is in it, and "unused words and bytes are 0"
+unfoldable pub isFormed : ℕ → List ℕ → Bool
+isFormed kind arguments = leb 1 kind && leb kind 10 && (inRange kind arguments && isClear (drop (used kind arguments) arguments))
+
+-- the index of the first call whose form is broken; the number of calls where none is
+unfoldable pub firstBroken : List ℕ → List ℕ → ℕ
+firstBroken [] arguments = 0
+firstBroken (kind ∷ kinds) arguments = pick (isFormed kind (take 16 arguments)) (suc (firstBroken kinds (drop 16 arguments))) 0

@@ -1,0 +1,125 @@
+// The form of a sheet.
+ghost use mathlib.Core.Path.{_≡_};
+ghost use Prim.Native.Nat.{_*_};
+ghost use lib.ListN.{length, getD};
+ghost use Rattle.seqs.specs.Pick.{pick};
+ghost use Rattle.words.specs.Words.{wordAt};
+ghost use Rattle.sheet.specs.Form.{isWhole, isCounted, hasCode, inRange, usedBytes, used, isClear, isFormed, firstBroken};
+
+// Whether the length is that of the calls that the sheet counts. The sum is one of 64 bits, so no count makes it wrap.
+pub(crate) fn is_whole(sheet: &[u8]) -> bool
+    ensures { λ r. ⌜ r ≡ isWhole (now (sheet .entry)) ⌝ }
+{
+    if sheet.len() < 4 {
+        return false;
+    }
+    sheet.len() as u64 == 4 + 17 * words::word_at(sheet, 0) as u64
+}
+
+fn is_clear(part: &[u8]) -> bool
+    ensures { λ r. ⌜ r ≡ isClear (now (part .entry)) ⌝ }
+{
+    let mut i: usize = 0;
+    while i < part.len() {
+        if part[i] != 0 {
+            return false;
+        }
+        i += 1;
+    }
+    true
+}
+
+// Bytes and constants carry a count and as many bytes.
+fn is_counted(kind: u8) -> bool
+    ensures { λ r. ⌜ r ≡ isCounted kind ⌝ }
+{
+    if kind == 1 {
+        return true;
+    }
+    kind == 8
+}
+
+// Uses and refs carry a code.
+fn has_code(kind: u8) -> bool
+    ensures { λ r. ⌜ r ≡ hasCode kind ⌝ }
+{
+    if kind == 5 {
+        return true;
+    }
+    kind == 6
+}
+
+// Whether a byte count, a use's or ref's code and a relocation's kind are in their ranges.
+fn in_range(kind: u8, arguments: &[u8]) -> bool
+    requires { ⌜ length (now arguments) ≡ 16 ⌝ }
+    ensures { λ r. ⌜ r ≡ inRange kind (now (arguments .entry)) ⌝ }
+{
+    if is_counted(kind) {
+        return words::word_at(arguments, 0) <= 12;
+    }
+    if has_code(kind) {
+        return words::word_at(arguments, 2) <= 16;
+    }
+    if kind == 10 {
+        return words::word_at(arguments, 1) <= 27;
+    }
+    true
+}
+
+// How many bytes of its argument each kind uses, counted bytes apart.
+const USED_BYTES: [usize; 11] = [0, 4, 0, 4, 4, 12, 16, 16, 4, 4, 16];
+
+fn used_bytes(kind: u8) -> usize
+    ensures { λ r. ⌜ r ≡ getD usedBytes kind 0 ⌝ }
+{
+    if kind < 11 {
+        return USED_BYTES[kind as usize];
+    }
+    0
+}
+
+// The bytes that a count counts.
+fn counted(kind: u8, arguments: &[u8]) -> usize
+    requires { ⌜ length (now arguments) ≡ 16 ⌝ }
+    ensures { λ r. ⌜ r ≡ pick (isCounted kind) (wordAt (now (arguments .entry)) 0) 0 ⌝ }
+{
+    if is_counted(kind) {
+        return words::word_at(arguments, 0) as usize;
+    }
+    0
+}
+
+// Whether a call has its form.
+fn is_formed(kind: u8, arguments: &[u8]) -> bool
+    requires { ⌜ length (now arguments) ≡ 16 ⌝ }
+    ensures { λ r. ⌜ r ≡ isFormed kind (now (arguments .entry)) ⌝ }
+{
+    if kind < 1 {
+        return false;
+    }
+    if 10 < kind {
+        return false;
+    }
+    if !in_range(kind, arguments) {
+        return false;
+    }
+    let used = used_bytes(kind) + counted(kind, arguments);
+    is_clear(&arguments[used..])
+}
+
+// The index of the first call whose form is broken; the number of calls where none is.
+pub(crate) fn first_broken(kinds: &[u8], arguments: &[u8]) -> usize
+    requires { ⌜ length (now arguments) ≡ length (now kinds) * 16 ⌝ }
+    ensures { λ r. ⌜ r ≡ firstBroken (now (kinds .entry)) (now (arguments .entry)) ⌝ }
+{
+    let mut i: usize = 0;
+    while i < kinds.len() {
+        let at = i * 16;
+        let end = at + 16;
+        if !is_formed(kinds[i], &arguments[at..end]) {
+            return i;
+        }
+        i += 1;
+    }
+    i
+}
