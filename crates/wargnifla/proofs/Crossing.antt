@@ -1,0 +1,157 @@
+-- What crosses the boundary: counts and the record as words in lent bytes, and each call between reading and writing them.
+use mathlib.Core.Path.{_≡_, sym, ap, _∙_}
+use mathlib.Core.List.{List, [], _∷_}
+use Prim.Native.Nat.{ℕ, _+_, _*_, _≤_, _<_}
+use native.Mathlib.Omega.{arith}
+use lib.ListN.{length}
+use Rattle.seqs.specs.Over.{over}
+use Rattle.seqs.proofs.Overwrites.{over-nil, over-append}
+use Rattle.seqs.proofs.Picking.{yes-lt, no-lt}
+use Rattle.words.specs.Words.{bytesOf, setWord}
+use Rattle.words.proofs.Entries.{setWords, four-words}
+use Rattle.buffer.specs.declared.CodeBuffer.{CodeBuffer}
+use Rattle.buffer.specs.declared.Recorded.{Recorded}
+use Rattle.buffer.specs.declared.Made.{Made}
+use Rattle.buffer.specs.Calls as calls
+use Rattle.recording.specs.Calls.{Recording}
+use Rattle.checks.specs.Lent.{recordingOf}
+use Rattle.finish.specs.declared.CodeBufferFinalized.{CodeBufferFinalized}
+use Rattle.finish.specs.declared.Finished.{Finished}
+use Rattle.finish.specs.Finish as finishing
+use Rattle.finish.specs.Finish.{bytesOfAll, overWords}
+use Rattle.sheet.specs.Run as sheets
+use Rattle.wargnifla.specs.Boundary.{countsAt, countsOf, recordOf, start, putBytes, addConstant, addReloc, lentOf, lentWith, runSheet, finish}
+
+-- words written one after the other are their bytes over what was there
+pub words-over : (t : List ℕ) (k : ℕ) (vs : List ℕ) → setWords t k vs ≡ over t (k * 4) (bytesOfAll vs)
+unfolding setWord
+words-over t k [] = sym (over-nil t (k * 4))
+words-over t k (v ∷ vs) =
+    let e : (k + 1) * 4 ≡ k * 4 + 4 = omega arith in
+    words-over (setWord t k v) (k + 1) vs
+    ∙ (ap (λ (at : ℕ). over (over t (k * 4) (bytesOf v)) at (bytesOfAll vs)) e ∙ over-append t (k * 4) (bytesOf v) (bytesOfAll vs))
+
+pub four-over : (t : List ℕ) (k a b c d : ℕ)
+    → setWord (setWord (setWord (setWord t k a) (k + 1) b) (k + 2) c) (k + 3) d ≡ over t (k * 4) (bytesOfAll (a ∷ b ∷ c ∷ d ∷ []))
+four-over t k a b c d = four-words t k a b c d ∙ words-over t k (a ∷ b ∷ c ∷ d ∷ [])
+
+pub twelve-words : (t : List ℕ) (b : CodeBuffer)
+    → over
+    (over (over t 0 (bytesOfAll (b .arch ∷ b .symbols ∷ b .finished ∷ b .refusal ∷ []))) 16 (bytesOfAll (b .code ∷ b .labels ∷ b .events ∷ b .uses ∷ [])))
+    32
+    (bytesOfAll (b .refs ∷ b .constants ∷ b .asked ∷ b .relocs ∷ []))
+    ≡ overWords t (countsOf b)
+twelve-words t b =
+    let first = bytesOfAll (b .arch ∷ b .symbols ∷ b .finished ∷ b .refusal ∷ []) in
+    let second = bytesOfAll (b .code ∷ b .labels ∷ b .events ∷ b .uses ∷ []) in
+    let third = bytesOfAll (b .refs ∷ b .constants ∷ b .asked ∷ b .relocs ∷ []) in
+    ap (λ l. over l 32 third) (over-append t 0 first second)
+    ∙ over-append t 0 (bytesOfAll (b .arch ∷ b .symbols ∷ b .finished ∷ b .refusal ∷ b .code ∷ b .labels ∷ b .events ∷ b .uses ∷ [])) third
+
+pub six-words : (t : List ℕ) (f : CodeBufferFinalized)
+    → setWord (setWord (over t 0 (bytesOfAll (f .arch ∷ f .len ∷ f .alignment ∷ f .layouts ∷ []))) 4 (f .labels)) 5 (f .relocs) ≡ overWords t (recordOf f)
+unfolding setWord
+six-words t f =
+    let first = bytesOfAll (f .arch ∷ f .len ∷ f .alignment ∷ f .layouts ∷ []) in
+    ap (λ l. over l 20 (bytesOf (f .relocs))) (over-append t 0 first (bytesOf (f .labels)))
+    ∙ over-append t 0 (bytesOfAll (f .arch ∷ f .len ∷ f .alignment ∷ f .layouts ∷ f .labels ∷ [])) (bytesOf (f .relocs))
+
+module _ (counts counts' : List ℕ) where
+  pub start-short : (arch symbols : ℕ) → length counts < 48 → (1, counts) ≡ start arch symbols counts
+  unfolding start
+  start-short arch symbols h = sym (yes-lt _ 48 _ _ h)
+
+  pub start-crosses : (arch symbols : ℕ) (a : Recorded) → 48 ≤ length counts → a ≡ calls.started arch symbols → counts' ≡ overWords counts (countsOf (a .buffer))
+      → (a .refusal, counts') ≡ start arch symbols counts
+  unfolding start
+  start-crosses arch symbols a h e w = rw w (ap (λ (x : Recorded). (x .refusal, overWords counts (countsOf (x .buffer)))) e ∙ sym (no-lt _ 48 _ _ h))
+
+  module _ (code code' bytes : List ℕ) where
+    pub bytes-short : length counts < 48 → (1, (counts, code)) ≡ putBytes counts code bytes
+    unfolding putBytes
+    bytes-short h = sym (yes-lt _ 48 _ _ h)
+
+    pub bytes-cross : (b : CodeBuffer) (a : Recorded) → 48 ≤ length counts → b ≡ countsAt counts → (a, code') ≡ calls.putBytes b code bytes
+        → counts' ≡ overWords counts (countsOf (a .buffer)) → (a .refusal, (counts', code')) ≡ putBytes counts code bytes
+    unfolding putBytes
+    bytes-cross b a h r e w =
+        rw w
+        (ap (λ (x : Recorded × List ℕ). (x .0 .refusal, (overWords counts (countsOf (x .0 .buffer)), x .1))) (e ∙ ap (λ (x : CodeBuffer). calls.putBytes x code bytes) r)
+        ∙ sym (no-lt _ 48 _ _ h))
+
+  module _ (constants constants' bytes : List ℕ) where
+    pub constant-short : length counts < 48 → (1, (counts, (constants, 4294967295))) ≡ addConstant counts constants bytes
+    unfolding addConstant
+    constant-short h = sym (yes-lt _ 48 _ _ h)
+
+    pub constant-crosses : (b : CodeBuffer) (a : Made) → 48 ≤ length counts → b ≡ countsAt counts → (a, constants') ≡ calls.addConstant b constants bytes
+        → counts' ≡ overWords counts (countsOf (a .buffer)) → (a .refusal, (counts', (constants', a .number))) ≡ addConstant counts constants bytes
+    unfolding addConstant
+    constant-crosses b a h r e w =
+        rw w
+        (ap
+        (λ (x : Made × List ℕ). (x .0 .refusal, (overWords counts (countsOf (x .0 .buffer)), (x .1, x .0 .number))))
+        (e ∙ ap (λ (x : CodeBuffer). calls.addConstant x constants bytes) r)
+        ∙ sym (no-lt _ 48 _ _ h))
+
+  module _ (relocs relocs' : List ℕ) (offset kind target addend : ℕ) where
+    pub reloc-short : length counts < 48 → (1, (counts, relocs)) ≡ addReloc counts relocs offset kind target addend
+    unfolding addReloc
+    reloc-short h = sym (yes-lt _ 48 _ _ h)
+
+    pub reloc-crosses : (b : CodeBuffer) (a : Recorded) → 48 ≤ length counts → b ≡ countsAt counts → (a, relocs') ≡ calls.addReloc b relocs offset kind target addend
+        → counts' ≡ overWords counts (countsOf (a .buffer)) → (a .refusal, (counts', relocs')) ≡ addReloc counts relocs offset kind target addend
+    unfolding addReloc
+    reloc-crosses b a h r e w =
+        rw w
+        (ap
+        (λ (x : Recorded × List ℕ). (x .0 .refusal, (overWords counts (countsOf (x .0 .buffer)), x .1)))
+        (e ∙ ap (λ (x : CodeBuffer). calls.addReloc x relocs offset kind target addend) r)
+        ∙ sym (no-lt _ 48 _ _ h))
+
+  module _ (code labels events uses refs constants asked relocs : List ℕ) where
+    module _ (code' labels' events' uses' refs' constants' asked' relocs' sheet : List ℕ) where
+      pub sheet-short : length counts < 48
+          → ((1, 0), lentOf counts code labels events uses refs constants asked relocs) ≡ runSheet sheet (lentOf counts code labels events uses refs constants asked relocs)
+      unfolding runSheet
+      sheet-short h = sym (yes-lt _ 48 _ _ h)
+
+      pub sheet-crosses : (b b' : CodeBuffer) (refusal index : ℕ) → 48 ≤ length counts → b ≡ countsAt counts
+          → ((refusal, index), recordingOf b' code' labels' events' uses' refs' constants' asked' relocs')
+          ≡ sheets.runSheet sheet (recordingOf b code labels events uses refs constants asked relocs)
+          → counts' ≡ overWords counts (countsOf b')
+          → ((refusal, index), lentOf counts' code' labels' events' uses' refs' constants' asked' relocs')
+          ≡ runSheet sheet (lentOf counts code labels events uses refs constants asked relocs)
+      unfolding runSheet
+      sheet-crosses b b' refusal index h r e w =
+          rw w
+          (ap
+          (λ (x : (ℕ × ℕ) × Recording). (x .0, lentWith counts (x .1)))
+          (e ∙ ap (λ (x : CodeBuffer). sheets.runSheet sheet (recordingOf x code labels events uses refs constants asked relocs)) r)
+          ∙ sym (no-lt _ 48 _ _ h))
+
+    module _ (segments segments' : List (List ℕ)) (labels' relocs' output output' finalized finalized' : List ℕ) where
+      pub record-short : length finalized < 24
+          → (1, (counts, ((labels, (relocs, (segments, output))), finalized)))
+          ≡ finish (lentOf counts code labels events uses refs constants asked relocs) segments output finalized
+      unfolding finish
+      record-short h = sym (yes-lt _ 24 _ _ h)
+
+      pub finish-short : 24 ≤ length finalized → length counts < 48 → finalized' ≡ overWords finalized (0 ∷ 0 ∷ 0 ∷ 0 ∷ 0 ∷ 0 ∷ [])
+          → (1, (counts, ((labels, (relocs, (segments, output))), finalized')))
+          ≡ finish (lentOf counts code labels events uses refs constants asked relocs) segments output finalized
+      unfolding finish
+      finish-short s h w = rw w (sym (no-lt _ 24 _ _ s ∙ yes-lt _ 48 _ _ h))
+
+      pub finish-crosses : (b : CodeBuffer) (a : Finished) → 48 ≤ length counts → 24 ≤ length finalized → b ≡ countsAt counts
+          → (a, (labels', (relocs', (segments', output')))) ≡ finishing.finish (recordingOf b code labels events uses refs constants asked relocs) segments output
+          → counts' ≡ overWords counts (countsOf (a .buffer)) → finalized' ≡ overWords finalized (recordOf (a .code))
+          → (a .refusal, (counts', ((labels', (relocs', (segments', output'))), finalized')))
+          ≡ finish (lentOf counts code labels events uses refs constants asked relocs) segments output finalized
+      unfolding finish
+      finish-crosses b a h s r e w v =
+          rw (w, v)
+          (ap
+          (λ (x : Finished × finishing.Left). (x .0 .refusal, (overWords counts (countsOf (x .0 .buffer)), (x .1, overWords finalized (recordOf (x .0 .code))))))
+          (e ∙ ap (λ (x : CodeBuffer). finishing.finish (recordingOf x code labels events uses refs constants asked relocs) segments output) r)
+          ∙ sym (no-lt _ 24 _ _ s ∙ no-lt _ 48 _ _ h))
