@@ -1,0 +1,228 @@
+//! What is measured: recordings, as a host would hand them over.
+
+use std::borrow::Cow;
+
+use compare::{LABEL_TARGET, MOST_CODE, MOST_ENTRIES, Random};
+use reference::{Call, write_sheet};
+
+/// One step of a recording; the architecture is X64.
+pub enum Step {
+    Sheet(Vec<u8>),
+    Bytes(Vec<u8>),
+}
+
+/// Calls in the making.
+#[derive(Default)]
+struct Draft {
+    calls: Vec<Call<'static>>,
+    offset: u32,
+    labels: u32,
+}
+
+impl Draft {
+    fn label(&mut self) -> u32 {
+        self.calls.push(Call::NewLabel);
+        self.labels += 1;
+        self.labels - 1
+    }
+
+    fn bytes(&mut self, count: u32) {
+        const BYTES: [u8; 12] = [
+            0x48, 0x89, 0xD8, 0x48, 0x01, 0xC8, 0x0F, 0xAF, 0xC1, 0x50, 0x58, 0x90,
+        ];
+        self.offset += count;
+        let mut left = count as usize;
+        while left > 0 {
+            let part = left.min(BYTES.len());
+            self.calls.push(Call::Bytes(Cow::Borrowed(&BYTES[..part])));
+            left -= part;
+        }
+    }
+
+    fn align(&mut self, multiple: u32) {
+        self.calls.push(Call::Align(multiple));
+        self.offset = self.offset.next_multiple_of(multiple);
+    }
+
+    fn jump(&mut self, label: u32, condition: u32) {
+        let start = self.offset;
+        let length = if condition == 16 { 5 } else { 6 };
+        self.bytes(length);
+        self.calls.push(Call::Jump {
+            start,
+            length,
+            label,
+            condition,
+        });
+    }
+
+    fn sheet(self) -> Step {
+        Step::Sheet(write_sheet(&self.calls).expect("the calls of a sheet fit one"))
+    }
+}
+
+/// A rule: jumps with labels near them and now and then far away, alignments
+/// and plain code between.
+fn rule(jumps: u32, alignments: u32, plain: u32) -> Draft {
+    let mut random = Random::new(1);
+    let mut draft = Draft::default();
+    for _ in 0..jumps {
+        draft.label();
+    }
+    for jump in 0..jumps {
+        draft.calls.push(Call::Bind(jump));
+        draft.bytes(plain);
+        let near = (jump + random.below(13)).saturating_sub(6);
+        let far = random.below(jumps);
+        let label = if random.chance(10) { far } else { near };
+        let condition = random.below(17);
+        draft.jump(label.min(jumps - 1), condition);
+        if jump % (jumps / alignments) == 0 {
+            draft.align(16);
+        }
+    }
+    draft
+}
+
+/// 1,000 jumps and 200 alignments in 16 KiB.
+pub fn typical() -> Vec<Step> {
+    vec![rule(1_000, 200, 9).sheet()]
+}
+
+/// 60,000 events in 4 MiB.
+pub fn large() -> Vec<Step> {
+    vec![rule(50_000, 10_000, 76).sheet()]
+}
+
+/// 16 MiB with one jump, which becomes long.
+pub fn one_jump() -> Vec<Step> {
+    let half = vec![0x90; MOST_CODE / 2 - 8];
+    let mut jump = Draft {
+        offset: half.len() as u32,
+        ..Draft::default()
+    };
+    let label = jump.label();
+    jump.jump(label, 16);
+    let end = Draft {
+        calls: vec![Call::Bind(label)],
+        ..Draft::default()
+    };
+    vec![
+        Step::Bytes(half.clone()),
+        jump.sheet(),
+        Step::Bytes(half),
+        end.sheet(),
+    ]
+}
+
+/// 65,536 uses of 1,000 labels, without a jump.
+pub fn uses() -> Vec<Step> {
+    let mut random = Random::new(2);
+    let mut draft = Draft::default();
+    for _ in 0..1_000 {
+        let label = draft.label();
+        draft.calls.push(Call::Bind(label));
+        draft.bytes(264);
+    }
+    for number in 0..MOST_ENTRIES as u32 {
+        draft.calls.push(Call::Use {
+            offset: number * 4,
+            label: random.below(1_000),
+            code: 0,
+        });
+    }
+    vec![draft.sheet()]
+}
+
+/// 65,536 relocations over a typical rule, in the order of the code.
+pub fn relocations() -> Vec<Step> {
+    let mut random = Random::new(3);
+    let mut draft = rule(1_000, 200, 9);
+    for number in 0..MOST_ENTRIES as u32 {
+        draft.calls.push(Call::Relocation {
+            offset: number / 4,
+            kind: 1,
+            target: random.below(1_000) + LABEL_TARGET,
+            addend: 8,
+        });
+    }
+    vec![draft.sheet()]
+}
+
+/// Constants of 1 to 12 bytes, all asked for, after one jump.
+pub fn constants(count: u32) -> Vec<Step> {
+    let mut draft = Draft::default();
+    let label = draft.label();
+    draft.calls.push(Call::Bind(label));
+    draft.jump(label, 16);
+    for number in 0..count {
+        let bytes = vec![number as u8; number as usize % 12 + 1];
+        draft.calls.push(Call::Constant(Cow::Owned(bytes)));
+        draft.calls.push(Call::ConstantLabel(number));
+    }
+    vec![draft.sheet()]
+}
+
+/// 65,536 calls of most kinds, a typical rule first.
+pub fn calls() -> Vec<Step> {
+    let mut draft = rule(1_000, 200, 9);
+    while draft.calls.len() < MOST_ENTRIES {
+        let number = draft.calls.len() as u32;
+        let label = number % 1_000;
+        draft.calls.push(match number % 5 {
+            0 => Call::Bytes(Cow::Borrowed(&[0x48, 0x8D, 0x05, 0, 0, 0, 0])),
+            1 => Call::Use {
+                offset: number,
+                label,
+                code: 0,
+            },
+            2 => Call::Ref {
+                offset: number,
+                label,
+                code: 0,
+                addend: 0,
+            },
+            3 => Call::Constant(Cow::Borrowed(&[1, 2, 3, 4])),
+            _ => Call::Relocation {
+                offset: number,
+                kind: 1,
+                target: label + LABEL_TARGET,
+                addend: 0,
+            },
+        });
+    }
+    vec![draft.sheet()]
+}
+
+/// A chain of jumps, of which one grows in each round: each has its label 127
+/// bytes on, behind the next jump; the last one's is out of reach.
+pub fn chain(jumps: u32) -> Vec<Step> {
+    let mut draft = Draft::default();
+    for _ in 0..jumps {
+        draft.label();
+    }
+    for jump in 0..jumps {
+        draft.jump(jump, 16);
+        draft.bytes(57);
+        if jump > 0 {
+            draft.calls.push(Call::Bind(jump - 1));
+        }
+        draft.bytes(11);
+    }
+    draft.bytes(60);
+    draft.calls.push(Call::Bind(jumps - 1));
+    vec![draft.sheet()]
+}
+
+/// As many labels as jumps, all of which each jump's recording looks at.
+pub fn labels_and_jumps(count: u32) -> Vec<Step> {
+    let mut draft = Draft::default();
+    for _ in 0..count {
+        let label = draft.label();
+        draft.calls.push(Call::Bind(label));
+    }
+    for jump in 0..count {
+        draft.jump(jump, 16);
+    }
+    vec![draft.sheet()]
+}

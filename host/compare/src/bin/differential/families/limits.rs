@@ -1,0 +1,152 @@
+//! Lent memory at the limits of document 01, and above them.
+
+use compare::{AARCH64, MOST_CODE, MOST_ENTRIES, Part, Random, X64};
+use reference::Call;
+
+use crate::scenario::{Scenario, Step};
+
+pub fn scenario(random: &mut Random) -> Scenario {
+    match random.below(8) {
+        0 => full_code(random),
+        1 => full_table(random),
+        2 => many_events(random),
+        3 => grown_code(random),
+        _ => lent_to_the_limit(random),
+    }
+}
+
+/// A small recording, one part of which is lent to its limit or above.
+fn lent_to_the_limit(random: &mut Random) -> Scenario {
+    let calls = vec![
+        Call::NewLabel,
+        Call::Bind(0),
+        Call::Bytes((&[0; 2]).into()),
+        Call::Jump {
+            start: 0,
+            length: 2,
+            label: random.pick(&[0, 0, 1]),
+            condition: 16,
+        },
+    ];
+    let mut steps = vec![Step::Sheet(calls), Step::Bytes(vec![1]), Step::Finish];
+    steps.push(Step::Sheet(Vec::new()));
+    let mut scenario = Scenario::new(X64, 0, random.number(), steps);
+    let part = random.pick(&[
+        Part::Code,
+        Part::Labels,
+        Part::Events,
+        Part::Uses,
+        Part::Refs,
+        Part::Constants,
+        Part::Asked,
+        Part::Relocations,
+        Part::Segments,
+        Part::Output,
+    ]);
+    let limit = match part {
+        Part::Code | Part::Output => MOST_CODE,
+        _ => MOST_ENTRIES,
+    };
+    let above = random.pick(&[0, 1, 1, 1]);
+    scenario.room.set(part, limit + above);
+    let is_divided = !matches!(part, Part::Code | Part::Output | Part::Segments);
+    if is_divided && above == 0 {
+        scenario
+            .room
+            .set_bytes(part, (limit + 1) * part.entry_bytes() - 1);
+    }
+    scenario
+}
+
+/// Code that fills its limit or passes it, and a constant after it.
+fn full_code(random: &mut Random) -> Scenario {
+    let short = random.pick(&[0, 1, 7, 8, 16]);
+    let count = MOST_CODE - short;
+    let steps = vec![
+        Step::Bytes(vec![0x5A; count]),
+        Step::Constant(random.bytes(8)),
+        Step::Sheet(vec![Call::ConstantLabel(0)]),
+        Step::Bytes(vec![1; random.below(2) as usize * (short + 1)]),
+        Step::Finish,
+    ];
+    let arch = random.pick(&[X64, AARCH64]);
+    let mut scenario = Scenario::new(arch, 0, random.number(), steps);
+    scenario.room.set(Part::Code, MOST_CODE);
+    scenario.room.set(Part::Output, MOST_CODE);
+    scenario
+}
+
+/// Code at its limit, or a few bytes below, that a jump makes longer.
+fn grown_code(random: &mut Random) -> Scenario {
+    let rest = MOST_CODE - 2 - random.pick(&[0, 2, 3, 4]);
+    let jump = vec![
+        Call::NewLabel,
+        Call::Bytes((&[0; 2]).into()),
+        Call::Jump {
+            start: 0,
+            length: 2,
+            label: 0,
+            condition: 16,
+        },
+    ];
+    let steps = vec![
+        Step::Sheet(jump),
+        Step::Bytes(vec![0x3C; rest]),
+        Step::Sheet(vec![Call::Bind(0)]),
+        Step::Finish,
+    ];
+    let mut scenario = Scenario::new(X64, 0, random.number(), steps);
+    scenario.room.set(Part::Output, MOST_CODE);
+    scenario
+}
+
+/// One call more than a table may have entries.
+fn full_table(random: &mut Random) -> Scenario {
+    let call = random.pick(&[0, 1, 2, 3]);
+    let call = match call {
+        0 => Call::NewLabel,
+        1 => Call::Align(1),
+        2 => Call::Constant((&[]).into()),
+        _ => Call::Relocation {
+            offset: 3,
+            kind: 0,
+            target: 0,
+            addend: 1,
+        },
+    };
+    let count = MOST_ENTRIES + random.below(2) as usize;
+    let steps = vec![Step::Sheet(vec![call; count]), Step::Finish];
+    let mut scenario = Scenario::new(X64, 1, random.number(), steps);
+    for part in Part::ALL {
+        let most = MOST_ENTRIES * part.entry_bytes();
+        let bytes = scenario.room.bytes(part).min(most);
+        scenario.room.set_bytes(part, bytes);
+    }
+    scenario
+}
+
+/// As many events as the table of segments may have, with a pooled constant
+/// or without.
+fn many_events(random: &mut Random) -> Scenario {
+    let mut calls = vec![
+        Call::NewLabel,
+        Call::Bind(0),
+        Call::Bytes((&[0; 2]).into()),
+        Call::Jump {
+            start: 0,
+            length: 2,
+            label: 0,
+            condition: 16,
+        },
+    ];
+    calls.resize(calls.len() + MOST_ENTRIES - 1, Call::Align(1));
+    let mut steps = vec![Step::Sheet(calls)];
+    if random.chance(50) {
+        steps.push(Step::Constant(Vec::new()));
+        steps.push(Step::Sheet(vec![Call::ConstantLabel(0)]));
+    }
+    steps.push(Step::Finish);
+    let mut scenario = Scenario::new(X64, 0, random.number(), steps);
+    scenario.room.set(Part::Segments, MOST_ENTRIES);
+    scenario
+}

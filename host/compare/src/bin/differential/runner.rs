@@ -1,0 +1,142 @@
+//! Runs a scenario through ours, the model and the Rust, and compares.
+
+use std::fmt;
+
+use compare::{Boundary, Lent, Model, Ours, Part, Reply};
+
+use crate::fault::Fault;
+use crate::rust::Rust;
+use crate::scenario::{Scenario, Step};
+
+/// Where two of the three part.
+#[derive(Debug)]
+pub struct Disagreement {
+    /// Nothing for the start.
+    step: Option<usize>,
+    what: String,
+}
+
+impl fmt::Display for Disagreement {
+    fn fmt(&self, f: &mut fmt::Formatter<'_>) -> fmt::Result {
+        match self.step {
+            None => write!(f, "at start: {}", self.what),
+            Some(step) => write!(f, "at step {step}: {}", self.what),
+        }
+    }
+}
+
+/// What a scenario came to.
+#[derive(Default)]
+pub struct Outcome {
+    /// Its first refusal, or 0.
+    pub refusal: u32,
+    pub finished: bool,
+    /// A finish was compared with the Rust's.
+    pub compared: bool,
+}
+
+/// Ours and the model, with memory that serves one scenario after the other.
+#[derive(Default)]
+pub struct Runner {
+    ours: Ours,
+    model: Model,
+}
+
+impl Runner {
+    pub fn run(&mut self, scenario: &Scenario) -> Result<Outcome, Disagreement> {
+        self.run_with(scenario, None)
+    }
+
+    /// As [`Self::run`], with a fault put into ours after the call of a step.
+    pub fn run_with(
+        &mut self,
+        scenario: &Scenario,
+        fault: Option<(usize, Fault)>,
+    ) -> Result<Outcome, Disagreement> {
+        let shift = scenario.lend(&mut self.model.lent);
+        self.ours.lend(&self.model.lent, shift);
+        let mut rust = Rust::new(scenario);
+        let mut outcome = Outcome::default();
+        let start = |boundary: &mut dyn Boundary| boundary.start(scenario.arch, scenario.symbols);
+        let replies = (start(&mut self.ours), start(&mut self.model));
+        outcome.refusal = replies.1.refusal;
+        self.compare(replies)
+            .map_err(|what| Disagreement { step: None, what })?;
+
+        for (number, step) in scenario.steps.iter().enumerate() {
+            rust.before(step, &self.model.lent);
+            let fault = fault.filter(|(step, _)| *step == number);
+            let reply = self.step(step, fault.map(|(_, fault)| fault));
+            let compared = reply.and_then(|reply| {
+                rust.step(step, reply, &self.model.lent)?;
+                Ok(reply)
+            });
+            let reply = compared.map_err(|what| Disagreement {
+                step: Some(number),
+                what,
+            })?;
+            if outcome.refusal == 0 {
+                outcome.refusal = reply.refusal;
+            }
+            outcome.finished |= matches!(step, Step::Finish) && reply.refusal == 0;
+        }
+        outcome.compared = rust.compared;
+        Ok(outcome)
+    }
+
+    /// What the model left in lent memory, and so ours too.
+    pub fn lent(&self) -> &Lent {
+        &self.model.lent
+    }
+
+    fn step(&mut self, step: &Step, fault: Option<Fault>) -> Result<Reply, String> {
+        if let Step::Write { part, at, bytes } = step {
+            write(&mut self.model.lent[*part], *at, bytes);
+            write(self.ours.part_mut(*part).content_mut(), *at, bytes);
+            return Ok(Reply::default());
+        }
+        let bytes = step.bytes();
+        let lent = bytes.as_deref().unwrap_or_default();
+        let mut ours = step.call(&mut self.ours, lent);
+        let model = step.call(&mut self.model, lent);
+        if let Some(fault) = fault {
+            fault.put(&mut ours, &mut self.ours);
+        }
+        self.compare((ours, model))?;
+        let read = self.ours.read();
+        if !read.guards_stand() || bytes.is_some_and(|bytes| read.content() != &*bytes) {
+            return Err("what was lent to be read alone was written".into());
+        }
+        Ok(model)
+    }
+
+    fn compare(&self, (ours, model): (Reply, Reply)) -> Result<(), String> {
+        if ours != model {
+            return Err(format!("ours answers {ours:?}, document 01 {model:?}"));
+        }
+        for part in Part::ALL {
+            let guarded = self.ours.part(part);
+            if !guarded.guards_stand() {
+                return Err(format!("{part:?}: bytes beside it were written"));
+            }
+            if guarded.content() != self.model.lent[part] {
+                return Err(differing(part, guarded.content(), &self.model.lent[part]));
+            }
+        }
+        Ok(())
+    }
+}
+
+fn write(lent: &mut [u8], at: usize, bytes: &[u8]) {
+    for (lent, byte) in lent.iter_mut().skip(at).zip(bytes) {
+        *lent = *byte;
+    }
+}
+
+fn differing(part: Part, ours: &[u8], model: &[u8]) -> String {
+    let at = ours.iter().zip(model).position(|(a, b)| a != b);
+    let at = at.expect("the two differ");
+    let entry = at / part.entry_bytes();
+    let (ours, model) = (ours[at], model[at]);
+    format!("{part:?}: byte {at} (entry {entry}) is {ours:02X}, by document 01 {model:02X}")
+}

@@ -1,0 +1,221 @@
+//! What is run: a start, lent memory, and steps on it.
+
+use std::borrow::Cow;
+use std::fmt;
+
+use compare::{Boundary, Lent, Part, Random, Reply};
+use reference::{Call, write_sheet, write_text};
+
+/// One step on a recording.
+#[derive(Clone)]
+pub enum Step {
+    Sheet(Vec<Call<'static>>),
+    /// A sheet that may break its form.
+    RawSheet(Vec<u8>),
+    Bytes(Vec<u8>),
+    Constant(Vec<u8>),
+    Relocation {
+        offset: u32,
+        kind: u32,
+        target: u32,
+        addend: i64,
+    },
+    Finish,
+    /// Bytes written by hand into what is lent, as far as it reaches.
+    Write {
+        part: Part,
+        at: usize,
+        bytes: Vec<u8>,
+    },
+}
+
+impl Step {
+    /// What the step's call is lent to be read alone, if it is lent such.
+    pub fn bytes(&self) -> Option<Cow<'_, [u8]>> {
+        match self {
+            Self::Sheet(calls) => {
+                let sheet = write_sheet(calls).expect("the calls of a sheet fit one");
+                Some(Cow::Owned(sheet))
+            }
+            Self::RawSheet(bytes) | Self::Bytes(bytes) | Self::Constant(bytes) => {
+                Some(Cow::Borrowed(bytes))
+            }
+            Self::Relocation { .. } | Self::Finish | Self::Write { .. } => None,
+        }
+    }
+
+    /// Makes the step's call, lent its [`Self::bytes`]; what is written by hand
+    /// is no call.
+    pub fn call(&self, boundary: &mut impl Boundary, bytes: &[u8]) -> Reply {
+        match self {
+            Self::Sheet(_) | Self::RawSheet(_) => boundary.run_sheet(bytes),
+            Self::Bytes(_) => boundary.put_bytes(bytes),
+            Self::Constant(_) => boundary.add_constant(bytes),
+            Self::Relocation {
+                offset,
+                kind,
+                target,
+                addend,
+            } => boundary.add_reloc(*offset, *kind, *target, *addend),
+            Self::Finish => boundary.finish(),
+            Self::Write { .. } => Reply::default(),
+        }
+    }
+
+    /// The calls that a step makes, direct ones and those of a whole sheet.
+    pub fn calls(&self) -> Cow<'_, [Call<'static>]> {
+        let one = |call| Cow::Owned(vec![call]);
+        match self {
+            Self::Sheet(calls) => Cow::Borrowed(calls),
+            Self::Bytes(bytes) => one(Call::Bytes(Cow::Owned(bytes.clone()))),
+            Self::Constant(bytes) => one(Call::Constant(Cow::Owned(bytes.clone()))),
+            Self::Relocation {
+                offset,
+                kind,
+                target,
+                addend,
+            } => one(Call::Relocation {
+                offset: *offset,
+                kind: *kind,
+                target: *target,
+                addend: *addend,
+            }),
+            Self::RawSheet(_) | Self::Finish | Self::Write { .. } => Cow::Borrowed(&[]),
+        }
+    }
+}
+
+/// The bytes lent of each part.
+#[derive(Clone)]
+pub struct Room([usize; Part::COUNT]);
+
+impl Room {
+    /// Room enough for every call of some steps and a finish.
+    pub fn for_steps(steps: &[Step]) -> Self {
+        let mut room = Self([0; Part::COUNT]);
+        room.set(Part::Counts, 1);
+        room.set(Part::Record, 1);
+        for step in steps {
+            for call in step.calls().iter() {
+                room.add_call(call);
+            }
+        }
+        room
+    }
+
+    fn add_call(&mut self, call: &Call<'_>) {
+        match call {
+            Call::Bytes(bytes) => self.add_code(bytes.len()),
+            Call::NewLabel => self.add(Part::Labels, 1),
+            Call::Align(multiple) => {
+                self.add_code((*multiple).min(4096) as usize);
+                self.add(Part::Events, 1);
+                self.add(Part::Segments, 1);
+            }
+            Call::Use { .. } => self.add(Part::Uses, 1),
+            Call::Ref { .. } => self.add(Part::Refs, 1),
+            Call::Jump { .. } => {
+                self.add(Part::Output, 4);
+                self.add(Part::Events, 1);
+                self.add(Part::Segments, 1);
+            }
+            Call::Constant(_) => self.add(Part::Constants, 1),
+            Call::ConstantLabel(_) => {
+                self.add(Part::Labels, 1);
+                self.add(Part::Asked, 1);
+                self.add(Part::Segments, 1);
+                self.add(Part::Output, 16 + 64);
+            }
+            Call::Relocation { .. } => self.add(Part::Relocations, 1),
+            Call::Bind(_) | Call::Finish => {}
+        }
+    }
+
+    fn add_code(&mut self, bytes: usize) {
+        self.add(Part::Code, bytes);
+        self.add(Part::Output, bytes);
+    }
+
+    pub fn add(&mut self, part: Part, entries: usize) {
+        self.0[part as usize] += entries * part.entry_bytes();
+    }
+
+    /// Lends so many whole entries.
+    pub fn set(&mut self, part: Part, entries: usize) {
+        self.set_bytes(part, entries * part.entry_bytes());
+    }
+
+    pub fn set_bytes(&mut self, part: Part, bytes: usize) {
+        self.0[part as usize] = bytes;
+    }
+
+    pub fn bytes(&self, part: Part) -> usize {
+        self.0[part as usize]
+    }
+}
+
+/// A whole run: what differs between two of them is here.
+#[derive(Clone)]
+pub struct Scenario {
+    pub arch: u32,
+    pub symbols: u32,
+    pub room: Room,
+    /// What stands in lent memory at first, and how it is aligned.
+    pub noise: u64,
+    pub steps: Vec<Step>,
+}
+
+impl Scenario {
+    pub fn new(arch: u32, symbols: u32, noise: u64, steps: Vec<Step>) -> Self {
+        Self {
+            arch,
+            symbols,
+            room: Room::for_steps(&steps),
+            noise,
+            steps,
+        }
+    }
+
+    /// Fills what is lent with noise, and says how far to shift it.
+    pub fn lend(&self, lent: &mut Lent) -> usize {
+        let mut random = Random::new(self.noise);
+        for part in Part::ALL {
+            random.fill(&mut lent[part], self.room.bytes(part));
+        }
+        random.below(16) as usize
+    }
+}
+
+impl fmt::Display for Scenario {
+    fn fmt(&self, f: &mut fmt::Formatter<'_>) -> fmt::Result {
+        let Self {
+            arch,
+            symbols,
+            noise,
+            ..
+        } = self;
+        writeln!(f, "architecture {arch}, symbols {symbols}, noise {noise}")?;
+        write!(f, "bytes lent:")?;
+        for part in Part::ALL {
+            write!(f, " {part:?} {}", self.room.bytes(part))?;
+        }
+        for (number, step) in self.steps.iter().enumerate() {
+            write!(f, "\nstep {number}: {step}")?;
+        }
+        Ok(())
+    }
+}
+
+impl fmt::Display for Step {
+    fn fmt(&self, f: &mut fmt::Formatter<'_>) -> fmt::Result {
+        match self {
+            Self::Sheet(calls) => write!(f, "sheet: {}", write_text(calls)),
+            Self::RawSheet(sheet) => write!(f, "sheet of bytes: {sheet:02X?}"),
+            Self::Finish => write!(f, "finish"),
+            Self::Write { part, at, bytes } => {
+                write!(f, "write to {part:?} at byte {at}: {bytes:02X?}")
+            }
+            direct => write!(f, "direct: {}", write_text(&direct.calls())),
+        }
+    }
+}

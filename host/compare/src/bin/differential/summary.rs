@@ -1,0 +1,80 @@
+//! What was run, counted.
+
+use std::fmt;
+
+use crate::runner::Outcome;
+
+/// The last number of a refusal.
+const LAST_REFUSAL: usize = 23;
+
+/// The counts of one family.
+pub struct Tally {
+    family: &'static str,
+    recordings: u64,
+    finished: u64,
+    compared: u64,
+    pub disagreements: u64,
+    /// First refusals by number.
+    refused: [u64; LAST_REFUSAL + 1],
+}
+
+impl Tally {
+    pub fn new(family: &'static str) -> Self {
+        Self {
+            family,
+            recordings: 0,
+            finished: 0,
+            compared: 0,
+            disagreements: 0,
+            refused: [0; LAST_REFUSAL + 1],
+        }
+    }
+
+    pub fn add(&mut self, outcome: &Outcome) {
+        self.recordings += 1;
+        self.finished += u64::from(outcome.finished);
+        self.compared += u64::from(outcome.compared);
+        self.refused[outcome.refusal as usize] += 1;
+    }
+
+    pub fn add_disagreement(&mut self) {
+        self.recordings += 1;
+        self.disagreements += 1;
+    }
+}
+
+impl fmt::Display for Tally {
+    fn fmt(&self, f: &mut fmt::Formatter<'_>) -> fmt::Result {
+        let Self {
+            family,
+            recordings,
+            finished,
+            compared,
+            disagreements,
+            refused,
+        } = self;
+        write!(
+            f,
+            "{family:8} {recordings:>10} {finished:>10} {compared:>10} {disagreements:>6}  "
+        )?;
+        let numbers = refused.iter().enumerate().skip(1);
+        for (number, count) in numbers.filter(|(_, count)| **count > 0) {
+            write!(f, " {number}:{count}")?;
+        }
+        Ok(())
+    }
+}
+
+/// The table of all families, and its last line.
+pub fn print(tallies: &[Tally]) {
+    println!(
+        "{:8} {:>10} {:>10} {:>10} {:>6}   first refusals, by number",
+        "family", "recordings", "finished", "with Rust", "differ"
+    );
+    for tally in tallies {
+        println!("{tally}");
+    }
+    let recordings: u64 = tallies.iter().map(|tally| tally.recordings).sum();
+    let disagreements: u64 = tallies.iter().map(|tally| tally.disagreements).sum();
+    println!("{recordings} recordings, {disagreements} disagreements");
+}

@@ -1,0 +1,287 @@
+//! The C functions, lent memory that stands between guards.
+
+use wargnifla::ffi::{self, Segment};
+
+use crate::{Boundary, Lent, Part, Reply};
+
+/// Bytes before and after all that is lent.
+const GUARD: usize = 32;
+const GUARD_BYTE: u8 = 0xA5;
+
+/// Bytes that are lent, inside a larger piece of memory.
+#[derive(Default)]
+pub struct Guarded {
+    bytes: Vec<u8>,
+    start: usize,
+    len: usize,
+}
+
+impl Guarded {
+    /// Takes new content, which starts `shift` bytes after a multiple of 16.
+    fn set(&mut self, content: &[u8], shift: usize) {
+        self.len = content.len();
+        self.bytes.clear();
+        self.bytes
+            .resize(self.len + 2 * GUARD + 16 + shift, GUARD_BYTE);
+        let aligned = self.bytes[GUARD..].as_ptr().align_offset(16);
+        self.start = GUARD + aligned + shift;
+        self.bytes[self.start..][..self.len].copy_from_slice(content);
+    }
+
+    pub fn content(&self) -> &[u8] {
+        &self.bytes[self.start..][..self.len]
+    }
+
+    pub fn content_mut(&mut self) -> &mut [u8] {
+        &mut self.bytes[self.start..][..self.len]
+    }
+
+    /// The last byte before what is lent, or the first after it.
+    pub fn guard_mut(&mut self, after: bool) -> &mut u8 {
+        let at = if after {
+            self.start + self.len
+        } else {
+            self.start - 1
+        };
+        &mut self.bytes[at]
+    }
+
+    pub fn guards_stand(&self) -> bool {
+        let (before, rest) = self.bytes.split_at(self.start);
+        let after = &rest[self.len..];
+        before.iter().chain(after).all(|byte| *byte == GUARD_BYTE)
+    }
+
+    /// Not null, even where nothing is lent.
+    fn as_mut_ptr(&mut self) -> *mut u8 {
+        self.content_mut().as_mut_ptr()
+    }
+}
+
+/// The C functions on guarded memory.
+///
+/// Each `unsafe` below lends pointers to parts that live in `self`, are apart
+/// from one another, are as long as is said, and are read and written by no one
+/// else before the call ends: what include/wargnifla.h asks of a caller.
+#[derive(Default)]
+pub struct Ours {
+    parts: [Guarded; Part::COUNT],
+    /// What was lent last to be read alone: a sheet, or bytes.
+    read: Guarded,
+}
+
+impl Ours {
+    /// Takes a copy of what is lent. Byte tables start `shift` bytes past a
+    /// multiple of 16, segments on a multiple of 4.
+    pub fn lend(&mut self, lent: &Lent, shift: usize) {
+        for part in Part::ALL {
+            let shift = match part {
+                Part::Segments => shift / 4 * 4,
+                _ => shift,
+            };
+            self.parts[part as usize].set(&lent[part], shift);
+        }
+    }
+
+    pub fn part(&self, part: Part) -> &Guarded {
+        &self.parts[part as usize]
+    }
+
+    pub fn part_mut(&mut self, part: Part) -> &mut Guarded {
+        &mut self.parts[part as usize]
+    }
+
+    /// Runs the sheet that [`Self::lend_to_read`] took last.
+    pub fn run_lent_sheet(&mut self) -> Reply {
+        let mut index = 0;
+        let (sheet, sheet_len) = (self.read.as_mut_ptr().cast_const(), self.read.len);
+        let [
+            (counts, counts_len),
+            (code, code_len),
+            (labels, labels_len),
+            (events, events_len),
+            (uses, uses_len),
+            (refs, refs_len),
+            (constants, constants_len),
+            (asked, asked_len),
+            (relocs, relocs_len),
+        ] = RECORDING.map(|part| self.pointer(part));
+        // SAFETY: see `Ours`.
+        let refusal = unsafe {
+            ffi::wargnifla_run_sheet(
+                sheet,
+                sheet_len,
+                &mut index,
+                counts,
+                counts_len,
+                code,
+                code_len,
+                labels,
+                labels_len,
+                events,
+                events_len,
+                uses,
+                uses_len,
+                refs,
+                refs_len,
+                constants,
+                constants_len,
+                asked,
+                asked_len,
+                relocs,
+                relocs_len,
+            )
+        };
+        Reply::new(refusal, index)
+    }
+
+    /// Appends the bytes that [`Self::lend_to_read`] took last.
+    pub fn put_lent_bytes(&mut self) -> Reply {
+        let (bytes, bytes_len) = (self.read.as_mut_ptr().cast_const(), self.read.len);
+        let (counts, counts_len) = self.pointer(Part::Counts);
+        let (code, code_len) = self.pointer(Part::Code);
+        // SAFETY: see `Ours`.
+        let refusal = unsafe {
+            ffi::wargnifla_put_bytes(counts, counts_len, code, code_len, bytes, bytes_len)
+        };
+        Reply::new(refusal, 0)
+    }
+
+    /// What the last call was lent to be read alone.
+    pub fn read(&self) -> &Guarded {
+        &self.read
+    }
+
+    pub fn read_mut(&mut self) -> &mut Guarded {
+        &mut self.read
+    }
+
+    fn pointer(&mut self, part: Part) -> (*mut u8, usize) {
+        let part = self.part_mut(part);
+        (part.as_mut_ptr(), part.len)
+    }
+
+    /// Takes a copy of what is lent to be read alone.
+    pub fn lend_to_read(&mut self, bytes: &[u8]) -> (*const u8, usize) {
+        self.read.set(bytes, bytes.len() % 8);
+        (self.read.as_mut_ptr().cast_const(), bytes.len())
+    }
+}
+
+impl Boundary for Ours {
+    fn start(&mut self, arch: u32, symbols: u32) -> Reply {
+        let (counts, counts_len) = self.pointer(Part::Counts);
+        // SAFETY: see `Ours`.
+        let refusal = unsafe { ffi::wargnifla_start(arch, symbols, counts, counts_len) };
+        Reply::new(refusal, 0)
+    }
+
+    fn run_sheet(&mut self, sheet: &[u8]) -> Reply {
+        self.lend_to_read(sheet);
+        self.run_lent_sheet()
+    }
+
+    fn put_bytes(&mut self, bytes: &[u8]) -> Reply {
+        self.lend_to_read(bytes);
+        self.put_lent_bytes()
+    }
+
+    fn add_constant(&mut self, bytes: &[u8]) -> Reply {
+        let mut number = 0;
+        let (bytes, bytes_len) = self.lend_to_read(bytes);
+        let (counts, counts_len) = self.pointer(Part::Counts);
+        let (constants, constants_len) = self.pointer(Part::Constants);
+        // SAFETY: see `Ours`.
+        let refusal = unsafe {
+            ffi::wargnifla_add_constant(
+                counts,
+                counts_len,
+                constants,
+                constants_len,
+                bytes,
+                bytes_len,
+                &mut number,
+            )
+        };
+        Reply::new(refusal, number)
+    }
+
+    fn add_reloc(&mut self, offset: u32, kind: u32, target: u32, addend: i64) -> Reply {
+        let (counts, counts_len) = self.pointer(Part::Counts);
+        let (relocs, relocs_len) = self.pointer(Part::Relocations);
+        // SAFETY: see `Ours`.
+        let refusal = unsafe {
+            ffi::wargnifla_add_reloc(
+                counts,
+                counts_len,
+                relocs,
+                relocs_len,
+                offset,
+                kind,
+                target,
+                addend.cast_unsigned(),
+            )
+        };
+        Reply::new(refusal, 0)
+    }
+
+    fn finish(&mut self) -> Reply {
+        let [
+            (counts, counts_len),
+            (code, code_len),
+            (labels, labels_len),
+            (events, events_len),
+            (uses, uses_len),
+            (refs, refs_len),
+            (constants, constants_len),
+            (asked, asked_len),
+            (relocs, relocs_len),
+        ] = RECORDING.map(|part| self.pointer(part));
+        let (segments, segments_bytes) = self.pointer(Part::Segments);
+        let (output, output_len) = self.pointer(Part::Output);
+        let (record, record_len) = self.pointer(Part::Record);
+        // SAFETY: see `Ours`.
+        let refusal = unsafe {
+            ffi::wargnifla_finish(
+                counts,
+                counts_len,
+                code,
+                code_len,
+                labels,
+                labels_len,
+                events,
+                events_len,
+                uses,
+                uses_len,
+                refs,
+                refs_len,
+                constants,
+                constants_len,
+                asked,
+                asked_len,
+                relocs,
+                relocs_len,
+                segments.cast::<Segment>(),
+                segments_bytes / size_of::<Segment>(),
+                output,
+                output_len,
+                record,
+                record_len,
+            )
+        };
+        Reply::new(refusal, 0)
+    }
+}
+
+/// The counts and tables of a recording, in the order of the C functions.
+const RECORDING: [Part; 9] = [
+    Part::Counts,
+    Part::Code,
+    Part::Labels,
+    Part::Events,
+    Part::Uses,
+    Part::Refs,
+    Part::Constants,
+    Part::Asked,
+    Part::Relocations,
+];

@@ -1,0 +1,478 @@
+//! The buffer: a recording that owns its tables. After asmkit's core/buffer.rs (see NOTICE).
+
+use std::fmt;
+
+use crate::call::Call;
+use crate::explain::{explain_call, explain_finish};
+use crate::ffi::Segment;
+use crate::finalized::CodeBufferFinalized;
+use crate::recording::{
+    AsmReloc, Constant, Label, LayoutEvent, Recording, RelaxableJump, RelocTarget,
+};
+use crate::sheet::Sheet;
+use crate::tables::{Room, Tables};
+use crate::verified::{self, Record};
+use crate::{
+    Arch, CodeOffset, Condition, Error, LabelUse, MOST_CODE, MOST_CONSTANT, MOST_ENTRIES, Place,
+    Reloc, UNBOUND,
+};
+
+/// A buffer of code to be produced: bytes, labels, fields, alignments, constants, relocations and jumps, recorded call by call and then finished.
+///
+/// A refused call changes nothing but, for some numbers, that the recording answers every later call with the same refusal. A refused finish changes
+/// nothing at all.
+pub struct CodeBuffer {
+    tables: Tables,
+    /// What the recorded refusal said, if there is one.
+    first_refusal: Option<Error>,
+}
+
+impl CodeBuffer {
+    /// Starts a recording without symbols.
+    pub fn new(arch: Arch) -> Self {
+        Self::with_symbols(arch, 0)
+    }
+
+    /// Starts a recording whose relocations may name the symbols below a number.
+    pub fn with_symbols(arch: Arch, symbols: u32) -> Self {
+        Self::start(arch.number(), symbols).expect("start takes every Arch")
+    }
+
+    /// Starts a recording for an architecture given by number.
+    ///
+    /// # Errors
+    ///
+    /// Number 2, where it is none of [`Arch`].
+    pub fn start(arch: u32, symbols: u32) -> Result<Self, Error> {
+        let counts = verified::start(arch, symbols).map_err(|number| {
+            let sentence =
+                format!("architecture {arch} is none of 1 (X86), 2 (X64) and 6 (AArch64)");
+            Error::new(number, Place::Start, sentence)
+        })?;
+        Ok(Self {
+            tables: Tables::new(counts),
+            first_refusal: None,
+        })
+    }
+
+    /// The architecture.
+    pub fn arch(&self) -> Arch {
+        self.tables.arch()
+    }
+
+    /// The refusal that this recording answers every call with, if one was recorded.
+    pub fn error(&self) -> Option<&Error> {
+        self.first_refusal.as_ref()
+    }
+
+    /// Whether the recording has finished.
+    pub fn is_finished(&self) -> bool {
+        self.tables.counts.is_finished()
+    }
+
+    /// The bytes recorded so far.
+    pub fn data(&self) -> &[u8] {
+        self.tables.code()
+    }
+
+    /// Where the next byte goes.
+    pub fn cur_offset(&self) -> CodeOffset {
+        self.data().len() as CodeOffset
+    }
+
+    /// The relocations recorded so far; after finish, with their final offsets.
+    pub fn relocs(&self) -> Vec<AsmReloc> {
+        self.tables.relocs().collect()
+    }
+
+    /// Everything recorded so far but the bytes, as typed entries. After finish, labels and relocations have their final offsets.
+    pub fn recording(&self) -> Recording {
+        Recording::read(&self.tables)
+    }
+
+    /// Appends a byte.
+    ///
+    /// # Errors
+    ///
+    /// As [`Self::put_bytes`].
+    pub fn put1(&mut self, value: u8) -> Result<(), Error> {
+        self.put_bytes(&[value])
+    }
+
+    /// Appends 2 bytes, little-endian.
+    ///
+    /// # Errors
+    ///
+    /// As [`Self::put_bytes`].
+    pub fn put2(&mut self, value: u16) -> Result<(), Error> {
+        self.put_bytes(&value.to_le_bytes())
+    }
+
+    /// Appends 4 bytes, little-endian.
+    ///
+    /// # Errors
+    ///
+    /// As [`Self::put_bytes`].
+    pub fn put4(&mut self, value: u32) -> Result<(), Error> {
+        self.put_bytes(&value.to_le_bytes())
+    }
+
+    /// Appends 8 bytes, little-endian.
+    ///
+    /// # Errors
+    ///
+    /// As [`Self::put_bytes`].
+    pub fn put8(&mut self, value: u64) -> Result<(), Error> {
+        self.put_bytes(&value.to_le_bytes())
+    }
+
+    /// Appends bytes, any number of them.
+    ///
+    /// # Errors
+    ///
+    /// Number 4 or 12.
+    pub fn put_bytes(&mut self, bytes: &[u8]) -> Result<(), Error> {
+        let number = self.append(bytes);
+        self.answer(number, || Call::Bytes(bytes.into()))
+    }
+
+    /// Makes a label, not yet bound.
+    ///
+    /// # Errors
+    ///
+    /// Number 4 or 11.
+    pub fn get_label(&mut self) -> Result<Label, Error> {
+        let label = Label::from_id(self.label_count());
+        self.call(&Call::NewLabel)?;
+        Ok(label)
+    }
+
+    /// Whether a label is known and bound.
+    pub fn is_bound(&self, label: Label) -> bool {
+        self.label_offset(label) != UNBOUND
+    }
+
+    /// Number of labels made so far; label numbers below it are known.
+    pub fn label_count(&self) -> u32 {
+        self.tables.label_count() as u32
+    }
+
+    /// The offset of a label, or [`UNBOUND`].
+    pub fn label_offset(&self, label: Label) -> CodeOffset {
+        self.tables.label_offset(label).unwrap_or(UNBOUND)
+    }
+
+    /// Binds a label to the current offset.
+    ///
+    /// # Errors
+    ///
+    /// Number 4, 8 or 9; none of them is recorded.
+    pub fn try_bind_label(&mut self, label: Label) -> Result<(), Error> {
+        self.call(&Call::Bind(label.id()))
+    }
+
+    /// Pads to a multiple, a power of two up to 4,096: with NOPs on x86, with zeros on AArch64.
+    ///
+    /// # Errors
+    ///
+    /// Number 4, 5, 11 or 12.
+    pub fn try_align_to(&mut self, align_to: CodeOffset) -> Result<(), Error> {
+        self.call(&Call::Align(align_to))
+    }
+
+    /// Records a field that a finish without a jump patches.
+    ///
+    /// # Errors
+    ///
+    /// Number 4, 6, 7, 8 or 11.
+    pub fn use_label_at_offset(
+        &mut self,
+        offset: CodeOffset,
+        label: Label,
+        kind: LabelUse,
+    ) -> Result<(), Error> {
+        self.call(&Call::Use {
+            offset,
+            label: label.id(),
+            code: kind.code(),
+        })
+    }
+
+    /// Records a field that a finish with a jump encodes. Accepted unread unless the architecture is X64.
+    ///
+    /// # Errors
+    ///
+    /// Number 4, 7, 8 or 11.
+    pub fn record_label_ref(
+        &mut self,
+        offset: CodeOffset,
+        label: Label,
+        kind: LabelUse,
+        addend: i32,
+    ) -> Result<(), Error> {
+        self.call(&Call::Ref {
+            offset,
+            label: label.id(),
+            code: kind.code(),
+            addend,
+        })
+    }
+
+    /// Records the bytes just appended as a jump that finish may resize. Accepted unread unless the architecture is X64.
+    ///
+    /// # Errors
+    ///
+    /// Number 4, 8, 10 or 11.
+    pub fn record_relaxable_jump(&mut self, jump: RelaxableJump) -> Result<(), Error> {
+        self.call(&Call::Jump {
+            start: jump.start,
+            length: jump.len.into(),
+            label: jump.label.id(),
+            condition: jump.cc.map_or(Condition::NONE, Condition::number),
+        })
+    }
+
+    /// Adds a constant of at most 64 bytes. It is pooled only if its label is asked for.
+    ///
+    /// # Errors
+    ///
+    /// Number 4, 10 or 11.
+    pub fn add_constant(&mut self, bytes: &[u8]) -> Result<Constant, Error> {
+        let (number, constant) = self.append_constant(bytes);
+        self.answer(number, || Call::Constant(bytes.into()))?;
+        Ok(Constant::from_id(constant))
+    }
+
+    /// The label of a constant, made when it is first asked for and bound by finish.
+    ///
+    /// # Errors
+    ///
+    /// Number 4, 8 or 11.
+    pub fn get_label_for_constant(&mut self, constant: Constant) -> Result<Label, Error> {
+        self.call(&Call::ConstantLabel(constant.id()))?;
+        let label = self.tables.constant_label(constant.id());
+        Ok(label.expect("a constant that was asked for has a label"))
+    }
+
+    /// Records a relocation at the current offset.
+    ///
+    /// # Errors
+    ///
+    /// As [`Self::add_reloc_at_offset`].
+    pub fn add_reloc(
+        &mut self,
+        kind: Reloc,
+        target: RelocTarget,
+        addend: i64,
+    ) -> Result<(), Error> {
+        self.add_reloc_at_offset(self.cur_offset(), kind, target, addend)
+    }
+
+    /// Records a relocation.
+    ///
+    /// # Errors
+    ///
+    /// Number 4, 7, 8, 10 or 11.
+    pub fn add_reloc_at_offset(
+        &mut self,
+        offset: CodeOffset,
+        kind: Reloc,
+        target: RelocTarget,
+        addend: i64,
+    ) -> Result<(), Error> {
+        self.call(&Call::Relocation {
+            offset,
+            kind: kind.number(),
+            target: target.to_word(),
+            addend,
+        })
+    }
+
+    /// Makes one call, its numbers as they stand in a sheet.
+    ///
+    /// # Errors
+    ///
+    /// The call's, and number 1 for a code or kind that is none.
+    pub fn call(&mut self, call: &Call) -> Result<(), Error> {
+        let number = match call {
+            Call::Bytes(bytes) => self.append(bytes),
+            Call::Constant(bytes) => self.append_constant(bytes).0,
+            Call::Relocation {
+                offset,
+                kind,
+                target,
+                addend,
+            } => {
+                self.tables.make_room(&Room {
+                    relocs: 1,
+                    ..Room::default()
+                });
+                verified::add_reloc(&mut self.tables, *offset, *kind, *target, *addend)
+            }
+            other => {
+                let sheet = other.sheet().expect("its argument is four words");
+                let room = Room::of_sheet(self.arch(), &sheet);
+                self.tables.make_room(&room);
+                verified::run_sheet(&mut self.tables, &sheet).0
+            }
+        };
+        self.answer(number, || call.clone())
+    }
+
+    fn append(&mut self, bytes: &[u8]) -> u32 {
+        self.tables.make_room(&Room {
+            code: bytes.len(),
+            ..Room::default()
+        });
+        verified::put_bytes(&mut self.tables, bytes)
+    }
+
+    fn append_constant(&mut self, bytes: &[u8]) -> (u32, u32) {
+        self.tables.make_room(&Room {
+            constants: 1,
+            ..Room::default()
+        });
+        verified::add_constant(&mut self.tables, bytes)
+    }
+
+    fn answer(&mut self, number: u32, call: impl FnOnce() -> Call) -> Result<(), Error> {
+        if number == 0 {
+            return Ok(());
+        }
+        let call = call();
+        Err(self.refused_call(number, &call, None))
+    }
+
+    fn refused_call(&mut self, number: u32, call: &Call, index: Option<usize>) -> Error {
+        let place = Place::Call {
+            name: call.name(),
+            index,
+        };
+        // A broken form, number 1, comes before a recorded refusal.
+        if let Some(first) = &self.first_refusal
+            && first.number() == number
+        {
+            return repeated(first, place);
+        }
+        let error = Error::new(number, place, explain_call(&self.tables, call, number));
+        if self.tables.counts.refusal() == number {
+            self.first_refusal = Some(error.clone());
+        }
+        error
+    }
+
+    /// Makes the calls of a binary sheet, up to the first that is refused. A sheet whose form is broken makes none.
+    ///
+    /// # Errors
+    ///
+    /// The refused call's, with its index; number 1 for a broken form.
+    pub fn run_sheet(&mut self, sheet: &[u8]) -> Result<(), Error> {
+        let read = Sheet::read(sheet);
+        if let Ok(sheet) = &read {
+            let room = sheet.room(self.arch());
+            self.tables.make_room(&room);
+        }
+        let (number, index) = verified::run_sheet(&mut self.tables, sheet);
+        match (number, read) {
+            (0, _) => Ok(()),
+            (_, Ok(sheet)) => Err(self.refused_sheet(number, &sheet, index as usize)),
+            (_, Err(length)) => Err(Error::new(number, Place::Sheet, length)),
+        }
+    }
+
+    fn refused_sheet(&mut self, number: u32, sheet: &Sheet<'_>, index: usize) -> Error {
+        if index >= sheet.len() {
+            return self.refused_whole(number, Place::Sheet);
+        }
+        match sheet.call(index) {
+            Ok(call) => self.refused_call(number, &call, Some(index)),
+            Err(sentence) => {
+                let name = sheet.name(index).unwrap_or("unknown");
+                let index = Some(index);
+                Error::new(number, Place::Call { name, index }, sentence)
+            }
+        }
+    }
+
+    /// A refusal that has to do with the recording and no call or entry of it.
+    fn refused_whole(&self, number: u32, place: Place) -> Error {
+        match &self.first_refusal {
+            Some(first) => repeated(first, place),
+            None => Error::new(number, place, "the recording has finished".into()),
+        }
+    }
+
+    /// Finishes the recording: pools its constants, relaxes its jumps, fills its fields and writes its code. The recording's labels and relocations
+    /// take their final offsets, and it accepts no more calls.
+    ///
+    /// # Errors
+    ///
+    /// A recorded refusal, number 4, or one of 13 to 23; the buffer is then as it was before.
+    pub fn finish(&mut self) -> Result<CodeBufferFinalized, Error> {
+        let mut segments = vec![Segment::default(); self.most_segments()];
+        let mut data = vec![0; self.most_finished()];
+        let (number, record) = verified::finish(&mut self.tables, &mut segments, &mut data);
+        if number != 0 {
+            return Err(self.refused_finish(number, &segments));
+        }
+        data.truncate(record.code_len());
+        if record.layouts() == 0 {
+            segments.clear();
+        }
+        Ok(self.finalized(data, segments, &record))
+    }
+
+    fn most_segments(&self) -> usize {
+        MOST_ENTRIES.min(self.tables.event_count() + self.tables.asked_count())
+    }
+
+    /// What the finished code cannot exceed: every jump long, every padding as long as its multiple lets it be, every constant of the greatest size.
+    fn most_finished(&self) -> usize {
+        const MOST_CONSTANT_PADDING: usize = 15;
+        let events = self.tables.events().map(|event| match event {
+            LayoutEvent::Jump(jump) => jump.long_len() as usize,
+            LayoutEvent::Align { align, .. } => align as usize - 1,
+        });
+        let pool = self.tables.asked_count() * (MOST_CONSTANT + MOST_CONSTANT_PADDING);
+        MOST_CODE.min(self.data().len() + events.sum::<usize>() + pool)
+    }
+
+    fn finalized(
+        &self,
+        data: Vec<u8>,
+        segments: Vec<Segment>,
+        record: &Record,
+    ) -> CodeBufferFinalized {
+        CodeBufferFinalized {
+            arch: self.arch(),
+            data,
+            label_offsets: self.tables.labels().collect(),
+            relocs: self.relocs(),
+            alignment: record.alignment(),
+            layouts: record.layouts(),
+            segments,
+        }
+    }
+
+    fn refused_finish(&self, number: u32, segments: &[Segment]) -> Error {
+        if self.first_refusal.is_some() || self.is_finished() {
+            return self.refused_whole(number, Place::Finish);
+        }
+        let (sentence, entry) = explain_finish(&self.recording(), segments, number);
+        Error::new(number, Place::Finish, sentence).at_entry(entry)
+    }
+}
+
+impl fmt::Debug for CodeBuffer {
+    fn fmt(&self, f: &mut fmt::Formatter<'_>) -> fmt::Result {
+        f.debug_struct("CodeBuffer")
+            .field("recording", &self.recording())
+            .field("first_refusal", &self.first_refusal)
+            .finish_non_exhaustive()
+    }
+}
+
+fn repeated(first: &Error, place: Place) -> Error {
+    let sentence = format!("the recording answers everything with its first refusal, {first}");
+    Error::new(first.number(), place, sentence)
+}

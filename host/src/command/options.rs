@@ -1,0 +1,177 @@
+//! The command line's options.
+
+use std::ffi::{OsStr, OsString};
+use std::path::PathBuf;
+
+use wargnifla::Arch;
+
+pub const HELP: &str = "\
+usage: wargnifla [OPTIONS] FILE
+
+Records a sheet of calls, finishes it, and shows the code. FILE is a sheet in text or binary form; - is standard input.
+
+  -o FILE                  write the finished code
+  --write-sheet FILE       write the calls as a binary sheet
+  --arch x86|x64|aarch64   the architecture, whatever the sheet says (x64 if neither says)
+  --symbols N              how many symbols there are, whatever the sheet says (as many as it names if neither says)
+  --rounds                 show what each round of relaxation lengthened, and why
+  --full                   show long runs of bytes and long tables whole
+  --text, --binary         take FILE for text, or for a binary sheet
+  -h, --help               this text
+  -V, --version            the version
+
+Exit status: 0 finished; 1 refused; 2 bad usage, an unreadable file or malformed text; 3 an error of this program itself.
+Files are written only where the code is finished.
+";
+
+/// What the command is asked to do.
+#[derive(Debug, PartialEq, Eq)]
+pub enum Request {
+    Help,
+    Version,
+    Run(Options),
+}
+
+#[derive(Clone, Copy, Debug, PartialEq, Eq)]
+pub enum Form {
+    Text,
+    Binary,
+}
+
+#[derive(Debug, Default, PartialEq, Eq)]
+pub struct Options {
+    pub file: OsString,
+    pub output: Option<PathBuf>,
+    pub write_sheet: Option<PathBuf>,
+    pub arch: Option<Arch>,
+    pub symbols: Option<u32>,
+    pub rounds: bool,
+    pub full: bool,
+    pub form: Option<Form>,
+}
+
+impl Options {
+    /// The file's name as messages have it.
+    pub fn file_name(&self) -> String {
+        if self.is_standard_input() {
+            "standard input".into()
+        } else {
+            self.file.to_string_lossy().into_owned()
+        }
+    }
+
+    pub fn is_standard_input(&self) -> bool {
+        self.file == "-"
+    }
+}
+
+/// Reads the arguments; what is wrong with them otherwise.
+pub fn parse(arguments: impl IntoIterator<Item = OsString>) -> Result<Request, String> {
+    let mut arguments = arguments.into_iter();
+    let mut options = Options::default();
+    let mut files = Vec::new();
+    let mut only_files = false;
+    while let Some(argument) = arguments.next() {
+        let known = match argument.to_str() {
+            Some(text) if !only_files => text,
+            _ => "",
+        };
+        match known {
+            "-h" | "--help" => return Ok(Request::Help),
+            "-V" | "--version" => return Ok(Request::Version),
+            "-o" => options.output = Some(value("-o", arguments.next())?.into()),
+            "--write-sheet" => {
+                options.write_sheet = Some(value("--write-sheet", arguments.next())?.into());
+            }
+            "--arch" => options.arch = Some(arch(&value("--arch", arguments.next())?)?),
+            "--symbols" => {
+                options.symbols = Some(symbols(&value("--symbols", arguments.next())?)?);
+            }
+            "--rounds" => options.rounds = true,
+            "--full" => options.full = true,
+            "--text" => options.form = Some(Form::Text),
+            "--binary" => options.form = Some(Form::Binary),
+            "--" => only_files = true,
+            unknown if unknown.len() > 1 && unknown.starts_with('-') => {
+                return Err(format!("there is no option {unknown}"));
+            }
+            _ => files.push(argument),
+        }
+    }
+    options.file = one_file(files)?;
+    Ok(Request::Run(options))
+}
+
+fn value(option: &str, argument: Option<OsString>) -> Result<OsString, String> {
+    argument.ok_or_else(|| format!("{option} needs a value"))
+}
+
+fn arch(word: &OsStr) -> Result<Arch, String> {
+    let word = word.to_string_lossy();
+    Arch::from_name(&word).ok_or_else(|| format!("--arch takes x86, x64 or aarch64, not '{word}'"))
+}
+
+fn symbols(word: &OsStr) -> Result<u32, String> {
+    let word = word.to_string_lossy();
+    word.parse()
+        .map_err(|_| format!("--symbols takes a number up to 4294967295, not '{word}'"))
+}
+
+fn one_file(files: Vec<OsString>) -> Result<OsString, String> {
+    match <[OsString; 1]>::try_from(files) {
+        Ok([file]) => Ok(file),
+        Err(files) if files.is_empty() => Err("a FILE is missing; - is standard input".into()),
+        Err(files) => Err(format!("one FILE is taken, not {}", files.len())),
+    }
+}
+
+#[cfg(test)]
+mod tests {
+    use super::*;
+
+    fn parsed(arguments: &str) -> Result<Request, String> {
+        parse(arguments.split_whitespace().map(OsString::from))
+    }
+
+    #[test]
+    fn reads_every_option() {
+        let all = "--arch X86 --symbols 3 --rounds --full --text -o out --write-sheet sheet in";
+        let expected = Options {
+            file: "in".into(),
+            output: Some("out".into()),
+            write_sheet: Some("sheet".into()),
+            arch: Some(Arch::X86),
+            symbols: Some(3),
+            rounds: true,
+            full: true,
+            form: Some(Form::Text),
+        };
+        assert_eq!(parsed(all), Ok(Request::Run(expected)));
+        assert_eq!(parsed("x --help"), Ok(Request::Help));
+        assert_eq!(parsed("-V"), Ok(Request::Version));
+    }
+
+    #[test]
+    fn dash_is_a_file_and_so_is_what_follows_two() {
+        let file = |arguments| match parsed(arguments) {
+            Ok(Request::Run(options)) => options.file,
+            other => panic!("{other:?}"),
+        };
+        assert_eq!(file("-"), "-");
+        assert_eq!(file("-- --full"), "--full");
+    }
+
+    #[test]
+    fn says_what_is_wrong() {
+        let fails = |arguments, expected: &str| {
+            let sentence = parsed(arguments).unwrap_err();
+            assert!(sentence.contains(expected), "{sentence}");
+        };
+        fails("", "FILE is missing");
+        fails("a b", "not 2");
+        fails("--fast a", "no option --fast");
+        fails("a -o", "-o needs a value");
+        fails("--arch mips a", "'mips'");
+        fails("--symbols -1 a", "'-1'");
+    }
+}

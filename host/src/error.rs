@@ -1,0 +1,158 @@
+//! Refusals, with what is wrong and where.
+
+use std::fmt;
+
+/// A refusal of document 01. Nothing that was recorded before is lost by one.
+#[derive(Clone, Debug, PartialEq, Eq)]
+pub struct Error {
+    number: u32,
+    place: Place,
+    sentence: String,
+    entry: Option<Entry>,
+}
+
+/// What was refused.
+#[derive(Clone, Copy, Debug, PartialEq, Eq)]
+pub enum Place {
+    /// The start of a recording.
+    Start,
+    /// A sheet as a whole.
+    Sheet,
+    /// A call, and its index in the sheet that made it.
+    Call {
+        /// What the call is named in the text form of sheets.
+        name: &'static str,
+        /// The call's index from 0, if a sheet made it.
+        index: Option<usize>,
+    },
+    /// The finish of a recording.
+    Finish,
+}
+
+/// The entry of a table that a finish was refused for.
+#[derive(Clone, Copy, Debug, PartialEq, Eq)]
+pub enum Entry {
+    /// An event, by its index: on X64, jumps and alignments in the order of recording.
+    Event(usize),
+    /// A use, by its index.
+    Use(usize),
+    /// A ref, by its index.
+    Ref(usize),
+    /// A relocation, by its index.
+    Reloc(usize),
+    /// A constant, by its place in the order of asking.
+    Asked(usize),
+}
+
+impl Error {
+    pub(crate) fn new(number: u32, place: Place, sentence: String) -> Self {
+        Self {
+            number,
+            place,
+            sentence,
+            entry: None,
+        }
+    }
+
+    pub(crate) fn at_entry(self, entry: Option<Entry>) -> Self {
+        Self { entry, ..self }
+    }
+
+    /// The refusal's number, 1 to 23.
+    pub fn number(&self) -> u32 {
+        self.number
+    }
+
+    /// The refusal's name, asmkit's.
+    pub fn name(&self) -> &'static str {
+        match self.number {
+            1 | 5 | 8 | 10 | 17 | 19 => "InvalidArgument",
+            2 | 7 => "InvalidArch",
+            3 | 18 | 21 => "TooLarge",
+            4 | 9 | 13 => "InvalidState",
+            6 | 20 | 22 => "UnsupportedInstruction",
+            11 | 16 => "TooManyHandles",
+            12 | 14 | 23 => "OutOfMemory",
+            15 => "UnboundLabel",
+            _ => "unknown to document 01",
+        }
+    }
+
+    /// What was refused.
+    pub fn place(&self) -> Place {
+        self.place
+    }
+
+    /// What is wrong, without number and place.
+    pub fn sentence(&self) -> &str {
+        &self.sentence
+    }
+
+    /// The entry that a finish was refused for, where there is one.
+    pub fn entry(&self) -> Option<Entry> {
+        self.entry
+    }
+}
+
+impl fmt::Display for Place {
+    fn fmt(&self, f: &mut fmt::Formatter<'_>) -> fmt::Result {
+        match self {
+            Self::Start => f.write_str("start"),
+            Self::Sheet => f.write_str("sheet"),
+            Self::Call { name, index: None } => f.write_str(name),
+            Self::Call {
+                name,
+                index: Some(index),
+            } => write!(f, "call {index} ({name})"),
+            Self::Finish => f.write_str("finish"),
+        }
+    }
+}
+
+impl fmt::Display for Error {
+    fn fmt(&self, f: &mut fmt::Formatter<'_>) -> fmt::Result {
+        let Self {
+            number,
+            place,
+            sentence,
+            ..
+        } = self;
+        write!(f, "{place}: number {number}, {}: {sentence}", self.name())
+    }
+}
+
+impl std::error::Error for Error {}
+
+/// A number of things: `0 labels`, `1 label`, `2 labels`.
+pub(crate) fn counted(number: usize, noun: &str) -> String {
+    match number {
+        1 => format!("1 {noun}"),
+        _ => format!("{number} {noun}s"),
+    }
+}
+
+#[cfg(test)]
+mod tests {
+    use super::*;
+
+    #[test]
+    fn says_place_number_name_and_sentence() {
+        let place = Place::Call {
+            name: "jump",
+            index: Some(3),
+        };
+        let error = Error::new(10, place, "it is long".into());
+        assert_eq!(
+            error.to_string(),
+            "call 3 (jump): number 10, InvalidArgument: it is long"
+        );
+    }
+
+    #[test]
+    fn every_number_has_a_name() {
+        for number in 1..=23 {
+            let error = Error::new(number, Place::Finish, String::new());
+            assert!(error.name().chars().all(char::is_alphabetic), "{number}");
+        }
+    }
+}

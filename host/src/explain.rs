@@ -1,0 +1,22 @@
+//! Why a call or a finish was turned down, with the values at hand. The verified library decides and gives a number; here its reason is looked for
+//! again, in the tables, to be put into words.
+
+mod calls;
+mod finish;
+
+pub(crate) use calls::explain_call;
+pub(crate) use finish::explain_finish;
+
+use crate::recording::LayoutEvent;
+
+/// Where the tables do not show the reason; the wrapper's tables always do.
+const NO_REASON: &str = "the tables do not show why";
+
+/// An event with the offsets that it was recorded at: `the jump from 4 to 9`.
+fn named_event(event: &LayoutEvent) -> String {
+    let name = match event {
+        LayoutEvent::Jump(_) => "the jump".into(),
+        LayoutEvent::Align { align, .. } => format!("the alignment to {align}"),
+    };
+    format!("{name} from {} to {}", event.start(), event.end())
+}

@@ -1,0 +1,65 @@
+//! What finish makes of a recording. After asmkit's core/buffer.rs (see NOTICE).
+
+use crate::ffi::Segment;
+use crate::recording::{AsmReloc, Label};
+use crate::{Arch, CodeOffset, UNBOUND};
+
+/// A [`crate::CodeBuffer`] once finish has accepted it: the code and what goes with it.
+#[derive(Clone, Debug, PartialEq, Eq)]
+pub struct CodeBufferFinalized {
+    pub(crate) arch: Arch,
+    pub(crate) data: Vec<u8>,
+    pub(crate) label_offsets: Vec<CodeOffset>,
+    pub(crate) relocs: Vec<AsmReloc>,
+    pub(crate) alignment: u32,
+    pub(crate) layouts: u32,
+    pub(crate) segments: Vec<Segment>,
+}
+
+impl CodeBufferFinalized {
+    /// The architecture.
+    pub fn arch(&self) -> Arch {
+        self.arch
+    }
+
+    /// Bytes of finished code.
+    pub fn total_size(&self) -> usize {
+        self.data.len()
+    }
+
+    /// The finished code.
+    pub fn data(&self) -> &[u8] {
+        &self.data
+    }
+
+    /// The final offset of a label, or [`UNBOUND`].
+    pub fn label_offset(&self, label: Label) -> CodeOffset {
+        let offset = self.label_offsets.get(label.id() as usize);
+        offset.copied().unwrap_or(UNBOUND)
+    }
+
+    /// The final offset of every label, or [`UNBOUND`].
+    pub fn label_offsets(&self) -> &[CodeOffset] {
+        &self.label_offsets
+    }
+
+    /// The relocations, with their final offsets.
+    pub fn relocs(&self) -> &[AsmReloc] {
+        &self.relocs
+    }
+
+    /// The multiple that the code is to be loaded on.
+    pub fn alignment(&self) -> u32 {
+        self.alignment
+    }
+
+    /// How many layouts finish made: the rounds of relaxation, 0 without a jump.
+    pub fn layouts(&self) -> u32 {
+        self.layouts
+    }
+
+    /// Where each event came to stand, those of the pool included; empty without a jump.
+    pub fn segments(&self) -> &[Segment] {
+        &self.segments
+    }
+}

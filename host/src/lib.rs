@@ -1,0 +1,71 @@
+//! A safe wrapper over Wargnifla, the verified code buffer.
+//!
+//! [`CodeBuffer`] owns the tables of a recording and lends them to the C functions of libwargnifla.a, which record calls and finish the code. Names
+//! are those of asmkit's core/buffer.rs (see NOTICE), of which the verified library is a port. A refusal is an [`Error`]: its number by document 01,
+//! and a sentence that says what is wrong and where.
+//!
+//! ```
+//! use wargnifla::{Arch, CodeBuffer, RelaxableJump};
+//!
+//! # fn main() -> Result<(), wargnifla::Error> {
+//! let mut buffer = CodeBuffer::new(Arch::X64);
+//! let end = buffer.get_label()?;
+//! buffer.put_bytes(&[0; 5])?;
+//! buffer.record_relaxable_jump(RelaxableJump { start: 0, len: 5, label: end, cc: None })?;
+//! buffer.put_bytes(&[0x90; 100])?;
+//! buffer.try_bind_label(end)?;
+//! let code = buffer.finish()?;
+//! assert_eq!(code.data()[..2], [0xEB, 100]);
+//! # Ok(())
+//! # }
+//! ```
+
+#![deny(unsafe_code)]
+#![warn(missing_docs)]
+
+mod buffer;
+mod call;
+mod error;
+mod explain;
+#[allow(missing_docs, unsafe_code)]
+pub mod ffi;
+mod finalized;
+mod kinds;
+mod listing;
+mod recording;
+mod relax;
+mod rounds;
+mod sheet;
+mod tables;
+mod text;
+mod verified;
+
+pub use buffer::CodeBuffer;
+pub use call::Call;
+pub use error::{Entry, Error, Place};
+pub use ffi::Segment;
+pub use finalized::CodeBufferFinalized;
+pub use kinds::{Arch, Condition, LabelUse, Reach, Reloc};
+pub use listing::{Extent, listing};
+pub use recording::{
+    AsmConstant, AsmFixup, AsmReloc, Constant, Label, LabelRef, LayoutEvent, Pooled,
+    PooledConstant, Recording, RelaxableJump, RelocTarget, Sym,
+};
+pub use rounds::{Lengthened, Mismatch, Round, Rounds};
+pub use sheet::{Sheet, Unwritable, symbols_named, write_sheet};
+pub use text::{Script, TextError, read_text};
+
+/// Offset in bytes from the beginning of the code.
+pub type CodeOffset = u32;
+
+/// The most bytes of code, recorded or finished.
+pub const MOST_CODE: usize = 16_777_216;
+
+/// The most entries of each table, and the most segments.
+pub const MOST_ENTRIES: usize = 65_536;
+
+/// The most bytes of a constant.
+pub const MOST_CONSTANT: usize = 64;
+
+/// The offset of a label that is not bound.
+pub const UNBOUND: CodeOffset = u32::MAX;

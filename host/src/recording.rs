@@ -1,0 +1,405 @@
+//! A recording as typed entries, to be shown and explained. Types after asmkit's core/buffer.rs and core/relax.rs (see NOTICE).
+
+use crate::tables::Tables;
+use crate::{Arch, Call, CodeOffset, Condition, LabelUse, Reloc, UNBOUND};
+
+/// What is added to a label's number where a relocation's target is one word.
+const LABEL_TARGET: u32 = 1 << 31;
+
+/// A label, by its number.
+#[derive(Clone, Copy, Debug, PartialEq, Eq, PartialOrd, Ord, Hash)]
+pub struct Label(u32);
+
+impl Label {
+    /// The label of a number.
+    pub const fn from_id(id: u32) -> Self {
+        Self(id)
+    }
+
+    /// The label's number.
+    pub const fn id(self) -> u32 {
+        self.0
+    }
+}
+
+/// A symbol, by its number; names stay with the caller.
+#[derive(Clone, Copy, Debug, PartialEq, Eq, PartialOrd, Ord, Hash)]
+pub struct Sym(u32);
+
+impl Sym {
+    /// The symbol of a number.
+    pub const fn from_id(id: u32) -> Self {
+        Self(id)
+    }
+
+    /// The symbol's number.
+    pub const fn id(self) -> u32 {
+        self.0
+    }
+}
+
+/// A constant, by its number.
+#[derive(Clone, Copy, Debug, PartialEq, Eq, PartialOrd, Ord, Hash)]
+pub struct Constant(u32);
+
+impl Constant {
+    /// The constant of a number.
+    pub const fn from_id(id: u32) -> Self {
+        Self(id)
+    }
+
+    /// The constant's number.
+    pub const fn id(self) -> u32 {
+        self.0
+    }
+}
+
+/// What a relocation is about.
+#[derive(Clone, Copy, Debug, PartialEq, Eq, Hash)]
+pub enum RelocTarget {
+    /// A symbol.
+    Sym(Sym),
+    /// A label.
+    Label(Label),
+}
+
+impl RelocTarget {
+    /// The target in one word, as sheets and tables have it: a symbol, or a label plus 2^31. Numbers from 2^31 on have no word of their own; they
+    /// become that of the last label, which no recording can know, so that the call is refused as it should be.
+    pub const fn to_word(self) -> u32 {
+        match self {
+            Self::Sym(Sym(id)) if id < LABEL_TARGET => id,
+            Self::Label(Label(id)) if id < LABEL_TARGET => id + LABEL_TARGET,
+            _ => u32::MAX,
+        }
+    }
+
+    /// The target that a word names.
+    pub const fn from_word(word: u32) -> Self {
+        match word.checked_sub(LABEL_TARGET) {
+            Some(label) => Self::Label(Label(label)),
+            None => Self::Sym(Sym(word)),
+        }
+    }
+}
+
+impl std::fmt::Display for RelocTarget {
+    fn fmt(&self, f: &mut std::fmt::Formatter<'_>) -> std::fmt::Result {
+        match self {
+            Self::Sym(Sym(id)) => write!(f, "symbol {id}"),
+            Self::Label(Label(id)) => write!(f, "label {id}"),
+        }
+    }
+}
+
+/// A `jmp` or `jcc` whose size relaxation may change.
+#[derive(Clone, Copy, Debug, PartialEq, Eq)]
+pub struct RelaxableJump {
+    /// Offset of the opcode.
+    pub start: CodeOffset,
+    /// Bytes recorded for it.
+    pub len: u8,
+    /// Where it goes.
+    pub label: Label,
+    /// The condition of a `jcc`, or `None` for `jmp`.
+    pub cc: Option<Condition>,
+}
+
+impl RelaxableJump {
+    /// Length of the short form: opcode and rel8.
+    pub const SHORT_LEN: u32 = 2;
+
+    /// Length of the long form: `E9 rel32` or `0F 8x rel32`.
+    pub const fn long_len(&self) -> u32 {
+        if self.cc.is_some() { 6 } else { 5 }
+    }
+
+    /// The instruction's name: `jmp`, or `j` and the condition.
+    pub fn mnemonic(&self) -> String {
+        match self.cc {
+            Some(cc) => format!("j{cc}"),
+            None => "jmp".into(),
+        }
+    }
+}
+
+/// What finish may resize.
+#[derive(Clone, Copy, Debug, PartialEq, Eq)]
+pub enum LayoutEvent {
+    /// A jump.
+    Jump(RelaxableJump),
+    /// The padding of an alignment.
+    Align {
+        /// Where the padding was recorded.
+        start: CodeOffset,
+        /// Its length as recorded.
+        len: CodeOffset,
+        /// The multiple that it reaches.
+        align: CodeOffset,
+    },
+}
+
+impl LayoutEvent {
+    /// Where the event was recorded.
+    pub const fn start(&self) -> CodeOffset {
+        match self {
+            Self::Jump(jump) => jump.start,
+            Self::Align { start, .. } => *start,
+        }
+    }
+
+    /// The end of the event as recorded.
+    pub const fn end(&self) -> CodeOffset {
+        match self {
+            Self::Jump(jump) => jump.start + jump.len as u32,
+            Self::Align { start, len, .. } => *start + *len,
+        }
+    }
+}
+
+/// A use of a label: patched by a finish without a jump, dropped by one with.
+#[derive(Clone, Copy, Debug, PartialEq, Eq)]
+pub struct AsmFixup {
+    /// Where the field starts.
+    pub offset: CodeOffset,
+    /// What it refers to.
+    pub label: Label,
+    /// How it holds that.
+    pub kind: LabelUse,
+}
+
+/// A label-relative field that a finish with a jump encodes.
+#[derive(Clone, Copy, Debug, PartialEq, Eq)]
+pub struct LabelRef {
+    /// Where the field starts.
+    pub offset: CodeOffset,
+    /// What it refers to.
+    pub label: Label,
+    /// How it holds that.
+    pub kind: LabelUse,
+    /// What is added to the label's offset.
+    pub addend: i32,
+}
+
+/// A relocation.
+#[derive(Clone, Copy, Debug, PartialEq, Eq)]
+pub struct AsmReloc {
+    /// Where it applies.
+    pub offset: CodeOffset,
+    /// How it applies.
+    pub kind: Reloc,
+    /// What is added to the target.
+    pub addend: i64,
+    /// What it is about.
+    pub target: RelocTarget,
+}
+
+/// A constant.
+#[derive(Clone, Debug, PartialEq, Eq)]
+pub struct AsmConstant {
+    /// Its bytes.
+    pub data: Vec<u8>,
+    /// Its label, if that was asked for.
+    pub label: Option<Label>,
+}
+
+impl AsmConstant {
+    /// The multiple that a constant stands on.
+    pub const fn alignment(&self) -> u32 {
+        if self.data.len() <= 8 { 8 } else { 16 }
+    }
+}
+
+/// What a recording holds at some time, but for its bytes.
+#[derive(Clone, Debug, PartialEq, Eq)]
+pub struct Recording {
+    /// The architecture.
+    pub arch: Arch,
+    /// Bytes of code.
+    pub code_len: u32,
+    /// The offset of each label, or [`UNBOUND`].
+    pub labels: Vec<CodeOffset>,
+    /// Jumps and alignments; kept on X64 only.
+    pub events: Vec<LayoutEvent>,
+    /// Uses of labels.
+    pub uses: Vec<AsmFixup>,
+    /// Refs; kept on X64 only.
+    pub refs: Vec<LabelRef>,
+    /// Constants, asked for or not.
+    pub constants: Vec<AsmConstant>,
+    /// The constants whose labels were asked for, in order.
+    pub asked: Vec<Constant>,
+    /// Relocations.
+    pub relocs: Vec<AsmReloc>,
+}
+
+impl Recording {
+    pub(crate) fn read(tables: &Tables) -> Self {
+        Self {
+            arch: tables.arch(),
+            code_len: u32::try_from(tables.code().len()).expect("code is below 2^32 bytes"),
+            labels: tables.labels().collect(),
+            events: tables.events().collect(),
+            uses: tables.uses().collect(),
+            refs: tables.refs().collect(),
+            constants: tables.constants().collect(),
+            asked: tables.asked().map(Constant::from_id).collect(),
+            relocs: tables.relocs().collect(),
+        }
+    }
+
+    /// Whether finish has jumps to relax.
+    pub fn has_jump(&self) -> bool {
+        self.jumps().next().is_some()
+    }
+
+    /// The jumps, in the order of recording.
+    pub fn jumps(&self) -> impl Iterator<Item = &RelaxableJump> {
+        self.events.iter().filter_map(|event| match event {
+            LayoutEvent::Jump(jump) => Some(jump),
+            LayoutEvent::Align { .. } => None,
+        })
+    }
+
+    /// Adds the alignments that some calls made, for a listing: off X64 a recording does not keep them.
+    ///
+    /// # Panics
+    ///
+    /// May panic if the calls are not those that made this recording, each of them accepted.
+    pub fn note_alignments(&mut self, calls: &[Call]) {
+        if self.arch.tracks_layout() {
+            return;
+        }
+        let mut offset = 0;
+        for call in calls {
+            match call {
+                Call::Bytes(bytes) => offset += bytes.len() as u32,
+                Call::Align(multiple) => {
+                    let align = alignment(offset, *multiple);
+                    offset = align.end();
+                    self.events.push(align);
+                }
+                _ => {}
+            }
+        }
+    }
+
+    /// The recording as finish lays it out: constants pooled after the code, in the order of asking.
+    pub fn pooled(&self) -> Pooled {
+        let mut pooled = Pooled {
+            events: self.events.clone(),
+            labels: self.labels.clone(),
+            constants: Vec::with_capacity(self.asked.len()),
+            len: self.code_len,
+        };
+        for &number in &self.asked {
+            pooled.place(number, &self.constants[number.id() as usize]);
+        }
+        pooled
+    }
+}
+
+fn alignment(start: CodeOffset, multiple: u32) -> LayoutEvent {
+    LayoutEvent::Align {
+        start,
+        len: start.next_multiple_of(multiple) - start,
+        align: multiple,
+    }
+}
+
+/// A constant in its place behind the code.
+#[derive(Clone, Copy, Debug, PartialEq, Eq)]
+pub struct PooledConstant {
+    /// Which constant.
+    pub constant: Constant,
+    /// Its label.
+    pub label: Label,
+    /// Where it stands before jumps are relaxed.
+    pub offset: CodeOffset,
+    /// Its bytes.
+    pub size: u32,
+}
+
+/// A recording with its constants pooled, before jumps are relaxed.
+#[derive(Clone, Debug, PartialEq, Eq)]
+pub struct Pooled {
+    /// The recording's events, then the alignment of each pooled constant.
+    pub events: Vec<LayoutEvent>,
+    /// The offset of each label, those of the pool bound.
+    pub labels: Vec<CodeOffset>,
+    /// The constants, in the order of asking.
+    pub constants: Vec<PooledConstant>,
+    /// Bytes of code and pool.
+    pub len: u32,
+}
+
+impl Pooled {
+    fn place(&mut self, constant: Constant, entry: &AsmConstant) {
+        let align = alignment(self.len, entry.alignment());
+        let offset = align.end();
+        let size = entry.data.len() as u32;
+        let label = entry
+            .label
+            .expect("a constant that was asked for has a label");
+        self.events.push(align);
+        let bound = &mut self.labels[label.id() as usize];
+        if *bound == UNBOUND {
+            *bound = offset;
+        }
+        self.constants.push(PooledConstant {
+            constant,
+            label,
+            offset,
+            size,
+        });
+        self.len = offset + size;
+    }
+}
+
+#[cfg(test)]
+mod tests {
+    use super::*;
+
+    #[test]
+    fn targets_keep_apart_symbols_and_labels() {
+        for target in [
+            RelocTarget::Sym(Sym::from_id(0)),
+            RelocTarget::Sym(Sym::from_id(LABEL_TARGET - 1)),
+            RelocTarget::Label(Label::from_id(7)),
+        ] {
+            assert_eq!(RelocTarget::from_word(target.to_word()), target);
+        }
+    }
+
+    #[test]
+    fn targets_without_a_word_become_a_label_that_is_never_known() {
+        let label = RelocTarget::Label(Label::from_id(LABEL_TARGET));
+        let symbol = RelocTarget::Sym(Sym::from_id(LABEL_TARGET));
+        assert_eq!(label.to_word(), u32::MAX);
+        assert_eq!(symbol.to_word(), u32::MAX);
+    }
+
+    #[test]
+    fn pools_in_the_order_of_asking() {
+        let constant = |size, label| AsmConstant {
+            data: vec![0; size],
+            label: Some(Label::from_id(label)),
+        };
+        let recording = Recording {
+            arch: Arch::X64,
+            code_len: 3,
+            labels: vec![UNBOUND, UNBOUND],
+            events: Vec::new(),
+            uses: Vec::new(),
+            refs: Vec::new(),
+            constants: vec![constant(4, 1), constant(9, 0)],
+            asked: vec![Constant::from_id(1), Constant::from_id(0)],
+            relocs: Vec::new(),
+        };
+        let pooled = recording.pooled();
+        assert_eq!(pooled.labels, [16, 32]);
+        assert_eq!(pooled.len, 36);
+        assert_eq!(pooled.events[0].end(), 16);
+        assert_eq!(pooled.events[1].start(), 25);
+    }
+}

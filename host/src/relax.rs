@@ -1,0 +1,90 @@
+//! Layouts of a pooled recording, to be shown and explained: the host's own reckoning, beside the verified one. After asmkit's core/relax.rs (see
+//! NOTICE).
+
+use crate::ffi::Segment;
+use crate::recording::{LayoutEvent, RelaxableJump};
+use crate::{CodeOffset, UNBOUND};
+
+/// Places events in order, each jump long that `long` marks and every padding the least that reaches its multiple.
+pub(crate) fn layout(events: &[LayoutEvent], long: &[bool]) -> Vec<Segment> {
+    let mut last = Segment::default();
+    let mut segments = Vec::with_capacity(events.len());
+    for (event, &long) in events.iter().zip(long) {
+        let new_start = last.new_end + (event.start() - last.old_end);
+        let new_end = match event {
+            LayoutEvent::Jump(jump) if long => new_start + jump.long_len(),
+            LayoutEvent::Jump(_) => new_start + RelaxableJump::SHORT_LEN,
+            LayoutEvent::Align { align, .. } => new_start.next_multiple_of(*align),
+        };
+        last = Segment {
+            old_start: event.start(),
+            old_end: event.end(),
+            new_start,
+            new_end,
+        };
+        segments.push(last);
+    }
+    segments
+}
+
+/// The segment that decides where an offset goes: the last that starts at it or before.
+pub(crate) fn deciding(segments: &[Segment], offset: CodeOffset) -> Option<usize> {
+    segments
+        .partition_point(|segment| segment.old_start <= offset)
+        .checked_sub(1)
+}
+
+/// Moves an offset by the segment that decides.
+pub(crate) fn moved(segment: &Segment, offset: CodeOffset) -> CodeOffset {
+    match offset.checked_sub(segment.old_end) {
+        Some(past) => segment.new_end + past,
+        None => segment.new_start + (offset - segment.old_start),
+    }
+}
+
+/// Moves a recorded offset into a layout; an unbound one stays.
+pub(crate) fn map(segments: &[Segment], offset: CodeOffset) -> CodeOffset {
+    if offset == UNBOUND {
+        return UNBOUND;
+    }
+    deciding(segments, offset).map_or(offset, |i| moved(&segments[i], offset))
+}
+
+#[cfg(test)]
+mod tests {
+    use super::*;
+    use crate::Label;
+
+    fn jump(start: u32, len: u8) -> LayoutEvent {
+        LayoutEvent::Jump(RelaxableJump {
+            start,
+            len,
+            label: Label::from_id(0),
+            cc: None,
+        })
+    }
+
+    fn align(start: u32, len: u32, align: u32) -> LayoutEvent {
+        LayoutEvent::Align { start, len, align }
+    }
+
+    #[test]
+    fn padding_shrinks_and_grows_with_the_code_before_it() {
+        let events = [jump(0, 5), align(5, 11, 16), jump(16, 2), align(18, 0, 2)];
+        let segments = layout(&events, &[false, false, true, false]);
+        let ends: Vec<u32> = segments.iter().map(|segment| segment.new_end).collect();
+        assert_eq!(ends, [2, 16, 21, 22]);
+    }
+
+    #[test]
+    fn an_events_end_is_past_it_and_its_inside_counts_from_its_start() {
+        let segments = layout(&[jump(0, 5), align(8, 0, 8)], &[false, false]);
+        assert_eq!(map(&segments, 0), 0);
+        assert_eq!(map(&segments, 4), 4);
+        assert_eq!(map(&segments, 5), 2);
+        assert_eq!(map(&segments, 7), 4);
+        assert_eq!(map(&segments, 8), 8, "after the padding that is gained");
+        assert_eq!(map(&segments, UNBOUND), UNBOUND);
+        assert_eq!(map(&[], 9), 9);
+    }
+}

@@ -1,0 +1,281 @@
+//! The tables of a recording, as the C functions are lent them: bytes that grow before a call could be refused for room, up to document 01's limits
+//! and never beyond. include/wargnifla.h says what their entries hold.
+
+use crate::recording::{AsmConstant, AsmFixup, AsmReloc, Label, LabelRef, LayoutEvent};
+use crate::recording::{RelaxableJump, RelocTarget};
+use crate::{Arch, Condition, LabelUse, MOST_CODE, MOST_ENTRIES, Reloc};
+
+/// The counts of a recording: 12 words.
+pub(crate) struct Counts(pub [u8; 48]);
+
+impl Counts {
+    fn word(&self, index: usize) -> u32 {
+        word(&self.0, index)
+    }
+
+    pub fn arch(&self) -> u32 {
+        self.word(0)
+    }
+
+    pub fn symbols(&self) -> u32 {
+        self.word(1)
+    }
+
+    pub fn is_finished(&self) -> bool {
+        self.word(2) != 0
+    }
+
+    /// The first recorded refusal, or 0.
+    pub fn refusal(&self) -> u32 {
+        self.word(3)
+    }
+
+    fn count(&self, index: usize) -> usize {
+        self.word(index) as usize
+    }
+}
+
+/// A table: whole entries, of which a recording counts the first ones as its own.
+pub(crate) struct Table {
+    pub bytes: Vec<u8>,
+    entry_size: usize,
+    most_entries: usize,
+}
+
+impl Table {
+    const fn new(entry_size: usize, most_entries: usize) -> Self {
+        Self {
+            bytes: Vec::new(),
+            entry_size,
+            most_entries,
+        }
+    }
+
+    /// Grows, if need be, to hold `more` entries beyond the `used` ones, as far as the limit lets it. Doubling keeps the cost of appending constant.
+    fn make_room(&mut self, used: usize, more: usize) {
+        let capacity = self.bytes.len() / self.entry_size;
+        let needed = used.saturating_add(more).min(self.most_entries);
+        if needed > capacity {
+            let entries = needed.max(2 * capacity).min(self.most_entries);
+            self.bytes.resize(entries * self.entry_size, 0);
+        }
+    }
+
+    fn entries(&self, used: usize) -> impl Iterator<Item = &[u8]> {
+        self.bytes[..used * self.entry_size].chunks_exact(self.entry_size)
+    }
+}
+
+/// How many entries some calls may add to each table, at the most.
+#[derive(Clone, Copy, Default)]
+pub(crate) struct Room {
+    pub code: usize,
+    pub labels: usize,
+    pub events: usize,
+    pub uses: usize,
+    pub refs: usize,
+    pub constants: usize,
+    pub asked: usize,
+    pub relocs: usize,
+}
+
+/// A recording as the C functions see it.
+pub(crate) struct Tables {
+    pub counts: Counts,
+    pub code: Table,
+    pub labels: Table,
+    pub events: Table,
+    pub uses: Table,
+    pub refs: Table,
+    pub constants: Table,
+    pub asked: Table,
+    pub relocs: Table,
+}
+
+impl Tables {
+    /// Empty tables, beside the counts that start wrote.
+    pub fn new(counts: Counts) -> Self {
+        Self {
+            counts,
+            code: Table::new(1, MOST_CODE),
+            labels: Table::new(4, MOST_ENTRIES),
+            events: Table::new(20, MOST_ENTRIES),
+            uses: Table::new(12, MOST_ENTRIES),
+            refs: Table::new(16, MOST_ENTRIES),
+            constants: Table::new(72, MOST_ENTRIES),
+            asked: Table::new(4, MOST_ENTRIES),
+            relocs: Table::new(24, MOST_ENTRIES),
+        }
+    }
+
+    pub fn make_room(&mut self, room: &Room) {
+        let counts = &self.counts;
+        self.code.make_room(counts.count(4), room.code);
+        self.labels.make_room(counts.count(5), room.labels);
+        self.events.make_room(counts.count(6), room.events);
+        self.uses.make_room(counts.count(7), room.uses);
+        self.refs.make_room(counts.count(8), room.refs);
+        self.constants.make_room(counts.count(9), room.constants);
+        self.asked.make_room(counts.count(10), room.asked);
+        self.relocs.make_room(counts.count(11), room.relocs);
+    }
+
+    pub fn arch(&self) -> Arch {
+        Arch::from_number(self.counts.arch()).expect("start knows the architectures of Arch only")
+    }
+
+    pub fn code(&self) -> &[u8] {
+        &self.code.bytes[..self.counts.count(4)]
+    }
+
+    pub fn label_count(&self) -> usize {
+        self.counts.count(5)
+    }
+
+    pub fn event_count(&self) -> usize {
+        self.counts.count(6)
+    }
+
+    pub fn constant_count(&self) -> usize {
+        self.counts.count(9)
+    }
+
+    pub fn asked_count(&self) -> usize {
+        self.counts.count(10)
+    }
+
+    pub fn labels(&self) -> impl Iterator<Item = u32> {
+        self.labels.entries(self.label_count()).map(first_word)
+    }
+
+    /// The offset of a label that is known.
+    pub fn label_offset(&self, label: Label) -> Option<u32> {
+        let id = label.id() as usize;
+        (id < self.label_count()).then(|| word(&self.labels.bytes, id))
+    }
+
+    pub fn events(&self) -> impl DoubleEndedIterator<Item = LayoutEvent> {
+        let used = self.event_count() * self.events.entry_size;
+        self.events.bytes[..used]
+            .chunks_exact(self.events.entry_size)
+            .map(event)
+    }
+
+    pub fn uses(&self) -> impl Iterator<Item = AsmFixup> {
+        self.uses
+            .entries(self.counts.count(7))
+            .map(|entry| AsmFixup {
+                offset: word(entry, 0),
+                label: Label::from_id(word(entry, 1)),
+                kind: label_use(word(entry, 2)),
+            })
+    }
+
+    pub fn refs(&self) -> impl Iterator<Item = LabelRef> {
+        self.refs
+            .entries(self.counts.count(8))
+            .map(|entry| LabelRef {
+                offset: word(entry, 0),
+                label: Label::from_id(word(entry, 1)),
+                kind: label_use(word(entry, 2)),
+                addend: word(entry, 3).cast_signed(),
+            })
+    }
+
+    pub fn constants(&self) -> impl Iterator<Item = AsmConstant> {
+        self.constants.entries(self.constant_count()).map(constant)
+    }
+
+    /// The label of a constant that is known and was asked for.
+    pub fn constant_label(&self, number: u32) -> Option<Label> {
+        let number = number as usize;
+        let size = self.constants.entry_size;
+        let entry = self
+            .constants
+            .bytes
+            .get(number * size..(number + 1) * size)?;
+        (number < self.constant_count()).then(|| constant(entry).label)?
+    }
+
+    pub fn asked(&self) -> impl Iterator<Item = u32> {
+        self.asked.entries(self.asked_count()).map(first_word)
+    }
+
+    pub fn relocs(&self) -> impl Iterator<Item = AsmReloc> {
+        self.relocs
+            .entries(self.counts.count(11))
+            .map(|entry| AsmReloc {
+                offset: word(entry, 0),
+                kind: Reloc::from_number(word(entry, 1)).expect("recordings keep known kinds only"),
+                target: RelocTarget::from_word(word(entry, 2)),
+                addend: i64::from_le_bytes(entry[16..24].try_into().expect("eight bytes")),
+            })
+    }
+}
+
+fn word(bytes: &[u8], index: usize) -> u32 {
+    let at = 4 * index;
+    u32::from_le_bytes(bytes[at..at + 4].try_into().expect("four bytes"))
+}
+
+fn first_word(entry: &[u8]) -> u32 {
+    word(entry, 0)
+}
+
+fn label_use(code: u32) -> LabelUse {
+    LabelUse::from_code(code).expect("recordings keep known codes only")
+}
+
+fn event(entry: &[u8]) -> LayoutEvent {
+    const JUMP: u32 = 1;
+    let (start, len) = (word(entry, 1), word(entry, 2));
+    match word(entry, 0) {
+        JUMP => LayoutEvent::Jump(RelaxableJump {
+            start,
+            len: u8::try_from(len).expect("recorded jumps have at most 15 bytes"),
+            label: Label::from_id(word(entry, 3)),
+            cc: Condition::from_number(word(entry, 4)),
+        }),
+        _ => LayoutEvent::Align {
+            start,
+            len,
+            align: word(entry, 3),
+        },
+    }
+}
+
+fn constant(entry: &[u8]) -> AsmConstant {
+    let size = word(entry, 0) as usize;
+    let label = word(entry, 1);
+    AsmConstant {
+        data: entry[8..8 + size].to_vec(),
+        label: (label != u32::MAX).then(|| Label::from_id(label)),
+    }
+}
+
+#[cfg(test)]
+mod tests {
+    use super::*;
+
+    #[test]
+    fn room_doubles_and_stops_at_the_limit() {
+        let mut table = Table::new(4, 10);
+        table.make_room(0, 3);
+        assert_eq!(table.bytes.len(), 4 * 3);
+        table.make_room(3, 1);
+        assert_eq!(table.bytes.len(), 4 * 6);
+        table.make_room(6, usize::MAX);
+        assert_eq!(table.bytes.len(), 4 * 10);
+        table.make_room(10, 1);
+        assert_eq!(table.bytes.len(), 4 * 10);
+    }
+
+    #[test]
+    fn growing_keeps_what_stands_in_a_table() {
+        let mut table = Table::new(1, 100);
+        table.make_room(0, 2);
+        table.bytes.copy_from_slice(&[7, 8]);
+        table.make_room(2, 50);
+        assert_eq!(table.bytes[..3], [7, 8, 0]);
+    }
+}

@@ -1,0 +1,172 @@
+//! The C functions on tables: the only unsafe code of the host.
+//!
+//! What they ask of a caller (include/wargnifla.h) holds of every call here for one reason. Each pointer and length come from a slice, so it is valid
+//! for its length and, even where that is 0, not null; and what is written is borrowed mutably, so nothing else that is lent overlaps it.
+
+#![allow(unsafe_code)]
+
+use crate::ffi::{self, Segment};
+use crate::tables::{Counts, Tables};
+
+/// What finish reports: 6 words.
+pub(crate) struct Record([u8; 24]);
+
+impl Record {
+    fn word(&self, index: usize) -> u32 {
+        let at = 4 * index;
+        u32::from_le_bytes(self.0[at..at + 4].try_into().expect("four bytes"))
+    }
+
+    pub fn code_len(&self) -> usize {
+        self.word(1) as usize
+    }
+
+    pub fn alignment(&self) -> u32 {
+        self.word(2)
+    }
+
+    pub fn layouts(&self) -> u32 {
+        self.word(3)
+    }
+}
+
+/// Starts a recording; the number of a refusal otherwise.
+pub(crate) fn start(arch: u32, symbols: u32) -> Result<Counts, u32> {
+    let mut counts = [0; 48];
+    // SAFETY: `counts` is a live array of the length that is passed, borrowed for this call alone.
+    let number = unsafe { ffi::wargnifla_start(arch, symbols, counts.as_mut_ptr(), counts.len()) };
+    match number {
+        0 => Ok(Counts(counts)),
+        _ => Err(number),
+    }
+}
+
+/// Runs a sheet: its refusal, or 0, and the index that goes with it.
+pub(crate) fn run_sheet(tables: &mut Tables, sheet: &[u8]) -> (u32, u32) {
+    let mut index = 0;
+    // SAFETY: every pointer and length are those of one slice; `index`, the counts and each table are distinct places, borrowed mutably, and
+    // `sheet`, borrowed beside them, overlaps none.
+    let number = unsafe {
+        ffi::wargnifla_run_sheet(
+            sheet.as_ptr(),
+            sheet.len(),
+            &raw mut index,
+            tables.counts.0.as_mut_ptr(),
+            tables.counts.0.len(),
+            tables.code.bytes.as_mut_ptr(),
+            tables.code.bytes.len(),
+            tables.labels.bytes.as_mut_ptr(),
+            tables.labels.bytes.len(),
+            tables.events.bytes.as_mut_ptr(),
+            tables.events.bytes.len(),
+            tables.uses.bytes.as_mut_ptr(),
+            tables.uses.bytes.len(),
+            tables.refs.bytes.as_mut_ptr(),
+            tables.refs.bytes.len(),
+            tables.constants.bytes.as_mut_ptr(),
+            tables.constants.bytes.len(),
+            tables.asked.bytes.as_mut_ptr(),
+            tables.asked.bytes.len(),
+            tables.relocs.bytes.as_mut_ptr(),
+            tables.relocs.bytes.len(),
+        )
+    };
+    (number, index)
+}
+
+/// Finishes a recording: its refusal, or 0, and what it reports.
+pub(crate) fn finish(
+    tables: &mut Tables,
+    segments: &mut [Segment],
+    output: &mut [u8],
+) -> (u32, Record) {
+    let mut record = Record([0; 24]);
+    // SAFETY: every pointer and length are those of one slice; `segments` counts segments, as the function does. Counts, labels, relocations,
+    // segments, output and record are distinct places, borrowed mutably, and the tables that are only read overlap none.
+    let number = unsafe {
+        ffi::wargnifla_finish(
+            tables.counts.0.as_mut_ptr(),
+            tables.counts.0.len(),
+            tables.code.bytes.as_ptr(),
+            tables.code.bytes.len(),
+            tables.labels.bytes.as_mut_ptr(),
+            tables.labels.bytes.len(),
+            tables.events.bytes.as_ptr(),
+            tables.events.bytes.len(),
+            tables.uses.bytes.as_ptr(),
+            tables.uses.bytes.len(),
+            tables.refs.bytes.as_ptr(),
+            tables.refs.bytes.len(),
+            tables.constants.bytes.as_ptr(),
+            tables.constants.bytes.len(),
+            tables.asked.bytes.as_ptr(),
+            tables.asked.bytes.len(),
+            tables.relocs.bytes.as_mut_ptr(),
+            tables.relocs.bytes.len(),
+            segments.as_mut_ptr(),
+            segments.len(),
+            output.as_mut_ptr(),
+            output.len(),
+            record.0.as_mut_ptr(),
+            record.0.len(),
+        )
+    };
+    (number, record)
+}
+
+/// Appends bytes: the refusal, or 0.
+pub(crate) fn put_bytes(tables: &mut Tables, bytes: &[u8]) -> u32 {
+    // SAFETY: every pointer and length are those of one slice; counts and code are distinct places, borrowed mutably, and `bytes` overlaps neither.
+    unsafe {
+        ffi::wargnifla_put_bytes(
+            tables.counts.0.as_mut_ptr(),
+            tables.counts.0.len(),
+            tables.code.bytes.as_mut_ptr(),
+            tables.code.bytes.len(),
+            bytes.as_ptr(),
+            bytes.len(),
+        )
+    }
+}
+
+/// Adds a constant: the refusal, or 0, and the constant's number.
+pub(crate) fn add_constant(tables: &mut Tables, bytes: &[u8]) -> (u32, u32) {
+    let mut constant = u32::MAX;
+    // SAFETY: every pointer and length are those of one slice; `constant`, the counts and the table are distinct places, borrowed mutably, and
+    // `bytes` overlaps none.
+    let number = unsafe {
+        ffi::wargnifla_add_constant(
+            tables.counts.0.as_mut_ptr(),
+            tables.counts.0.len(),
+            tables.constants.bytes.as_mut_ptr(),
+            tables.constants.bytes.len(),
+            bytes.as_ptr(),
+            bytes.len(),
+            &raw mut constant,
+        )
+    };
+    (number, constant)
+}
+
+/// Adds a relocation: the refusal, or 0.
+pub(crate) fn add_reloc(
+    tables: &mut Tables,
+    offset: u32,
+    kind: u32,
+    target: u32,
+    addend: i64,
+) -> u32 {
+    // SAFETY: every pointer and length are those of one slice; counts and relocations are distinct places, borrowed mutably.
+    unsafe {
+        ffi::wargnifla_add_reloc(
+            tables.counts.0.as_mut_ptr(),
+            tables.counts.0.len(),
+            tables.relocs.bytes.as_mut_ptr(),
+            tables.relocs.bytes.len(),
+            offset,
+            kind,
+            target,
+            addend.cast_unsigned(),
+        )
+    }
+}

@@ -1,0 +1,134 @@
+//! The sheets for users and the example programs, run.
+
+use std::path::{Path, PathBuf};
+use std::process::{Command, Output};
+
+fn stdout(output: &Output) -> String {
+    let errors = String::from_utf8_lossy(&output.stderr);
+    assert!(output.status.success(), "{errors}");
+    String::from_utf8(output.stdout.clone()).unwrap()
+}
+
+/// What the command prints of a sheet.
+fn shown(sheet: &str) -> String {
+    let path = Path::new(env!("CARGO_MANIFEST_DIR"))
+        .join("../sheets")
+        .join(sheet);
+    let output = Command::new(env!("CARGO_BIN_EXE_wargnifla"))
+        .arg("--rounds")
+        .arg(path)
+        .output()
+        .unwrap();
+    stdout(&output)
+}
+
+/// Checks the record and some lines of what a sheet shows.
+fn shows(sheet: &str, record: &str, lines: &[&str]) {
+    let text = shown(sheet);
+    assert!(
+        text.ends_with(&format!("finished for {record}\n")),
+        "{text}"
+    );
+    for line in lines {
+        assert!(text.contains(line), "{line} is missing in\n{text}");
+    }
+}
+
+#[test]
+fn sheets_of_document_01() {
+    let record = |bytes, layouts, long, of| {
+        format!("X64: {bytes} bytes, alignment 32, layouts {layouts}, long jumps {long} of {of}")
+    };
+    shows("case-a.txt", &record(129, 1, 0, 1), &["       0  EB 7F  "]);
+    shows(
+        "case-b.txt",
+        &record(133, 2, 1, 1),
+        &["       0  E9 80 00 00 00  "],
+    );
+    shows(
+        "case-c.txt",
+        &record(138, 3, 2, 2),
+        &["is 128, outside", "is 130, outside"],
+    );
+    shows(
+        "case-d.txt",
+        &record(16, 1, 0, 1),
+        &["       0  EB 0E  ", "14 bytes of padding, 11 recorded"],
+    );
+    shows("case-e.txt", &record(128, 1, 0, 1), &["     126  EB 80  "]);
+    shows(
+        "case-f.txt",
+        &record(132, 2, 1, 1),
+        &["     127  E9 7C FF FF FF  "],
+    );
+}
+
+#[test]
+fn sheets_of_fields_and_constants() {
+    shows(
+        "aarch64.txt",
+        "AArch64: 4388 bytes, alignment 32, layouts 0, long jumps 0 of 0",
+        &[
+            "A64Adrp21 in B0000001",
+            "A64AddAbsLo12 in 91048C21",
+            "A64Branch26 in 17FFFFFD",
+        ],
+    );
+    shows(
+        "pooled-constant.txt",
+        "X64: 32 bytes, alignment 32, layouts 1, long jumps 0 of 1",
+        &[
+            "je short to label 0 at 18",
+            "9  0B 00 00 00",
+            "constant 0, label 1",
+            "X86CallPLTRel4: symbol 0",
+        ],
+    );
+}
+
+#[test]
+fn the_readme_shows_what_the_command_prints() {
+    let readme = include_str!("../README.md");
+    let (_, after) = readme
+        .split_once("    $ wargnifla --rounds sheets/case-b.txt\n")
+        .unwrap();
+    let (block, _) = after.split_once("\n## ").unwrap();
+    let lines = block
+        .lines()
+        .map(|line| line.strip_prefix("    ").unwrap_or(line));
+    let expected: Vec<&str> = lines.collect();
+    assert_eq!(shown("case-b.txt").lines().collect::<Vec<_>>(), expected);
+}
+
+/// What an example program prints. Cargo builds the examples with the tests, into a folder beside the command.
+fn printed(example: &str) -> String {
+    let mut program = PathBuf::from(env!("CARGO_BIN_EXE_wargnifla"));
+    program.set_file_name("examples");
+    program.push(example);
+    assert!(program.exists(), "cargo build --examples builds {example}");
+    stdout(&Command::new(program).output().unwrap())
+}
+
+#[test]
+fn forward_jump() {
+    assert_eq!(
+        printed("forward_jump"),
+        "a run of 127: 129 bytes, 1 layouts, first byte EB\n\
+         a run of 128: 133 bytes, 2 layouts, first byte E9\n"
+    );
+}
+
+#[test]
+fn pooled_constant() {
+    assert_eq!(
+        printed("pooled_constant"),
+        "24 bytes, constant at 16\nX86CallPLTRel4 at 9: symbol 0\n"
+    );
+}
+
+#[test]
+fn run_sheet() {
+    let text = printed("run_sheet");
+    assert!(text.starts_with("a sheet of 123 bytes\n"), "{text}");
+    assert!(text.contains("75 0E                       jne short to label 0 at 16, distance 14\n"));
+}

@@ -1,0 +1,28 @@
+//! The library against the verified archive.
+
+mod cases;
+mod limits;
+mod listings;
+mod random;
+mod refusals;
+mod sheets;
+mod wrapper;
+
+use wargnifla::{Arch, CodeBuffer, CodeBufferFinalized, Error, read_text, symbols_named};
+
+/// A buffer that has recorded a text, or the first refusal.
+fn recorded(arch: Arch, text: &str) -> Result<CodeBuffer, Error> {
+    let script = read_text(text).expect("a well-formed text");
+    let mut buffer =
+        CodeBuffer::with_symbols(arch, script.symbols.unwrap_or(symbols_named(&script.calls)));
+    for call in &script.calls {
+        buffer.call(call)?;
+    }
+    Ok(buffer)
+}
+
+/// What an X64 text finishes to.
+fn finished(text: &str) -> CodeBufferFinalized {
+    let mut buffer = recorded(Arch::X64, text).expect("an accepted recording");
+    buffer.finish().expect("an accepted finish")
+}

@@ -1,0 +1,148 @@
+//! The wrapper's methods, one by one.
+
+use wargnifla::{
+    Arch, AsmReloc, CodeBuffer, Condition, Constant, Label, LabelUse, LayoutEvent, RelaxableJump,
+    Reloc, RelocTarget, Sym, UNBOUND,
+};
+
+#[test]
+fn puts_are_little_endian() {
+    let mut buffer = CodeBuffer::new(Arch::X86);
+    buffer.put1(0x01).unwrap();
+    buffer.put2(0x0302).unwrap();
+    buffer.put4(0x0706_0504).unwrap();
+    buffer.put8(0x0F0E_0D0C_0B0A_0908).unwrap();
+    let expected: Vec<u8> = (1..16).collect();
+    assert_eq!(buffer.data(), expected);
+    assert_eq!(buffer.cur_offset(), 15);
+    assert_eq!(buffer.arch(), Arch::X86);
+}
+
+#[test]
+fn labels_are_made_and_bound() {
+    let mut buffer = CodeBuffer::new(Arch::X64);
+    let (first, second) = (buffer.get_label().unwrap(), buffer.get_label().unwrap());
+    assert_eq!((first.id(), second.id(), buffer.label_count()), (0, 1, 2));
+    buffer.put4(0).unwrap();
+    buffer.try_bind_label(second).unwrap();
+    assert_eq!(buffer.label_offset(first), UNBOUND);
+    assert_eq!(buffer.label_offset(second), 4);
+    assert!(!buffer.is_bound(first) && buffer.is_bound(second));
+    assert!(!buffer.is_bound(Label::from_id(2)));
+}
+
+#[test]
+fn a_constants_label_is_made_once() {
+    let mut buffer = CodeBuffer::new(Arch::X64);
+    let small = buffer.add_constant(&[1; 8]).unwrap();
+    let large = buffer.add_constant(&[2; 64]).unwrap();
+    let asked = buffer.get_label_for_constant(large).unwrap();
+    assert_eq!(buffer.get_label_for_constant(large).unwrap(), asked);
+    assert_eq!(buffer.label_count(), 1);
+    buffer.put1(0xC3).unwrap();
+    let code = buffer.finish().unwrap();
+    assert_eq!((small.id(), code.label_offset(asked)), (0, 16));
+    assert_eq!(
+        code.total_size(),
+        80,
+        "a constant never asked for is not pooled"
+    );
+    assert_eq!(code.data()[16..], [2; 64]);
+    assert_eq!(buffer.recording().asked, [Constant::from_id(1)]);
+}
+
+#[test]
+fn jumps_and_refs_are_kept_on_x64_alone() {
+    for arch in Arch::ALL {
+        let mut buffer = CodeBuffer::new(arch);
+        let label = buffer.get_label().unwrap();
+        buffer.try_bind_label(label).unwrap();
+        buffer.put8(0).unwrap();
+        let jump = RelaxableJump {
+            start: 2,
+            len: 6,
+            label,
+            cc: Some(Condition::G),
+        };
+        buffer.record_relaxable_jump(jump).unwrap();
+        buffer
+            .record_label_ref(0, label, LabelUse::X86BranchRel8, -3)
+            .unwrap();
+        let recording = buffer.recording();
+        let kept = usize::from(arch == Arch::X64);
+        assert_eq!((recording.events.len(), recording.refs.len()), (kept, kept));
+        if arch == Arch::X64 {
+            assert_eq!(recording.events, [LayoutEvent::Jump(jump)]);
+            assert_eq!(recording.refs[0].addend, -3);
+        }
+    }
+}
+
+#[test]
+fn relocations_move_with_the_code_and_keep_64_bits() {
+    let mut buffer = CodeBuffer::with_symbols(Arch::X64, 2);
+    let label = buffer.get_label().unwrap();
+    buffer.put_bytes(&[0; 5]).unwrap();
+    let jump = RelaxableJump {
+        start: 0,
+        len: 5,
+        label,
+        cc: None,
+    };
+    buffer.record_relaxable_jump(jump).unwrap();
+    buffer.try_bind_label(label).unwrap();
+    let symbol = RelocTarget::Sym(Sym::from_id(1));
+    buffer.add_reloc(Reloc::Abs8, symbol, i64::MIN + 5).unwrap();
+    buffer.put8(0).unwrap();
+    let target = RelocTarget::Label(label);
+    buffer
+        .add_reloc_at_offset(9, Reloc::X86PCRel4, target, -4)
+        .unwrap();
+    let recorded: Vec<u32> = buffer.relocs().iter().map(|reloc| reloc.offset).collect();
+    assert_eq!(recorded, [5, 9]);
+    let code = buffer.finish().unwrap();
+    let expected = [
+        AsmReloc {
+            offset: 2,
+            kind: Reloc::Abs8,
+            addend: i64::MIN + 5,
+            target: symbol,
+        },
+        AsmReloc {
+            offset: 6,
+            kind: Reloc::X86PCRel4,
+            addend: -4,
+            target,
+        },
+    ];
+    assert_eq!(code.relocs(), expected);
+    assert_eq!(buffer.relocs(), expected);
+}
+
+#[test]
+fn targets_past_2_to_the_31_are_refused_as_unknown() {
+    let far = 1 << 31;
+    let targets = [
+        RelocTarget::Label(Label::from_id(far)),
+        RelocTarget::Sym(Sym::from_id(far)),
+    ];
+    for target in targets {
+        let mut buffer = CodeBuffer::with_symbols(Arch::X64, 1);
+        buffer.get_label().unwrap();
+        let error = buffer.add_reloc(Reloc::Abs4, target, 0).unwrap_err();
+        assert_eq!(error.number(), 8, "{error}");
+    }
+}
+
+#[test]
+fn padding_is_nops_on_x86_and_zeros_on_aarch64() {
+    let padded = |arch| {
+        let mut buffer = CodeBuffer::new(arch);
+        buffer.put1(0xC3).unwrap();
+        buffer.try_align_to(4).unwrap();
+        buffer.data().to_vec()
+    };
+    assert_eq!(padded(Arch::X86), [0xC3, 0x0F, 0x1F, 0x00]);
+    assert_eq!(padded(Arch::X64), [0xC3, 0x0F, 0x1F, 0x00]);
+    assert_eq!(padded(Arch::AArch64), [0xC3, 0, 0, 0]);
+}
