@@ -1,14 +1,11 @@
+-- `is_constant` meets its contract.
 use borrow.Author.Tests.{eq-eqb, ne-eqb}
 use Rattle.sheet.proofs.calls.is_constant.Statement.{statement}
 use Rattle.sheet.proofs.calls.is_constant.Tie as tie
-use Rattle.sheet.proofs.calls.is_constant.Reads as reads
-use Rattle.sheet.proofs.calls.is_constant.Lts as lts
 
--- src/calls.rt:154:9
 returns : tie.Need-returns
 returns c = rw (eq-eqb (c .before .args .kind) 8 (c .if1 .taken))
 
--- src/calls.rt:150:1
 returns-2 : tie.Need-returns-2
 returns-2 c = rw (ne-eqb (c .before .args .kind) 8 (c .if1 .left))
 

@@ -1,14 +1,11 @@
+-- `has_code` meets its contract.
 use borrow.Author.Tests.{eq-eqb, ne-eqb}
 use Rattle.sheet.proofs.form.has_code.Statement.{statement}
 use Rattle.sheet.proofs.form.has_code.Tie as tie
-use Rattle.sheet.proofs.form.has_code.Reads as reads
-use Rattle.sheet.proofs.form.has_code.Lts as lts
 
--- src/form.rt:37:9
 returns : tie.Need-returns
 returns c = rw (eq-eqb (c .before .args .kind) 5 (c .if1 .taken))
 
--- src/form.rt:33:1
 returns-2 : tie.Need-returns-2
 returns-2 c = rw (ne-eqb (c .before .args .kind) 5 (c .if1 .left))
 

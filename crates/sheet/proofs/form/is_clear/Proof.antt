@@ -8,8 +8,6 @@ use Rattle.sheet.specs.Form.{isClear}
 use Rattle.sheet.proofs.Forming.{clear-step, clear-fails, clear-end}
 use Rattle.sheet.proofs.form.is_clear.Statement.{statement}
 use Rattle.sheet.proofs.form.is_clear.Tie as tie
-use Rattle.sheet.proofs.form.is_clear.Reads as reads
-use Rattle.sheet.proofs.form.is_clear.Lts as lts
 
 abbrev Inv-loop : tie.InvT-loop
 Inv-loop part i₀ i = (i ≤ length part) × (isClear (drop i part) ≡ isClear part)
@@ -17,31 +15,15 @@ Inv-loop part i₀ i = (i ≤ length part) × (isClear (drop i part) ≡ isClear
 abbrev μ-loop : tie.MeasureT-loop
 μ-loop part i₀ i = length part - i
 
--- src/form.rt:23:5
 loop-holds : tie.Need-loop-holds Inv-loop μ-loop
 loop-holds c = (omega arith, refl)
 
--- src/form.rt:24:12
-shared-slice-read-if1 : tie.Need-shared-slice-read-if1 Inv-loop μ-loop
-shared-slice-read-if1 c = search needs
-
--- src/form.rt:25:13
 returns : tie.Need-returns Inv-loop μ-loop
 returns c = sym (sym (c .before .before .before .loop .inv .1) ∙ clear-fails _ (c .before .before .before .loop .i) (omega arith) (c .if1 .taken))
 
--- src/form.rt:27:9
-add-i : tie.Need-add-i Inv-loop μ-loop
-add-i c = search needs
-
--- src/form.rt:23:5
-loop-less : tie.Need-loop-less Inv-loop μ-loop
-loop-less c = search needs
-
--- src/form.rt:23:5
 loop-again : tie.Need-loop-again Inv-loop μ-loop
 loop-again c = (omega arith, sym (clear-step _ (c .before .before .before .loop .i) (omega arith) (c .if1 .left)) ∙ c .before .before .before .loop .inv .1)
 
--- src/form.rt:19:1
 returns-2 : tie.Need-returns-2 Inv-loop μ-loop
 returns-2 c = sym (sym (c .before .loop .inv .1) ∙ clear-end _ (c .before .loop .i) (omega arith))
 
@@ -52,9 +34,9 @@ is-clear-spec =
     Inv-loop
     μ-loop
     loop-holds
-    shared-slice-read-if1
+    (λ c. search needs)
     returns
-    add-i
-    loop-less
+    (λ c. search needs)
+    (λ c. search needs)
     loop-again
     returns-2)

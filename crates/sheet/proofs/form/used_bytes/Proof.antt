@@ -5,24 +5,9 @@ use Rattle.sheet.specs.Form.{usedBytes}
 use borrow.Author.Needs.{needs}
 use Rattle.sheet.proofs.form.used_bytes.Statement.{statement}
 use Rattle.sheet.proofs.form.used_bytes.Tie as tie
-use Rattle.sheet.proofs.form.used_bytes.Reads as reads
-use Rattle.sheet.proofs.form.used_bytes.Lts as lts
 
--- src/form.rt:69:16
-mul-result : tie.Need-mul-result
-mul-result c = search needs
-
--- src/form.rt:69:16
-array-read-result : tie.Need-array-read-result
-array-read-result c = search needs
-
--- src/form.rt:69:9
-returns : tie.Need-returns
-returns c = search needs
-
--- src/form.rt:65:1
 returns-2 : tie.Need-returns-2
 returns-2 c = sym (List·getD-eq-default usedBytes 0 (c .if1 .left))
 
 pub used-bytes-spec : {M : Type 1} → statement M
-used-bytes-spec = tie.close (tie.spec mul-result array-read-result returns returns-2)
+used-bytes-spec = tie.close (tie.spec (λ c. search needs) (λ c. search needs) (λ c. search needs) returns-2)
