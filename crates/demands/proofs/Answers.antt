@@ -13,6 +13,7 @@ use Rattle.seqs.specs.Pick.{pick}
 use Rattle.seqs.proofs.Booleans.{both-true}
 use Rattle.seqs.proofs.Picking.{pick-yes, pick-no, passed, neither, zero-passed}
 use Rattle.seqs.proofs.Overwrites.{take-over-end}
+use Rattle.relax.specs.declared.Segment.{Segment}
 use Rattle.buffer.specs.declared.CodeBuffer.{CodeBuffer}
 use Rattle.buffer.specs.State.{mostCode, mostEntries}
 use Rattle.buffer.specs.Refusals.{archOccurs, refusalOccurs, standing}
@@ -97,41 +98,41 @@ lent r segments output h =
     let constants = leb (length (r .constants) / 72) mostEntries in
     let asked = leb (length (r .asked) / 4) mostEntries in
     let relocs = leb (length (r .relocs) / 24) mostEntries in
-    let rows = leb segments mostEntries in
+    let ss = leb segments mostEntries in
     let out = leb output mostCode in
-    let t1 = both-true code (labels && (events && (uses && (refs && (constants && (asked && (relocs && (rows && out)))))))) h in
-    let t2 = both-true labels (events && (uses && (refs && (constants && (asked && (relocs && (rows && out))))))) (t1 .1) in
-    let t3 = both-true events (uses && (refs && (constants && (asked && (relocs && (rows && out)))))) (t2 .1) in
-    let t4 = both-true uses (refs && (constants && (asked && (relocs && (rows && out))))) (t3 .1) in
-    let t5 = both-true refs (constants && (asked && (relocs && (rows && out)))) (t4 .1) in
-    let t6 = both-true constants (asked && (relocs && (rows && out))) (t5 .1) in
-    let t7 = both-true asked (relocs && (rows && out)) (t6 .1) in
-    let t8 = both-true relocs (rows && out) (t7 .1) in (
+    let t1 = both-true code (labels && (events && (uses && (refs && (constants && (asked && (relocs && (ss && out)))))))) h in
+    let t2 = both-true labels (events && (uses && (refs && (constants && (asked && (relocs && (ss && out))))))) (t1 .1) in
+    let t3 = both-true events (uses && (refs && (constants && (asked && (relocs && (ss && out)))))) (t2 .1) in
+    let t4 = both-true uses (refs && (constants && (asked && (relocs && (ss && out))))) (t3 .1) in
+    let t5 = both-true refs (constants && (asked && (relocs && (ss && out)))) (t4 .1) in
+    let t6 = both-true constants (asked && (relocs && (ss && out))) (t5 .1) in
+    let t7 = both-true asked (relocs && (ss && out)) (t6 .1) in
+    let t8 = both-true relocs (ss && out) (t7 .1) in (
       leb-true (length (r .code)) mostCode (t1 .0),
       leb-true (length (r .labels) / 4) mostEntries (t2 .0),
       leb-true (length (r .constants) / 72) mostEntries (t6 .0),
       leb-true (length (r .asked) / 4) mostEntries (t7 .0),
-      leb-true output mostCode (both-true rows out (t8 .1) .1),
+      leb-true output mostCode (both-true ss out (t8 .1) .1),
     )
 
 -- a recording that is fit: its entries are those that recordings write, and the pooled code and the output are small
-pub record Fit (r : Recording) (rows : List (List ℕ)) (output : List ℕ) : Type 0 where
+pub record Fit (r : Recording) (ss : List Segment) (output : List ℕ) : Type 0 where
   pub sound : Sound r
   pub few : r .buffer .asked ≤ 65536
   pub small : length (pooled (r .buffer .arch) (view r) .code) ≤ 16777216
   pub room : length output ≤ 16777216
 
-unfit-fit : (r : Recording) (rows : List (List ℕ)) (output : List ℕ) → whyUnfit r (length rows) (length output) ≡ 0 → Fit r rows output
+unfit-fit : (r : Recording) (ss : List Segment) (output : List ℕ) → whyUnfit r (length ss) (length output) ≡ 0 → Fit r ss output
 unfolding whyUnfit
-unfit-fit r rows output e =
+unfit-fit r ss output e =
     let v = view r in
     let len = length (pooled (r .buffer .arch) v .code) in
     let rest : ℕ = pick (poolBoundBefore v) 13 (pick (ltb mostCode len) 14 0) in
-    let within = withinLimits r (length rows) (length output) in
+    let within = withinLimits r (length ss) (length output) in
     let both = neither (standing (r .buffer) (countsFit r) within) (pick (not (entriesFit r)) 1 rest) e in
     let stands = standing-passed (r .buffer) (countsFit r) within (both .0) in
     let counts = counted r (stands .0) in
-    let limits = lent r (length rows) (length output) (stands .1) in
+    let limits = lent r (length ss) (length output) (stands .1) in
     let one = passed (not (entriesFit r)) 1 rest (λ z. omega arith) (both .1) in
     let two = passed (poolBoundBefore v) 13 (pick (ltb mostCode len) 14 0) (λ z. omega arith) (one .1) in
     record {
@@ -183,19 +184,19 @@ taken output code n e h =
 abbrev codeOf : Outcome × Left → List ℕ
 codeOf placed = take (placed .0 .len) (placed .1 .1 .1 .1)
 
-relaxed-leaves : (p : Pooled) (count : ℕ) (labels relocs : List ℕ) (rows : List (List ℕ)) (output : List ℕ)
-    → relaxed p count labels relocs rows output .0 .refusal ≡ 0
-    → Assembled p labels output (codeOf (relaxed p count labels relocs rows output)) (relaxed p count labels relocs rows output .1 .0)
-    (relaxed p count labels relocs rows output .0 .layouts)
+relaxed-leaves : (p : Pooled) (count : ℕ) (labels relocs : List ℕ) (ss : List Segment) (output : List ℕ)
+    → relaxed p count labels relocs ss output .0 .refusal ≡ 0
+    → Assembled p labels output (codeOf (relaxed p count labels relocs ss output)) (relaxed p count labels relocs ss output .1 .0)
+    (relaxed p count labels relocs ss output .0 .layouts)
 unfolding relaxed whyNotLaid whyNotWritten
-relaxed-leaves p count labels relocs rows output e =
+relaxed-leaves p count labels relocs ss output e =
     let c = settled p .choice in
-    let early = whyNotLaid p (length rows) in
+    let early = whyNotLaid p (length ss) in
     let late = whyNotWritten p (length output) in
     let first·zero : eqb early 0 ≡ true = chosen-zero (λ (x : Outcome × Left). x .0 .refusal) (eqb early 0) _ _ (λ q. eqb-false early 0 q) e in
     let e2 = subst (λ (x : Outcome × Left). x .0 .refusal ≡ 0) (pick-yes (eqb early 0) _ _ first·zero) e in
     let second·zero : eqb late 0 ≡ true = chosen-zero (λ (x : Outcome × Left). x .0 .refusal) (eqb late 0) _ _ (λ q. eqb-false late 0 q) e2 in
-    let out = passed (ltb (length rows) (length (p .events))) 16 (pick (not (every (refClear p) (p .refs))) 17 0) (λ z. omega arith) (eqb-true early 0 first·zero) in
+    let out = passed (ltb (length ss) (length (p .events))) 16 (pick (not (every (refClear p) (p .refs))) 17 0) (λ z. omega arith) (eqb-true early 0 first·zero) in
     let far = passed (not (every (refReaches p c) (p .refs))) 18 (pick (ltb (length output) (length (assembled p c))) 23 0) (λ z. omega arith) (eqb-true late 0 second·zero) in
     let fits = ltb-false (length output) (length (assembled p c)) (passed (ltb (length output) (length (assembled p c))) 23 0 (λ z. omega arith) (far .1) .0) in
     let leaves = pick-yes (eqb early 0) _ _ first·zero ∙ pick-yes (eqb late 0) _ _ second·zero in
@@ -208,10 +209,10 @@ relaxed-leaves p count labels relocs rows output e =
       rounds = ap (λ (x : Outcome × Left). x .0 .layouts) leaves;
     }
 
-unrelaxed-leaves : (p : Pooled) (labels relocs : List ℕ) (rows : List (List ℕ)) (output : List ℕ)
-    → unrelaxed p labels relocs rows output .0 .refusal ≡ 0 → Kept p output (codeOf (unrelaxed p labels relocs rows output))
+unrelaxed-leaves : (p : Pooled) (labels relocs : List ℕ) (ss : List Segment) (output : List ℕ)
+    → unrelaxed p labels relocs ss output .0 .refusal ≡ 0 → Kept p output (codeOf (unrelaxed p labels relocs ss output))
 unfolding unrelaxed whyNotInPlace
-unrelaxed-leaves p labels relocs rows output e =
+unrelaxed-leaves p labels relocs ss output e =
     let why = whyNotInPlace p (length output) in
     let zero : eqb why 0 ≡ true = chosen-zero (λ (x : Outcome × Left). x .0 .refusal) (eqb why 0) _ _ (λ q. eqb-false why 0 q) e in
     let both = neither (usesRefusal p (p .uses)) (pick (ltb (length output) (length (p .code))) 23 0) (eqb-true why 0 zero) in
@@ -224,21 +225,21 @@ unrelaxed-leaves p labels relocs rows output e =
     }
 
 -- What a finish that answers 0 has found, and the code that it leaves.
-pub record Answered (r : Recording) (rows : List (List ℕ)) (output : List ℕ) : Type 0 where
-  pub fit : Fit r rows output
+pub record Answered (r : Recording) (ss : List Segment) (output : List ℕ) : Type 0 where
+  pub fit : Fit r ss output
   pub bound : allBound (pooled (r .buffer .arch) (view r)) (view r .relocs) ≡ true
   pub jumped : hasJump (pooled (r .buffer .arch) (view r)) ≡ true
-      → Assembled (pooled (r .buffer .arch) (view r)) (overWords (r .labels) (pooled (r .buffer .arch) (view r) .labels)) output (finishedCode r rows output)
-      (finish r rows output .1 .0) (finish r rows output .0 .code .layouts)
-  pub straight : hasJump (pooled (r .buffer .arch) (view r)) ≡ false → Kept (pooled (r .buffer .arch) (view r)) output (finishedCode r rows output)
+      → Assembled (pooled (r .buffer .arch) (view r)) (overWords (r .labels) (pooled (r .buffer .arch) (view r) .labels)) output (finishedCode r ss output)
+      (finish r ss output .1 .0) (finish r ss output .0 .code .layouts)
+  pub straight : hasJump (pooled (r .buffer .arch) (view r)) ≡ false → Kept (pooled (r .buffer .arch) (view r)) output (finishedCode r ss output)
 
-pub finish-answered : (r : Recording) (rows : List (List ℕ)) (output : List ℕ) → finish r rows output .0 .refusal ≡ 0 → Answered r rows output
+pub finish-answered : (r : Recording) (ss : List Segment) (output : List ℕ) → finish r ss output .0 .refusal ≡ 0 → Answered r ss output
 unfolding finish placedBy
-finish-answered r rows output e =
+finish-answered r ss output e =
     let b = r .buffer in
     let p = pooled (b .arch) (view r) in
-    let why = whyUnfit r (length rows) (length output) in
-    let placed = placedBy p r rows output in
+    let why = whyUnfit r (length ss) (length output) in
+    let placed = placedBy p r ss output in
     let labels = overWords (r .labels) (p .labels) in
     let fit : eqb why 0 ≡ true = chosen-zero (λ (x : Finished × Left). x .0 .refusal) (eqb why 0) _ _ (λ q. eqb-false why 0 q) e in
     let e2 = subst (λ (x : Finished × Left). x .0 .refusal ≡ 0) (pick-yes (eqb why 0) _ _ fit) e in
@@ -246,21 +247,21 @@ finish-answered r rows output e =
     chosen-zero (λ (x : Finished × Left). x .0 .refusal) (eqb (placed .0 .refusal) 0) _ _ (λ q. eqb-false (placed .0 .refusal) 0 q) e2 in
     let bound : allBound p (view r .relocs) ≡ true =
     chosen-zero (λ (x : Outcome × Left). x .0 .refusal) (allBound p (view r .relocs)) _ _ (λ q z. omega arith) (eqb-true (placed .0 .refusal) 0 done) in
-    let is : finish r rows output ≡ (finishedWith b (placed .0), placed .1) = pick-yes (eqb why 0) _ _ fit ∙ pick-yes (eqb (placed .0 .refusal) 0) _ _ done in
-    let inner : placed ≡ pick (hasJump p) (relaxed p (b .relocs) labels (r .relocs) rows output) (unrelaxed p labels (r .relocs) rows output) =
+    let is : finish r ss output ≡ (finishedWith b (placed .0), placed .1) = pick-yes (eqb why 0) _ _ fit ∙ pick-yes (eqb (placed .0 .refusal) 0) _ _ done in
+    let inner : placed ≡ pick (hasJump p) (relaxed p (b .relocs) labels (r .relocs) ss output) (unrelaxed p labels (r .relocs) ss output) =
     pick-yes (allBound p (view r .relocs)) _ _ bound in
-    let code : finishedCode r rows output ≡ codeOf placed = ap (λ (x : Finished × Left). take (x .0 .code .len) (x .1 .1 .1 .1)) is in
+    let code : finishedCode r ss output ≡ codeOf placed = ap (λ (x : Finished × Left). take (x .0 .code .len) (x .1 .1 .1 .1)) is in
     let zero : placed .0 .refusal ≡ 0 = eqb-true (placed .0 .refusal) 0 done in
     record {
-      fit = unfit-fit r rows output (eqb-true why 0 fit);
+      fit = unfit-fit r ss output (eqb-true why 0 fit);
       bound = bound;
       jumped = λ jump.
-          let all = inner ∙ pick-yes (hasJump p) (relaxed p (b .relocs) labels (r .relocs) rows output) (unrelaxed p labels (r .relocs) rows output) jump in
+          let all = inner ∙ pick-yes (hasJump p) (relaxed p (b .relocs) labels (r .relocs) ss output) (unrelaxed p labels (r .relocs) ss output) jump in
           subst (λ (x : Finished × Left). Assembled p labels output (take (x .0 .code .len) (x .1 .1 .1 .1)) (x .1 .0) (x .0 .code .layouts))
           (sym (is ∙ ap (λ (x : Outcome × Left). (finishedWith b (x .0), x .1)) all))
-          (relaxed-leaves p (b .relocs) labels (r .relocs) rows output (subst (λ (x : Outcome × Left). x .0 .refusal ≡ 0) all zero));
+          (relaxed-leaves p (b .relocs) labels (r .relocs) ss output (subst (λ (x : Outcome × Left). x .0 .refusal ≡ 0) all zero));
       straight = λ none.
-          let all = inner ∙ pick-no (hasJump p) (relaxed p (b .relocs) labels (r .relocs) rows output) (unrelaxed p labels (r .relocs) rows output) none in
+          let all = inner ∙ pick-no (hasJump p) (relaxed p (b .relocs) labels (r .relocs) ss output) (unrelaxed p labels (r .relocs) ss output) none in
           subst (Kept p output) (sym (code ∙ ap codeOf all))
-          (unrelaxed-leaves p labels (r .relocs) rows output (subst (λ (x : Outcome × Left). x .0 .refusal ≡ 0) all zero));
+          (unrelaxed-leaves p labels (r .relocs) ss output (subst (λ (x : Outcome × Left). x .0 .refusal ≡ 0) all zero));
     }

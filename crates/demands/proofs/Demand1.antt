@@ -8,6 +8,7 @@ use borrow.Author.Tests.{eqb-false}
 use lib.Dec.{eqb}
 use lib.ListN.{length}
 use Rattle.seqs.specs.Pick.{pick}
+use Rattle.relax.specs.declared.Segment.{Segment}
 use Rattle.recording.specs.Calls.{Recording}
 use Rattle.recording.specs.View.{view}
 use Rattle.fresh.specs.Pooled.{pooled}
@@ -24,23 +25,23 @@ picks Q true true x y z a b c ne = absurd (ne a)
 picks Q true false x y z a b c ne = b refl
 picks Q false t x y z a b c ne = c
 
-placed-alone : (r : Recording) (rows : List (List ℕ)) (output : List ℕ)
-    → placedBy (pooled (r .buffer .arch) (view r)) r rows output .0 .refusal ≢ 0
-    → LeftAlone (overWords (r .labels) (pooled (r .buffer .arch) (view r) .labels)) (r .relocs) output (placedBy (pooled (r .buffer .arch) (view r)) r rows output .1)
+placed-alone : (r : Recording) (ss : List Segment) (output : List ℕ)
+    → placedBy (pooled (r .buffer .arch) (view r)) r ss output .0 .refusal ≢ 0
+    → LeftAlone (overWords (r .labels) (pooled (r .buffer .arch) (view r) .labels)) (r .relocs) output (placedBy (pooled (r .buffer .arch) (view r)) r ss output .1)
 unfolding placedBy
-placed-alone r rows output ne =
+placed-alone r ss output ne =
     let p = pooled (r .buffer .arch) (view r) in
-    stages-refused (allBound p (view r .relocs)) p (r .buffer .relocs) (overWords (r .labels) (p .labels)) (r .relocs) rows output ne
+    stages-refused (allBound p (view r .relocs)) p (r .buffer .relocs) (overWords (r .labels) (p .labels)) (r .relocs) ss output ne
 
 -- A refused finish hands back the counts as they were, a record of zeros, and labels, relocations and output as they were.
-pub refused-finish-changes-nothing : (r : Recording) (rows : List (List ℕ)) (output : List ℕ) → finish r rows output .0 .refusal ≢ 0
-    → Unchanged r output (finish r rows output)
+pub refused-finish-changes-nothing : (r : Recording) (ss : List Segment) (output : List ℕ) → finish r ss output .0 .refusal ≢ 0
+    → Unchanged r output (finish r ss output)
 unfolding finish
-refused-finish-changes-nothing r rows output ne =
-    let placed = placedBy (pooled (r .buffer .arch) (view r)) r rows output in
-    picks (Unchanged r output) (eqb (whyUnfit r (length rows) (length output)) 0) (eqb (placed .0 .refusal) 0) _ _ _ refl
+refused-finish-changes-nothing r ss output ne =
+    let placed = placedBy (pooled (r .buffer .arch) (view r)) r ss output in
+    picks (Unchanged r output) (eqb (whyUnfit r (length ss) (length output)) 0) (eqb (placed .0 .refusal) 0) _ _ _ refl
     (λ t.
-    let alone = placed-alone r rows output (eqb-false (placed .0 .refusal) 0 t) in
+    let alone = placed-alone r ss output (eqb-false (placed .0 .refusal) 0 t) in
     record { counts = refl; given = refl; labels = refl; relocs = alone .1; written = alone .2 })
     (record { counts = refl; given = refl; labels = refl; relocs = refl; written = refl })
     ne

@@ -10,6 +10,7 @@ use Rattle.seqs.proofs.Booleans.{both-true}
 use Rattle.seqs.proofs.Numbers.{eq-or-ne}
 use Rattle.seqs.proofs.Overwrites.{length-over}
 use Rattle.words.specs.Words.{wordAt}
+use Rattle.relax.specs.declared.Segment.{Segment}
 use Rattle.relax.specs.declared.LayoutEvent.{LayoutEvent}
 use Rattle.relax.specs.declared.LayoutEvent.the-variants.{Jump, Align}
 use Rattle.buffer.specs.State.{none}
@@ -60,30 +61,30 @@ target-small p c fitting l =
     (eq-or-ne (getD (p .labels) l none) none)
 
 -- With a jump: the finished bytes, the label table as it is left, and the layouts reported.
-pub demand3-holds : (r : Recording) (rows : List (List ℕ)) (output : List ℕ) → finish r rows output .0 .refusal ≡ 0
+pub demand3-holds : (r : Recording) (ss : List Segment) (output : List ℕ) → finish r ss output .0 .refusal ≡ 0
     → hasJump (pooled (r .buffer .arch) (view r)) ≡ true
-    → Demand3 (pooled (r .buffer .arch) (view r)) (finishedCode r rows output) (entries (wordAt (finish r rows output .1 .0)) (r .buffer .labels))
-    (finish r rows output .0 .code .layouts)
-demand3-holds r rows output e jump =
+    → Demand3 (pooled (r .buffer .arch) (view r)) (finishedCode r ss output) (entries (wordAt (finish r ss output .1 .0)) (r .buffer .labels))
+    (finish r ss output .0 .code .layouts)
+demand3-holds r ss output e jump =
     let b = r .buffer in
     let p = pooled (b .arch) (view r) in
     let c = settled p .choice in
-    let a = finish-answered r rows output e in
+    let a = finish-answered r ss output e in
     let sound = a .fit .sound in
     let few = a .fit .few in
     let done = a .jumped jump in
-    let fits = fitting r sound few (x64 r sound few jump) rows output _ _ _ _ (a .fit) (a .bound) done in
+    let fits = fitting r sound few (x64 r sound few jump) ss output _ _ _ _ (a .fit) (a .bound) done in
     let at = labelled r sound few in
     let f : ℕ → ℕ = λ (i : ℕ). moved p c (at .0 i) in
     let all : map (moved p c) (p .labels) ≡ entries f (b .labels) = ap (map (moved p c)) (at .1) ∙ map-entries (moved p c) (at .0) (b .labels) in
     let table : List ℕ = overWords (r .labels) (p .labels) in
     let small : (i : ℕ) → i < b .labels → f i < 4294967296 =
     λ i h. subst (λ (x : ℕ). moved p c x < 4294967296) (ap (λ (l : List ℕ). getD l i none) (at .1) ∙ getD-entries (at .0) (b .labels) i none h) (target-small p c fits i) in
-    let read : entries (wordAt (finish r rows output .1 .0)) (b .labels) ≡ map (moved p c) (p .labels) =
+    let read : entries (wordAt (finish r ss output .1 .0)) (b .labels) ≡ map (moved p c) (p .labels) =
     ap (λ (t : List ℕ). entries (wordAt t) (b .labels)) (done .mapped ∙ ap (overWords table) all)
     ∙ words-read f table (b .labels) (omega (arith, sound .labels .room, length-over (r .labels) 0 (bytesOfAll (p .labels)))) small
     ∙ sym all in
-    subst (Demand3 p (finishedCode r rows output) (entries (wordAt (finish r rows output .1 .0)) (b .labels))) (sym (done .rounds))
-    (subst (λ (l : List ℕ). Demand3 p (finishedCode r rows output) l (settled p .rounds)) (labels-same p c (fits .formed) ∙ sym read)
+    subst (Demand3 p (finishedCode r ss output) (entries (wordAt (finish r ss output .1 .0)) (b .labels))) (sym (done .rounds))
+    (subst (λ (l : List ℕ). Demand3 p (finishedCode r ss output) l (settled p .rounds)) (labels-same p c (fits .formed) ∙ sym read)
     (subst (λ (l : List ℕ). Demand3 p l (map (mapOffset (segmentsOf p c)) (p .labels)) (settled p .rounds)) (built-assembled p c (fits .formed) ∙ sym (done .is))
     (demand3 p (fits .formed) (bounds (p .labels) (p .events) (all-jumps-bound p (view r .relocs) (a .bound))))))

@@ -22,6 +22,7 @@ use Rattle.fields.specs.Reach.{canReach, reachRefusal}
 use Rattle.relax.specs.declared.LayoutEvent.{LayoutEvent}
 use Rattle.relax.specs.declared.LayoutEvent.the-variants.{Jump, Align}
 use Rattle.relax.specs.declared.RelaxableJump.{RelaxableJump}
+use Rattle.relax.specs.declared.Segment.{Segment}
 use Rattle.relax.specs.Events.{conditionOf, eventOf, eventAt, endOf}
 use Rattle.buffer.specs.declared.CodeBuffer.{CodeBuffer}
 use Rattle.buffer.specs.State.{none}
@@ -165,8 +166,8 @@ module _ (r : Recording) (s : Sound r) (few : r .buffer .asked ≤ 65536) where
       (l, ap (λ (x : List tables.Ref). getD x i (record { offset = 0; label = 0; code = 0; addend = 0 })) e ∙ getD-entries (tables.refAt (r .refs)) (b .refs) i _ l)
 
   -- without a jump
-  pub reaching : (rows : List (List ℕ)) (output code : List ℕ) → Bytes (r .code) → Fit r rows output → Kept p output code → Reaching p
-  reaching rows output code bytes fit kept =
+  pub reaching : (ss : List Segment) (output code : List ℕ) → Bytes (r .code) → Fit r ss output → Kept p output code → Reaching p
+  reaching ss output code bytes fit kept =
       record {
         bytes = bytes-pooled (b .arch) (tables.view r) (length (tables.view r .asked)) (bytes-take (b .code) (r .code) bytes);
         recorded = omega (arith, fit .small);
@@ -274,9 +275,9 @@ module _ (r : Recording) (s : Sound r) (few : r .buffer .asked ≤ 65536) where
         (subst (λ (a : ℕ). foreign (decoded (wordAt (r .refs) (i * 4 + 2))) a ≡ false) is64 sound)
 
     -- with a jump
-    pub fitting : (rows : List (List ℕ)) (output labels code table : List ℕ) (layouts : ℕ) → Fit r rows output
+    pub fitting : (ss : List Segment) (output labels code table : List ℕ) (layouts : ℕ) → Fit r ss output
         → allBound p (tables.view r .relocs) ≡ true → Assembled p labels output code table layouts → Fitting p (settled p .choice)
-    fitting rows output labels code table layouts fit bounds done =
+    fitting ss output labels code table layouts fit bounds done =
         let c = settled p .choice in
         record {
           formed = formed (done .clear);

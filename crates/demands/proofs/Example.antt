@@ -9,6 +9,7 @@ use Rattle.fields.specs.Patch.{patched}
 use Rattle.seqs.specs.Over.{over}
 use Rattle.seqs.specs.Pick.{pick}
 use Rattle.words.specs.Words.{wordAt}
+use Rattle.relax.specs.declared.Segment.{Segment}
 use Rattle.relax.specs.Events.{conditionOf, eventOf, eventAt}
 use Rattle.buffer.specs.Refusals.{standing, lastEnd}
 use Rattle.checks.specs.Entries.{all, formFits, eventFits, keptOnly, eventsFit, outside, labelFits, labelsFit, usesFit, refsFit, relocsFit, constantsFit, orderFits, entriesFit}
@@ -37,16 +38,20 @@ jumping =
       relocs = [];
     }
 
-abbrev pub rows : List (List ℕ)
-rows = (0 ∷ 0 ∷ 0 ∷ 0 ∷ []) ∷ []
+abbrev pub table : List Segment
+table = record { «old_start» = 0; «old_end» = 0; «new_start» = 0; «new_end» = 0 } ∷ []
+
+-- the same with the settled segment
+abbrev pub settled-table : List Segment
+settled-table = record { «old_start» = 0; «old_end» = 2; «new_start» = 0; «new_end» = 2 } ∷ []
 
 -- Finish takes it, and its code is JMP -2.
-pub met : (finish jumping rows (0 ∷ 0 ∷ 0 ∷ []) .0 .refusal ≡ 0) × (finishedCode jumping rows (0 ∷ 0 ∷ 0 ∷ []) ≡ 0xEB ∷ 0xFE ∷ [])
+pub met : (finish jumping table (0 ∷ 0 ∷ 0 ∷ []) .0 .refusal ≡ 0) × (finishedCode jumping table (0 ∷ 0 ∷ 0 ∷ []) ≡ 0xEB ∷ 0xFE ∷ [])
 unfolding over pick wordAt conditionOf eventOf eventAt standing lastEnd all formFits eventFits keptOnly eventsFit outside labelFits labelsFit usesFit refsFit relocsFit constantsFit orderFits entriesFit form width items writes ends stands moved reaches isFar farOf any settle fillRefs displacement fillJump fillJumps fillPool fill assembled segments every countsFit withinLimits poolBoundBefore allBound whyNotLaid whyNotWritten whyUnfit relocated relaxed placedBy finish
 met = (refl, refl)
 
 -- Into an output of one byte it is refused with 23, after the layout: the settled segment stands in the table, and the output is as it was.
-pub refused-after-the-layout : (finish jumping rows (7 ∷ []) .0 .refusal ≡ 23) × (finish jumping rows (7 ∷ []) .1 .1 .1 ≡ (((0 ∷ 2 ∷ 0 ∷ 2 ∷ []) ∷ []), (7 ∷ [])))
+pub refused-after-the-layout : (finish jumping table (7 ∷ []) .0 .refusal ≡ 23) × (finish jumping table (7 ∷ []) .1 .1 .1 ≡ (settled-table, (7 ∷ [])))
 unfolding over pick wordAt conditionOf eventOf eventAt standing lastEnd all formFits eventFits keptOnly eventsFit outside labelFits labelsFit usesFit refsFit relocsFit constantsFit orderFits entriesFit form width items writes ends stands moved reaches isFar farOf any settle fillRefs displacement fillJump fillJumps fillPool fill assembled segments every countsFit withinLimits poolBoundBefore allBound whyNotLaid whyNotWritten whyUnfit relocated relaxed placedBy finish
 refused-after-the-layout = (refl, refl)
 

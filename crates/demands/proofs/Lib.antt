@@ -14,3 +14,4 @@ pub mod Demand2
 pub mod Demand3
 pub mod Example
 pub mod Demand1
+pub mod Boundary

@@ -13,6 +13,7 @@ use Rattle.seqs.specs.Over.{over}
 use Rattle.seqs.proofs.Numbers.{eq-or-ne}
 use Rattle.seqs.proofs.Overwrites.{part-before}
 use Rattle.encoder.specs.Padding.{paddingLength}
+use Rattle.relax.specs.declared.Segment.{Segment}
 use Rattle.buffer.specs.declared.CodeBuffer.{CodeBuffer}
 use Rattle.buffer.specs.declared.Recorded.{Recorded}
 use Rattle.buffer.specs.declared.Made.{Made}
@@ -162,12 +163,12 @@ aligned r s m e =
     (eq-or-ne (r .buffer .arch) 2)
 
 -- Without a jump: the padding of an alignment recorded by a call, whatever calls follow, where no use and no constant covers it.
-pub recorded-padding : (r : Recording) → Sound r → (m : Word) → answered (align m) r ≡ 0 → (later : List Call) (rows : List (List ℕ)) (output : List ℕ)
-    → finish (afterAll later (after (align m) r)) rows output .0 .refusal ≡ 0
+pub recorded-padding : (r : Recording) → Sound r → (m : Word) → answered (align m) r ≡ 0 → (later : List Call) (ss : List Segment) (output : List ℕ)
+    → finish (afterAll later (after (align m) r)) ss output .0 .refusal ≡ 0
     → hasJump (pooled (afterAll later (after (align m) r) .buffer .arch) (view (afterAll later (after (align m) r)))) ≡ false
     → AlignPadded r (m .value) (pooled (afterAll later (after (align m) r) .buffer .arch) (view (afterAll later (after (align m) r))))
-    (finishedCode (afterAll later (after (align m) r)) rows output)
-recorded-padding r s m e later rows output done none uses constants =
+    (finishedCode (afterAll later (after (align m) r)) ss output)
+recorded-padding r s m e later ss output done none uses constants =
     let f = afterAll later (after (align m) r) in
     let arch = f .buffer .arch in
     let v = view f in
@@ -179,7 +180,7 @@ recorded-padding r s m e later rows output done none uses constants =
     begins-on (view (after (align m) r) .code) (v .code) (p .code) (calls-begin later (after (align m) r)) (pooled-begins arch v (length (v .asked))) in
     let is : p .code ≡ view r .code ++ (pad ++ on .more) =
     on .is ∙ ap (λ (l : List ℕ). l ++ on .more) (aligned r s m e) ∙ append-assoc (view r .code) pad (on .more) in
-    is-padding (r .buffer .arch) n (part (finishedCode f rows output) start n)
-    (ap (λ (l : List ℕ). part l start n) (finish-answered f rows output done .straight none .is)
+    is-padding (r .buffer .arch) n (part (finishedCode f ss output) start n)
+    (ap (λ (l : List ℕ). part l start n) (finish-answered f ss output done .straight none .is)
     ∙ all-stay p start n uses constants
     ∙ part-between (p .code) (view r .code) pad (on .more) start n is (sym (length-take-le start (r .code) (s .code .room))) (sym (padding-length (r .buffer .arch) n)))

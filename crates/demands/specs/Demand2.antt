@@ -16,6 +16,7 @@ use Rattle.fields.specs.Kinds.{codeOf, patchSize, decoded}
 use Rattle.fields.specs.Meaning.{meaning, demanded, loadMultiple, Clear}
 use Rattle.relax.specs.declared.LayoutEvent.{LayoutEvent}
 use Rattle.relax.specs.declared.LayoutEvent.the-variants.{Jump, Align}
+use Rattle.relax.specs.declared.Segment.{Segment}
 use Rattle.relax.specs.declared.RelaxableJump.{RelaxableJump}
 use Rattle.buffer.specs.State.{none}
 use Rattle.recording.specs.Calls.{Recording}
@@ -146,8 +147,8 @@ AlignPadded r multiple p code =
     → IsPadding (r .buffer .arch) (paddingLength (r .buffer .code) multiple) (part code (r .buffer .code) (paddingLength (r .buffer .code) multiple))
 
 -- the finished bytes: as many of the output as the answer says
-abbrev pub finishedCode : Recording → List (List ℕ) → List ℕ → List ℕ
-finishedCode r rows output = take (finish r rows output .0 .code .len) (finish r rows output .1 .1 .1 .1)
+abbrev pub finishedCode : Recording → List Segment → List ℕ → List ℕ
+finishedCode r ss output = take (finish r ss output .0 .code .len) (finish r ss output .1 .1 .1 .1)
 
 -- of the finished code of a recording
 pub record Demand2 (r : Recording) (code : List ℕ) : Type 0 where

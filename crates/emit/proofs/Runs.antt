@@ -2,16 +2,15 @@
 use mathlib.Core.Path.{_≡_, refl, sym, ap, _∙_}
 use mathlib.Core.Logic.{⊎-elim}
 use mathlib.Core.Bool.{Bool, false}
-use mathlib.Core.List.{List, [], _∷_, _++_, map, append-assoc}
+use mathlib.Core.List.{List, [], _∷_, _++_, append-assoc}
 use Prim.Native.Nat.{ℕ, zero, suc, _+_, _-_, _≤_, _<_}
 use native.Mathlib.Nat.{not-suc-le-zero, sub-zero}
 use native.Mathlib.Numerals.{add-one}
 use native.Mathlib.Omega.{arith}
-use lib.ListN.{length, getD, take, drop, length-append, length-take, length-drop, length-map, List·getD-map}
+use lib.ListN.{length, getD, take, drop, length-append, length-take, length-drop}
 use lib.Seq.{length-take-le, getD-take, take-take, take-nil}
 use Rattle.seqs.specs.Over.{over}
 use Rattle.seqs.proofs.Numbers.{eq-or-ne}
-use Rattle.seqs.proofs.Lists.{getD-any}
 use Rattle.seqs.proofs.Overwrites.{over-append, over-mid, over-all}
 use Rattle.relax.specs.declared.LayoutEvent.{LayoutEvent}
 use Rattle.relax.specs.declared.LayoutEvent.the-variants.{Align}
@@ -24,7 +23,7 @@ use Rattle.fresh.specs.Segments.{segment, segments}
 use Rattle.fresh.proofs.Shape.{Ordered, runs, Cursor, after, segmentAt, runsTo}
 use Rattle.fresh.proofs.Loops.{length-segments, segments-getD, after-suc, runsTo-suc, runs-all, length-runsTo, length-runs, after-start, after-mono}
 use Rattle.fresh.proofs.Events.{end-is, ordered-le}
-use Rattle.layout.specs.Layout.{rowOf, segmentOf}
+use Rattle.layout.specs.Layout.{zeroSegment}
 use Rattle.emit.specs.Emit.{Emits}
 
 -- lists
@@ -85,22 +84,14 @@ pub form-room : (xs : List ℕ) (event : LayoutEvent) (long : Bool) (start end :
 form-room xs event long start end e h =
     length-take-le (end - start) (drop start xs) (rw (length-drop start xs) (omega arith)) ∙ omega arith
 
--- the table has a row for each event
-table-size : (rows : List (List ℕ)) (es : List LayoutEvent) (n : ℕ) (c : List Bool) → length es ≡ n → take n rows ≡ map rowOf (segments 0 0 es c) → n ≤ length rows
-table-size rows es n c l e =
-    omega (arith, ap length e, length-take n rows, length-map (segments 0 0 es c) rowOf, length-segments es 0 0 c)
+-- the table has a segment for each event
+table-size : (ss : List Segment) (es : List LayoutEvent) (n : ℕ) (c : List Bool) → length es ≡ n → take n ss ≡ segments 0 0 es c → n ≤ length ss
+table-size ss es n c l e = omega (arith, ap length e, length-take n ss, length-segments es 0 0 c)
 
-row-at : (rows : List (List ℕ)) (es : List LayoutEvent) (n : ℕ) (c : List Bool) (i : ℕ) → length es ≡ n → i < n
-    → take n rows ≡ map rowOf (segments 0 0 es c) → segmentOf (getD rows i []) ≡ segmentAt i 0 0 es c
-row-at rows es n c i l h e =
-    let z : Segment = record { «old_start» = 0; «old_end» = 0; «new_start» = 0; «new_end» = 0 } in
-    let k : length (map rowOf (segments 0 0 es c)) ≡ n = length-map (segments 0 0 es c) rowOf ∙ length-segments es 0 0 c ∙ l in
-    let row : getD rows i [] ≡ rowOf (getD (segments 0 0 es c) i z) =
-    sym (getD-take n rows i [] h)
-    ∙ ap (λ (t : List (List ℕ)). getD t i []) e
-    ∙ getD-any (map rowOf (segments 0 0 es c)) i [] (rowOf z) (omega arith)
-    ∙ List·getD-map rowOf (segments 0 0 es c) i z in
-    ap segmentOf row ∙ segments-getD es 0 0 c i z (omega arith)
+segment-at : (ss : List Segment) (es : List LayoutEvent) (n : ℕ) (c : List Bool) (i : ℕ) → length es ≡ n → i < n → take n ss ≡ segments 0 0 es c
+    → getD ss i zeroSegment ≡ segmentAt i 0 0 es c
+segment-at ss es n c i l h e =
+    sym (getD-take n ss i zeroSegment h) ∙ ap (λ (t : List Segment). getD t i zeroSegment) e ∙ segments-getD es 0 0 c i zeroSegment (omega arith)
 
 -- a layout stands within the code
 after-old : (es : List LayoutEvent) (o n len : ℕ) (c : List Bool) (i : ℕ) → Ordered o len es → (after i o n es c) .old ≤ len
@@ -109,7 +100,7 @@ after-old es o n len c zero h = ordered-le o len es h
 after-old [] o n len c (suc i) h = h
 after-old (e ∷ es) o n len c (suc i) h = after-old es (endOf e) ((segment o n e (isLong c)) .«new_end») len (others c) i (h .1)
 
-module _ (output code events : List ℕ) (long : List Bool) (rows : List (List ℕ)) (n len : ℕ) (emits : Emits output code events long rows n len) where
+module _ (output code events : List ℕ) (long : List Bool) (ss : List Segment) (n len : ℕ) (emits : Emits output code events long ss n len) where
   abbrev es : List LayoutEvent
   es = entries (eventAt events) n
 
@@ -119,8 +110,8 @@ module _ (output code events : List ℕ) (long : List Bool) (rows : List (List �
   code-size : length (take len code) ≡ len
   code-size = length-take-le len code (emits .coded)
 
-  pub rows-size : n ≤ length rows
-  rows-size = table-size rows es n long size (emits .laid)
+  pub segments-size : n ≤ length ss
+  segments-size = table-size ss es n long size (emits .laid)
 
   in-order : Ordered 0 (length (take len code)) es
   in-order = rw code-size (emits .ordered)
@@ -138,14 +129,14 @@ module _ (output code events : List ℕ) (long : List Bool) (rows : List (List �
 
   -- event i, and its segment s
   module _ (i old new : ℕ) (here : after i 0 0 es long ≡ record { old = old; new = new }) where
-    module _ (h : i < n) (s : Segment) (e : s ≡ segmentOf (getD rows i [])) where
+    module _ (h : i < n) (s : Segment) (e : s ≡ getD ss i zeroSegment) where
       abbrev event : LayoutEvent
       event = eventAt events i
 
       stands : s ≡ segment old new event (getD long i false)
       unfolding segmentAt
       stands =
-          e ∙ row-at rows es n long i size h (emits .laid)
+          e ∙ segment-at ss es n long i size h (emits .laid)
           ∙ rw (here, getD-entries (eventAt events) n i (Align 0 0 0) h)
 
       next : after (suc i) 0 0 es long ≡ record { old = s .«old_end»; new = s .«new_end» }
@@ -187,7 +178,7 @@ module _ (output code events : List ℕ) (long : List Bool) (rows : List (List �
           ++ (take (s .«old_start» - old) (drop old code) ++ form event (getD long i false) (s .«new_start»))
       one-more =
           let b : s .«old_start» ≡ startOf event = rw stands in
-          let seg : segmentAt i 0 0 es long ≡ s = sym (e ∙ row-at rows es n long i size h (emits .laid)) in
+          let seg : segmentAt i 0 0 es long ≡ s = sym (e ∙ segment-at ss es n long i size h (emits .laid)) in
           runsTo-suc es 0 0 (take len code) long i (omega (arith, size))
           ∙ rw (here, getD-entries (eventAt events) n i (Align 0 0 0) h, seg, run-is old (startOf event) len code (omega (arith, starts, b)), b)
 

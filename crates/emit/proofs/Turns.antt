@@ -16,25 +16,26 @@ use Rattle.words.proofs.Laws.{wordAt-other}
 use Rattle.relax.specs.declared.RelaxableJump.{RelaxableJump}
 use Rattle.relax.specs.declared.LayoutEvent.{LayoutEvent}
 use Rattle.relax.specs.declared.LayoutEvent.the-variants.{Jump, Align}
+use Rattle.relax.specs.declared.Segment.{Segment}
 use Rattle.relax.specs.Events.{eventAt}
 use Rattle.fresh.specs.Fill.{displacementSize, displacement}
-use Rattle.emit.specs.Emit.{useFilled, usesFilled, refFilled, refsFilled, refReaches, refsReach, jumpFilled, jumpsFilled, endAt, JumpWithin, mappedWords}
+use Rattle.emit.specs.Emit.{useFilled, usesFilled, refAt, refFilled, refsFilled, refReaches, refsReach, jumpFilled, jumpsFilled, endAt, JumpWithin, mappedWords}
 
 pub uses-turn : (output uses labels : List ℕ) (i : ℕ) (now next : List ℕ) → now ≡ usesFilled output uses labels i → next ≡ useFilled uses labels i now
     → next ≡ usesFilled output uses labels (i + 1)
 unfolding usesFilled
 uses-turn output uses labels i now next e f = f ∙ rw (e, add-one i)
 
-pub refs-turn : (output refs labels : List ℕ) (rows : List (List ℕ)) (n i : ℕ) (now next : List ℕ) → now ≡ refsFilled output refs labels rows n i
-    → next ≡ refFilled refs labels rows n i now → next ≡ refsFilled output refs labels rows n (i + 1)
+pub refs-turn : (output refs labels : List ℕ) (ss : List Segment) (n i : ℕ) (now next : List ℕ) → now ≡ refsFilled output refs labels ss n i
+    → next ≡ refFilled refs labels (refAt refs ss n i) i now → next ≡ refsFilled output refs labels ss n (i + 1)
 unfolding refsFilled
-refs-turn output refs labels rows n i now next e f = f ∙ rw (e, add-one i)
+refs-turn output refs labels ss n i now next e f = f ∙ rw (e, add-one i)
 
-pub jumps-turn : (output events labels : List ℕ) (long : List Bool) (rows : List (List ℕ)) (i : ℕ) (now next : List ℕ)
-    → now ≡ jumpsFilled output events labels long rows i → next ≡ jumpFilled labels (eventAt events i) (getD long i false) (endAt rows i) now
-    → next ≡ jumpsFilled output events labels long rows (i + 1)
+pub jumps-turn : (output events labels : List ℕ) (long : List Bool) (ss : List Segment) (i : ℕ) (now next : List ℕ)
+    → now ≡ jumpsFilled output events labels long ss i → next ≡ jumpFilled labels (eventAt events i) (getD long i false) (endAt ss i) now
+    → next ≡ jumpsFilled output events labels long ss (i + 1)
 unfolding jumpsFilled
-jumps-turn output events labels long rows i now next e f = f ∙ rw (e, add-one i)
+jumps-turn output events labels long ss i now next e f = f ∙ rw (e, add-one i)
 
 pub length-jumpFilled : (labels : List ℕ) (event : LayoutEvent) (long : Bool) (end : ℕ) (l : List ℕ) → length (jumpFilled labels event long end l) ≡ length l
 unfolding jumpFilled
@@ -45,20 +46,20 @@ and-false : (t : Bool) → (t && false) ≡ false
 and-false true = refl
 and-false false = refl
 
-pub one-short : (refs labels : List ℕ) (rows : List (List ℕ)) (n i count : ℕ) → i < count → refReaches refs labels rows n i ≡ false
-    → refsReach refs labels rows n count ≡ false
+pub one-short : (refs labels : List ℕ) (ss : List Segment) (n i count : ℕ) → i < count → refReaches refs labels ss n i ≡ false
+    → refsReach refs labels ss n count ≡ false
 unfolding refsReach
-one-short refs labels rows n i zero h e = absurd (not-suc-le-zero h)
-one-short refs labels rows n i (suc count) h e =
+one-short refs labels ss n i zero h e = absurd (not-suc-le-zero h)
+one-short refs labels ss n i (suc count) h e =
     ⊎-elim
-    (λ (same : i ≡ count). rw (← same, e) (and-false (refsReach refs labels rows n i)))
-    (λ other. rw (one-short refs labels rows n i count (omega arith) e))
+    (λ (same : i ≡ count). rw (← same, e) (and-false (refsReach refs labels ss n i)))
+    (λ other. rw (one-short refs labels ss n i count (omega arith) e))
     (eq-or-ne i count)
 
-pub all-reach : (refs labels : List ℕ) (rows : List (List ℕ)) (n i : ℕ) → refsReach refs labels rows n i ≡ true → refReaches refs labels rows n i ≡ true
-    → refsReach refs labels rows n (i + 1) ≡ true
+pub all-reach : (refs labels : List ℕ) (ss : List Segment) (n i : ℕ) → refsReach refs labels ss n i ≡ true → refReaches refs labels ss n i ≡ true
+    → refsReach refs labels ss n (i + 1) ≡ true
 unfolding refsReach
-all-reach refs labels rows n i h e = rw (add-one i, h, e)
+all-reach refs labels ss n i h e = rw (add-one i, h, e)
 
 -- a word that is none of those mapped
 mapped-other : (f : ℕ → ℕ) (t : List ℕ) (stride i k : ℕ) → ((j : ℕ) → j < i → k ≢ j * stride) → wordAt (mappedWords f t stride i) k ≡ wordAt t k

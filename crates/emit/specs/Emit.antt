@@ -3,7 +3,7 @@
 use mathlib.Core.Path.{_≡_}
 use mathlib.Core.Logic.{_≢_}
 use mathlib.Core.Bool.{Bool, true, false, _&&_}
-use mathlib.Core.List.{List, [], map}
+use mathlib.Core.List.{List}
 use Prim.Native.Nat.{ℕ, zero, suc, _+_, _*_, _-_, _≤_, _<_}
 use lib.ListN.{length, getD, take}
 use Rattle.seqs.specs.Over.{over}
@@ -17,6 +17,7 @@ use Rattle.relax.specs.declared.Condition.{Condition}
 use Rattle.relax.specs.declared.Condition.the-variants.{Always, On}
 use Rattle.relax.specs.declared.LayoutEvent.{LayoutEvent}
 use Rattle.relax.specs.declared.LayoutEvent.the-variants.{Jump, Align}
+use Rattle.relax.specs.declared.Segment.{Segment}
 use Rattle.relax.specs.Events.{eventAt}
 use Rattle.buffer.specs.State.{none}
 use Rattle.recording.specs.View.{entries}
@@ -24,7 +25,7 @@ use Rattle.fresh.specs.Forms.{shortForm, longForm}
 use Rattle.fresh.specs.Segments.{segments, mapOffset}
 use Rattle.fresh.specs.Fill.{fillField, fillUse, displacementSize, displacement}
 use Rattle.fresh.proofs.Shape.{Ordered, runs}
-use Rattle.layout.specs.Layout.{rowOf, segmentOf, tableOf}
+use Rattle.layout.specs.Layout.{zeroSegment}
 
 -- a jump's form, short or long, displacement 0
 abbrev pub jumpForm : Condition → Bool → List ℕ
@@ -52,10 +53,10 @@ abbrev pub Recorded : ℕ → Type 0
 Recorded offset = offset ≢ none → offset ≤ 300000000
 
 -- the events and the runs between them are written: the table of segments is the layout of a choice of long jumps
-pub record Emits (output code events : List ℕ) (long : List Bool) (rows : List (List ℕ)) (n len : ℕ) : Type 0 where
+pub record Emits (output code events : List ℕ) (long : List Bool) (ss : List Segment) (n len : ℕ) : Type 0 where
   pub recorded : n * 20 ≤ length events
   pub chosen : n ≤ length long
-  pub laid : take n rows ≡ map rowOf (segments 0 0 (entries (eventAt events) n) long)
+  pub laid : take n ss ≡ segments 0 0 (entries (eventAt events) n) long
   pub ordered : Ordered 0 len (entries (eventAt events) n)
   pub coded : len ≤ length code
   pub writes : (i : ℕ) → i < n → Writes (eventAt events i)
@@ -79,26 +80,26 @@ pub record UsesFit (room : ℕ) (uses labels : List ℕ) (count : ℕ) : Type 0 
   pub each : (i : ℕ) → i < count → UseFits room uses labels i
 
 -- The refs. An entry is offset, label, code and addend; a ref's field stands where the segments take its offset.
-abbrev pub refAt : List ℕ → List (List ℕ) → ℕ → ℕ → ℕ
-refAt refs rows n i = mapOffset (tableOf rows n) (wordAt refs (i * 4))
+abbrev pub refAt : List ℕ → List Segment → ℕ → ℕ → ℕ
+refAt refs ss n i = mapOffset (take n ss) (wordAt refs (i * 4))
 
-abbrev pub refFilled : List ℕ → List ℕ → List (List ℕ) → ℕ → ℕ → List ℕ → List ℕ
-refFilled refs labels rows n i l =
-    fillField (decoded (wordAt refs (i * 4 + 2))) (refAt refs rows n i) (wordAt labels (wordAt refs (i * 4 + 1))) (wordAt refs (i * 4 + 3)) l
+abbrev pub refFilled : List ℕ → List ℕ → ℕ → ℕ → List ℕ → List ℕ
+refFilled refs labels at i l =
+    fillField (decoded (wordAt refs (i * 4 + 2))) at (wordAt labels (wordAt refs (i * 4 + 1))) (wordAt refs (i * 4 + 3)) l
 
 -- the output with the first refs filled, where the labels have their new offsets
-unfoldable pub refsFilled : List ℕ → List ℕ → List ℕ → List (List ℕ) → ℕ → ℕ → List ℕ
-refsFilled output refs labels rows n zero = output
-refsFilled output refs labels rows n (suc i) = refFilled refs labels rows n i (refsFilled output refs labels rows n i)
+unfoldable pub refsFilled : List ℕ → List ℕ → List ℕ → List Segment → ℕ → ℕ → List ℕ
+refsFilled output refs labels ss n zero = output
+refsFilled output refs labels ss n (suc i) = refFilled refs labels (refAt refs ss n i) i (refsFilled output refs labels ss n i)
 
-pub record RefFits (room : ℕ) (refs labels : List ℕ) (rows : List (List ℕ)) (n i : ℕ) : Type 0 where
+pub record RefFits (room : ℕ) (refs labels : List ℕ) (at i : ℕ) : Type 0 where
   pub entry : i * 16 + 16 ≤ length refs
   pub known : wordAt refs (i * 4 + 1) * 4 + 4 ≤ length labels
-  pub recorded : Recorded (wordAt refs (i * 4))
-  pub within : Within (decoded (wordAt refs (i * 4 + 2))) (refAt refs rows n i) room
+  pub within : Within (decoded (wordAt refs (i * 4 + 2))) at room
 
-pub record RefsFit (room : ℕ) (refs labels : List ℕ) (rows : List (List ℕ)) (n count : ℕ) : Type 0 where
-  pub each : (i : ℕ) → i < count → RefFits room refs labels rows n i
+pub record RefsFit (room : ℕ) (refs labels : List ℕ) (ss : List Segment) (n count : ℕ) : Type 0 where
+  pub recorded : (i : ℕ) → i < count → Recorded (wordAt refs (i * 4))
+  pub each : (i : ℕ) → i < count → RefFits room refs labels (refAt refs ss n i) i
 
 -- whether a field of a kind reaches a label with an addend
 abbrev pub fieldReaches : Decoded → ℕ → ℕ → ℕ → Bool
@@ -107,15 +108,15 @@ fieldReaches Unsupported offset label addend = true
 fieldReaches Unknown offset label addend = true
 
 -- whether ref i does, where the labels have their recorded offsets
-abbrev pub refReaches : List ℕ → List ℕ → List (List ℕ) → ℕ → ℕ → Bool
-refReaches refs labels rows n i =
-    fieldReaches (decoded (wordAt refs (i * 4 + 2))) (refAt refs rows n i)
-    (mapOffset (tableOf rows n) (wordAt labels (wordAt refs (i * 4 + 1)))) (wordAt refs (i * 4 + 3))
+abbrev pub refReaches : List ℕ → List ℕ → List Segment → ℕ → ℕ → Bool
+refReaches refs labels ss n i =
+    fieldReaches (decoded (wordAt refs (i * 4 + 2))) (refAt refs ss n i)
+    (mapOffset (take n ss) (wordAt labels (wordAt refs (i * 4 + 1)))) (wordAt refs (i * 4 + 3))
 
 -- the first refs all do
-unfoldable pub refsReach : List ℕ → List ℕ → List (List ℕ) → ℕ → ℕ → Bool
-refsReach refs labels rows n zero = true
-refsReach refs labels rows n (suc i) = refsReach refs labels rows n i && refReaches refs labels rows n i
+unfoldable pub refsReach : List ℕ → List ℕ → List Segment → ℕ → ℕ → Bool
+refsReach refs labels ss n zero = true
+refsReach refs labels ss n (suc i) = refsReach refs labels ss n i && refReaches refs labels ss n i
 
 pub record RefKnown (refs labels : List ℕ) (i : ℕ) : Type 0 where
   pub entry : i * 16 + 16 ≤ length refs
@@ -132,28 +133,28 @@ jumpFilled labels (Jump j) long end l = over l (end - displacementSize long) (di
 jumpFilled labels (Align start len align) long end l = l
 
 -- where event i ends
-abbrev pub endAt : List (List ℕ) → ℕ → ℕ
-endAt rows i = (segmentOf (getD rows i [])) .«new_end»
+abbrev pub endAt : List Segment → ℕ → ℕ
+endAt ss i = (getD ss i zeroSegment) .«new_end»
 
 -- the output with the first n jumps' displacements
-unfoldable pub jumpsFilled : List ℕ → List ℕ → List ℕ → List Bool → List (List ℕ) → ℕ → List ℕ
-jumpsFilled output events labels long rows zero = output
-jumpsFilled output events labels long rows (suc i) =
-    jumpFilled labels (eventAt events i) (getD long i false) (endAt rows i) (jumpsFilled output events labels long rows i)
+unfoldable pub jumpsFilled : List ℕ → List ℕ → List ℕ → List Bool → List Segment → ℕ → List ℕ
+jumpsFilled output events labels long ss zero = output
+jumpsFilled output events labels long ss (suc i) =
+    jumpFilled labels (eventAt events i) (getD long i false) (endAt ss i) (jumpsFilled output events labels long ss i)
 
 -- a jump's label is in the table, and its displacement in the output
 abbrev pub JumpWithin : LayoutEvent → Bool → ℕ → List ℕ → ℕ → Type 0
 JumpWithin (Jump j) long end labels room = (j .label * 4 + 4 ≤ length labels) × (displacementSize long ≤ end) × (end ≤ room)
 JumpWithin (Align start len align) long end labels room = Unit {0}
 
-pub record JumpFits (room : ℕ) (events labels : List ℕ) (long : List Bool) (rows : List (List ℕ)) (i : ℕ) : Type 0 where
+pub record JumpFits (room : ℕ) (events labels : List ℕ) (long : Bool) (end i : ℕ) : Type 0 where
   pub entry : i * 20 + 20 ≤ length events
-  pub chosen : i < length long
-  pub laid : i < length rows
-  pub within : JumpWithin (eventAt events i) (getD long i false) (endAt rows i) labels room
+  pub within : JumpWithin (eventAt events i) long end labels room
 
-pub record JumpsFit (room : ℕ) (events labels : List ℕ) (long : List Bool) (rows : List (List ℕ)) (n : ℕ) : Type 0 where
-  pub each : (i : ℕ) → i < n → JumpFits room events labels long rows i
+pub record JumpsFit (room : ℕ) (events labels : List ℕ) (long : List Bool) (ss : List Segment) (n : ℕ) : Type 0 where
+  pub chosen : n ≤ length long
+  pub laid : n ≤ length ss
+  pub each : (i : ℕ) → i < n → JumpFits room events labels (getD long i false) (endAt ss i) i
 
 -- The words 0, stride, 2 stride, .. of a table, mapped: labels (stride 1), and relocations' offsets (stride 6).
 unfoldable pub mappedWords : (ℕ → ℕ) → List ℕ → ℕ → ℕ → List ℕ

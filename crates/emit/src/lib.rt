@@ -2,11 +2,11 @@
 // core/relax.rs (see NOTICE).
 ghost use mathlib.Core.Path.{_≡_};
 ghost use mathlib.Core.List.{[], _∷_};
-ghost use mathlib.Core.Bool.{false};
 ghost use Prim.Native.Nat.{_+_, _-_, _*_, _≤_, _<_};
-ghost use lib.ListN.{length, getD, take, drop};
+ghost use lib.ListN.{length, take, drop};
 ghost use Rattle.seqs.specs.Over.{over};
-ghost use Rattle.fields.specs.Kinds.{patchSize};
+ghost use Rattle.words.specs.Words.{wordAt};
+ghost use Rattle.fields.specs.Kinds.{decoded, patchSize};
 ghost use Rattle.fields.specs.Words64.{plus, minus, signExtend};
 ghost use Rattle.fields.specs.Patch.{patched, patchedUse};
 ghost use Rattle.relax.specs.Events.{eventAt};
@@ -15,12 +15,13 @@ ghost use Rattle.fresh.specs.Forms.{shortForm, longForm, form, width};
 ghost use Rattle.fresh.specs.Fill.{part, displacementSize, displacement};
 ghost use Rattle.fresh.specs.Segments.{mapOffset};
 ghost use Rattle.fresh.proofs.Shape.{runs};
-ghost use Rattle.layout.specs.Layout.{tableOf, Rising};
-ghost use Rattle.emit.specs.Emit.{jumpForm, Encodes, Writes, Emits, useFilled, usesFilled, UseFits, UsesFit, refFilled, refsFilled, RefFits, RefsFit, refReaches, refsReach, RefKnown, RefsKnown, jumpFilled, endAt, jumpsFilled, JumpFits, JumpsFit, mappedWords, WordsFit};
+ghost use Rattle.layout.specs.Layout.{Rising};
+ghost use Rattle.emit.specs.Emit.{jumpForm, Encodes, Writes, Emits, useFilled, usesFilled, UseFits, UsesFit, refFilled, refsFilled, RefFits, RefsFit, fieldReaches, refsReach, RefsKnown, jumpFilled, jumpsFilled, JumpFits, JumpsFit, mappedWords, WordsFit};
 use fields::Decoded;
 use fields::LabelUse;
 use relax::Condition;
 use relax::LayoutEvent;
+use relax::Segment;
 
 // The opcodes of the long conditional jumps, by condition.
 pub const LONG_JCC: [[u8; 2]; 16] = [
@@ -131,13 +132,32 @@ fn emit_event(output: &mut [u8], event: LayoutEvent, long: bool, start: u32, end
     );
 }
 
+// Writes the run before event `i` and the event, long or not, where its segment says; the event before ended at `old` and `new`.
+fn emit_segment(
+    output: &mut [u8],
+    code: &[u8],
+    events: &[u8],
+    i: usize,
+    long: bool,
+    segment: Segment,
+    old: usize,
+    new: usize,
+)
+    requires { ⌜ (i * 20 + 20 ≤ length (now events)) × Writes (eventAt (now events) i) ⌝ ∗ ⌜ (old ≤ segment .«old_start») × (segment .«old_start» ≤ length (now code)) × (new + (segment .«old_start» - old) ≤ length (now output)) ⌝ ∗ ⌜ (segment .«new_end» ≡ segment .«new_start» + width (eventAt (now events) i) long (segment .«new_start»)) × (segment .«new_end» ≤ length (now output)) ⌝ }
+    ensures { λ _. ⌜ now (output .exit) ≡ over (over (now (output .entry)) new (take (segment .«old_start» - old) (drop old (now (code .entry))))) (segment .«new_start») (form (eventAt (now (events .entry)) i) long (segment .«new_start»)) ⌝ }
+{
+    let event = relax::event_at(events, i);
+    copy_run(output, code, old, segment.old_start as usize, new);
+    emit_event(output, event, long, segment.new_start, segment.new_end);
+}
+
 // Writes the first `len` bytes of the code, events as their segments say, displacements 0.
 pub fn emit_events(
     output: &mut [u8],
     code: &[u8],
     events: &[u8],
     long: &[bool],
-    segments: &[[u32; 4]],
+    segments: &[Segment],
     n: usize,
     len: usize,
 )
@@ -148,10 +168,8 @@ pub fn emit_events(
     let mut new: usize = 0;
     let mut i: usize = 0;
     while i < n {
-        let event = relax::event_at(events, i);
         let segment = layout::segment_at(segments, i);
-        copy_run(output, code, old, segment.old_start as usize, new);
-        emit_event(output, event, long[i], segment.new_start, segment.new_end);
+        emit_segment(output, code, events, i, long[i], segment, old, new);
         old = segment.old_end as usize;
         new = segment.new_end as usize;
         i += 1;
@@ -205,20 +223,21 @@ pub fn patch_uses(output: &mut [u8], uses: &[u8], labels: &[u8], count: usize)
     }
 }
 
-fn patch_ref(
-    output: &mut [u8],
-    refs: &[u8],
-    labels: &[u8],
-    segments: &[[u32; 4]],
-    n: usize,
-    i: usize,
-)
-    requires { ⌜ Rising (now segments) n ⌝ ∗ ⌜ RefFits (length (now output)) (now refs) (now labels) (now segments) n i ⌝ }
-    ensures { λ _. ⌜ now (output .exit) ≡ refFilled (now (refs .entry)) (now (labels .entry)) (now (segments .entry)) n i (now (output .entry)) ⌝ }
+// The offset of the label that ref `i` names.
+fn ref_label(refs: &[u8], labels: &[u8], i: usize) -> u32
+    requires { ⌜ (i * 16 + 16 ≤ length (now refs)) × (wordAt (now refs) (i * 4 + 1) * 4 + 4 ≤ length (now labels)) ⌝ }
+    ensures { λ r. ⌜ r ≡ wordAt (now (labels .entry)) (wordAt (now (refs .entry)) (i * 4 + 1)) ⌝ }
 {
-    let at = layout::map(segments, n, words::word_at(refs, i * 4));
     let number = words::word_at(refs, i * 4 + 1) as usize;
-    let label = words::word_at(labels, number);
+    words::word_at(labels, number)
+}
+
+// Fills ref `i`, whose field stands at `at`.
+fn patch_ref(output: &mut [u8], refs: &[u8], labels: &[u8], at: u32, i: usize)
+    requires { ⌜ RefFits (length (now output)) (now refs) (now labels) at i ⌝ }
+    ensures { λ _. ⌜ now (output .exit) ≡ refFilled (now (refs .entry)) (now (labels .entry)) at i (now (output .entry)) ⌝ }
+{
+    let label = ref_label(refs, labels, i);
     let kind = LabelUse::from_code(words::word_at(refs, i * 4 + 2));
     let addend = words::word_at(refs, i * 4 + 3);
     match kind {
@@ -233,7 +252,7 @@ pub fn patch_refs(
     output: &mut [u8],
     refs: &[u8],
     labels: &[u8],
-    segments: &[[u32; 4]],
+    segments: &[Segment],
     count: usize,
     n: usize,
 )
@@ -242,7 +261,8 @@ pub fn patch_refs(
 {
     let mut i: usize = 0;
     while i < count {
-        patch_ref(output, refs, labels, segments, n, i);
+        let at = layout::map(segments, n, words::word_at(refs, i * 4));
+        patch_ref(output, refs, labels, at, i);
         i += 1;
     }
 }
@@ -255,13 +275,11 @@ fn distance(at: u32, label: u32, addend: u32) -> u64
     std::num::wrapping_sub_u64(target, at as u64)
 }
 
-fn ref_reaches(refs: &[u8], labels: &[u8], segments: &[[u32; 4]], n: usize, i: usize) -> bool
-    requires { ⌜ Rising (now segments) n ⌝ ∗ ⌜ RefKnown (now refs) (now labels) i ⌝ }
-    ensures { λ r. ⌜ r ≡ refReaches (now (refs .entry)) (now (labels .entry)) (now (segments .entry)) n i ⌝ }
+// Whether ref `i` does, its field at `at` and its label at `label`.
+fn ref_reaches(refs: &[u8], at: u32, label: u32, i: usize) -> bool
+    requires { ⌜ i * 16 + 16 ≤ length (now refs) ⌝ }
+    ensures { λ r. ⌜ r ≡ fieldReaches (decoded (wordAt (now (refs .entry)) (i * 4 + 2))) at label (wordAt (now (refs .entry)) (i * 4 + 3)) ⌝ }
 {
-    let at = layout::map(segments, n, words::word_at(refs, i * 4));
-    let number = words::word_at(refs, i * 4 + 1) as usize;
-    let label = layout::map(segments, n, words::word_at(labels, number));
     let kind = LabelUse::from_code(words::word_at(refs, i * 4 + 2));
     let far = distance(at, label, words::word_at(refs, i * 4 + 3));
     match kind {
@@ -272,13 +290,15 @@ fn ref_reaches(refs: &[u8], labels: &[u8], segments: &[[u32; 4]], n: usize, i: u
 }
 
 // Whether every ref reaches its label, where the labels have their recorded offsets.
-pub fn refs_reach(refs: &[u8], labels: &[u8], segments: &[[u32; 4]], count: usize, n: usize) -> bool
+pub fn refs_reach(refs: &[u8], labels: &[u8], segments: &[Segment], count: usize, n: usize) -> bool
     requires { ⌜ Rising (now segments) n ⌝ ∗ ⌜ RefsKnown (now refs) (now labels) count ⌝ }
     ensures { λ r. ⌜ r ≡ refsReach (now (refs .entry)) (now (labels .entry)) (now (segments .entry)) n count ⌝ }
 {
     let mut i: usize = 0;
     while i < count {
-        if !ref_reaches(refs, labels, segments, n, i) {
+        let at = layout::map(segments, n, words::word_at(refs, i * 4));
+        let label = layout::map(segments, n, ref_label(refs, labels, i));
+        if !ref_reaches(refs, at, label, i) {
             return false;
         }
         i += 1;
@@ -304,24 +324,16 @@ fn put_displacement(output: &mut [u8], long: bool, end: u32, label: u32)
     LabelUse::X86BranchRel8.patch_with_addend(&mut output[at as usize..end as usize], at, label, 0);
 }
 
-fn patch_jump(
-    output: &mut [u8],
-    events: &[u8],
-    labels: &[u8],
-    long: &[bool],
-    segments: &[[u32; 4]],
-    i: usize,
-)
-    requires { ⌜ JumpFits (length (now output)) (now events) (now labels) (now long) (now segments) i ⌝ }
-    ensures { λ _. ⌜ now (output .exit) ≡ jumpFilled (now (labels .entry)) (eventAt (now (events .entry)) i) (getD (now (long .entry)) i false) (endAt (now (segments .entry)) i) (now (output .entry)) ⌝ }
+// Writes the displacement of event `i`, long or not, that ends at `end`, if it is a jump.
+fn patch_jump(output: &mut [u8], events: &[u8], labels: &[u8], long: bool, end: u32, i: usize)
+    requires { ⌜ JumpFits (length (now output)) (now events) (now labels) long end i ⌝ }
+    ensures { λ _. ⌜ now (output .exit) ≡ jumpFilled (now (labels .entry)) (eventAt (now (events .entry)) i) long end (now (output .entry)) ⌝ }
 {
     let event = relax::event_at(events, i);
-    let segment = layout::segment_at(segments, i);
-    let is_long = long[i];
     match event {
         LayoutEvent::Jump(jump) => {
             let label = words::word_at(labels, jump.label as usize);
-            put_displacement(output, is_long, segment.new_end, label);
+            put_displacement(output, long, end, label);
         }
         LayoutEvent::Align {
             start: _,
@@ -337,7 +349,7 @@ pub fn patch_jumps(
     events: &[u8],
     labels: &[u8],
     long: &[bool],
-    segments: &[[u32; 4]],
+    segments: &[Segment],
     n: usize,
 )
     requires { ⌜ JumpsFit (length (now output)) (now events) (now labels) (now long) (now segments) n ⌝ }
@@ -345,15 +357,16 @@ pub fn patch_jumps(
 {
     let mut i: usize = 0;
     while i < n {
-        patch_jump(output, events, labels, long, segments, i);
+        let segment = layout::segment_at(segments, i);
+        patch_jump(output, events, labels, long[i], segment.new_end, i);
         i += 1;
     }
 }
 
-// Maps the words 0, `stride`, 2 `stride`, .. of a table.
-fn map_words(table: &mut [u8], segments: &[[u32; 4]], stride: usize, count: usize, n: usize)
+// Maps the words 0, `stride`, 2 `stride`, .. of a table: labels (stride 1), and relocations' offsets (stride 6).
+pub fn map_words(table: &mut [u8], segments: &[Segment], stride: usize, count: usize, n: usize)
     requires { ⌜ Rising (now segments) n ⌝ ∗ ⌜ WordsFit (now table) stride count ⌝ }
-    ensures { λ _. ⌜ now (table .exit) ≡ mappedWords (mapOffset (tableOf (now (segments .entry)) n)) (now (table .entry)) stride count ⌝ }
+    ensures { λ _. ⌜ now (table .exit) ≡ mappedWords (mapOffset (take n (now (segments .entry)))) (now (table .entry)) stride count ⌝ }
 {
     let mut i: usize = 0;
     while i < count {
@@ -362,20 +375,4 @@ fn map_words(table: &mut [u8], segments: &[[u32; 4]], stride: usize, count: usiz
         words::put_word(table, k, layout::map(segments, n, offset));
         i += 1;
     }
-}
-
-// Takes the labels to their new offsets.
-pub fn map_labels(labels: &mut [u8], segments: &[[u32; 4]], count: usize, n: usize)
-    requires { ⌜ Rising (now segments) n ⌝ ∗ ⌜ WordsFit (now labels) 1 count ⌝ }
-    ensures { λ _. ⌜ now (labels .exit) ≡ mappedWords (mapOffset (tableOf (now (segments .entry)) n)) (now (labels .entry)) 1 count ⌝ }
-{
-    map_words(labels, segments, 1, count, n);
-}
-
-// Takes the relocations to their new offsets.
-pub fn map_relocs(relocs: &mut [u8], segments: &[[u32; 4]], count: usize, n: usize)
-    requires { ⌜ Rising (now segments) n ⌝ ∗ ⌜ WordsFit (now relocs) 6 count ⌝ }
-    ensures { λ _. ⌜ now (relocs .exit) ≡ mappedWords (mapOffset (tableOf (now (segments .entry)) n)) (now (relocs .entry)) 6 count ⌝ }
-{
-    map_words(relocs, segments, 6, count, n);
 }

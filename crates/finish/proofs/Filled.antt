@@ -4,7 +4,7 @@ use mathlib.Core.Bool.{Bool, false}
 use mathlib.Core.List.{List, [], _∷_, _++_, append-assoc, append-nil}
 use Prim.Native.Nat.{ℕ, zero, suc, _+_, _-_, _*_, _<_}
 use native.Mathlib.Omega.{arith}
-use lib.ListN.{length, getD}
+use lib.ListN.{length, getD, take}
 use Rattle.seqs.specs.Over.{over}
 use Rattle.words.specs.Words.{wordAt}
 use Rattle.fields.specs.Kinds.{decoded}
@@ -23,7 +23,6 @@ use Rattle.fresh.specs.Segments.{mapOffset}
 use Rattle.fresh.specs.Fill.{fillField, fillRefs, fillJump, fillJumps, fillPool, fillUse, fillUses}
 use Rattle.fresh.proofs.Choices.{isLong-getD, others-getD, firstEnd-getD, otherEnds-getD}
 use Rattle.pool.specs.Pool.{labelAt, poolOffset, poolEvent, poolWritten}
-use Rattle.layout.specs.Layout.{tableOf}
 use Rattle.emit.specs.Emit.{usesFilled, refsFilled, jumpFilled, jumpsFilled, endAt}
 use Rattle.finish.specs.Tables.{poolPlaced}
 
@@ -35,14 +34,14 @@ fillRefs-more at labels [] f l = refl
 fillRefs-more at labels (r ∷ rs) f l = fillRefs-more at labels rs f _
 
 -- the refs, where the table of labels holds new offsets
-pub refs-filled : (output refs labels recorded : List ℕ) (rows : List (List ℕ)) (ss : List Segment) (n count : ℕ) → tableOf rows n ≡ ss
-    → ((i : ℕ) → i < count → wordAt labels (wordAt refs (i * 4 + 1)) ≡ mapOffset ss (getD recorded (wordAt refs (i * 4 + 1)) none))
-    → refsFilled output refs labels rows n count ≡ fillRefs (mapOffset ss) recorded (tables.entries (tables.refAt refs) count) output
+pub refs-filled : (output refs labels recorded : List ℕ) (ss : List Segment) (made : List Segment) (n count : ℕ) → take n ss ≡ made
+    → ((i : ℕ) → i < count → wordAt labels (wordAt refs (i * 4 + 1)) ≡ mapOffset made (getD recorded (wordAt refs (i * 4 + 1)) none))
+    → refsFilled output refs labels ss n count ≡ fillRefs (mapOffset made) recorded (tables.entries (tables.refAt refs) count) output
 unfolding refsFilled fillRefs
-refs-filled output refs labels recorded rows ss n zero t known = refl
-refs-filled output refs labels recorded rows ss n (suc i) t known =
-    rw (refs-filled output refs labels recorded rows ss n i t (λ j h. known j (omega arith)), known i (omega arith), t)
-    (sym (fillRefs-more (mapOffset ss) recorded (tables.entries (tables.refAt refs) i) (tables.refAt refs i) output))
+refs-filled output refs labels recorded ss made n zero t known = refl
+refs-filled output refs labels recorded ss made n (suc i) t known =
+    rw (refs-filled output refs labels recorded ss made n i t (λ j h. known j (omega arith)), known i (omega arith), t)
+    (sym (fillRefs-more (mapOffset made) recorded (tables.entries (tables.refAt refs) i) (tables.refAt refs i) output))
 
 fillUses-more : (labels : List ℕ) (us : List tables.Use) (u : tables.Use) (l : List ℕ)
     → fillUses labels (us ++ (u ∷ [])) l ≡ fillUse (decoded (u .code)) (u .offset) (getD labels (u .label) none) (fillUses labels us l)
@@ -104,22 +103,22 @@ jump-filled at labels recorded (Jump j) long end l known = rw (known j refl)
 jump-filled at labels recorded (Align start len align) long end l known = refl
 
 -- the jumps of the table, where the table of labels holds new offsets
-table-filled : (output events labels recorded : List ℕ) (c : Choice) (rows : List (List ℕ)) (at : ℕ → ℕ) (ends : List ℕ) (n : ℕ)
-    → ((i : ℕ) → i < n → endAt rows i ≡ getD ends i 0)
+table-filled : (output events labels recorded : List ℕ) (c : Choice) (ss : List Segment) (at : ℕ → ℕ) (ends : List ℕ) (n : ℕ)
+    → ((i : ℕ) → i < n → endAt ss i ≡ getD ends i 0)
     → ((i : ℕ) (j : RelaxableJump) → i < n → eventAt events i ≡ Jump j → wordAt labels (j .label) ≡ at (getD recorded (j .label) none))
-    → jumpsFilled output events labels c rows n ≡ fillJumps at recorded (tables.entries (eventAt events) n) c ends output
+    → jumpsFilled output events labels c ss n ≡ fillJumps at recorded (tables.entries (eventAt events) n) c ends output
 unfolding jumpsFilled fillJumps
-table-filled output events labels recorded c rows at ends zero same known = refl
-table-filled output events labels recorded c rows at ends (suc n) same known =
-    rw (table-filled output events labels recorded c rows at ends n (λ i h. same i (omega arith)) (λ i j h. known i j (omega arith)), same n (omega arith))
+table-filled output events labels recorded c ss at ends zero same known = refl
+table-filled output events labels recorded c ss at ends (suc n) same known =
+    rw (table-filled output events labels recorded c ss at ends n (λ i h. same i (omega arith)) (λ i j h. known i j (omega arith)), same n (omega arith))
     (jump-filled at labels recorded (eventAt events n) (getD c n false) (getD ends n 0) _ (λ j e. known n j (omega arith) e)
     ∙ sym (fillJumps-append at recorded (tables.entries (eventAt events) n) (eventAt events n) c ends output ∙ rw (length-entries (eventAt events) n)))
 
-pub jumps-filled : (output events labels recorded constants asked : List ℕ) (c : Choice) (rows : List (List ℕ)) (at : ℕ → ℕ) (ends : List ℕ) (n from m : ℕ)
-    → ((i : ℕ) → i < n → endAt rows i ≡ getD ends i 0)
+pub jumps-filled : (output events labels recorded constants asked : List ℕ) (c : Choice) (ss : List Segment) (at : ℕ → ℕ) (ends : List ℕ) (n from m : ℕ)
+    → ((i : ℕ) → i < n → endAt ss i ≡ getD ends i 0)
     → ((i : ℕ) (j : RelaxableJump) → i < n → eventAt events i ≡ Jump j → wordAt labels (j .label) ≡ at (getD recorded (j .label) none))
-    → jumpsFilled output events labels c rows n
+    → jumpsFilled output events labels c ss n
     ≡ fillJumps at recorded (tables.entries (eventAt events) n ++ tables.entries (poolEvent from constants asked) m) c ends output
-jumps-filled output events labels recorded constants asked c rows at ends n from m same known =
-    table-filled output events labels recorded c rows at ends n same known
+jumps-filled output events labels recorded constants asked c ss at ends n from m same known =
+    table-filled output events labels recorded c ss at ends n same known
     ∙ sym (pool-fills-nothing at recorded (tables.entries (eventAt events) n) c ends output from constants asked m)

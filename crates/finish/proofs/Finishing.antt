@@ -10,10 +10,11 @@ use lib.Dec.{eqb}
 use lib.ListN.{length, getD}
 use Rattle.seqs.specs.Pick.{pick}
 use Rattle.seqs.proofs.Booleans.{both-false}
-use Rattle.seqs.proofs.Numbers.{lt-or-ge}
+use Rattle.seqs.proofs.Numbers.{lt-or-ge, eq-or-ne}
 use Rattle.seqs.proofs.Overwrites.{over-nil}
 use Rattle.seqs.proofs.Picking.{yes-eq, no-eq}
 use Rattle.words.specs.Words.{wordAt, setWord}
+use Rattle.relax.specs.declared.Segment.{Segment}
 use Rattle.buffer.specs.declared.CodeBuffer.{CodeBuffer}
 use Rattle.buffer.specs.State.{none}
 use Rattle.recording.specs.Calls.{Recording}
@@ -26,7 +27,7 @@ use Rattle.finish.specs.declared.Outcome.{Outcome}
 use Rattle.finish.specs.declared.Finished.{Finished}
 use Rattle.finish.specs.Refusals.{allBound, hasJump, whyNotLaid, whyNotWritten, whyNotInPlace, whyUnfit}
 use Rattle.finish.specs.Finish.{overWords, Left, refusedWith, relaxed, unrelaxed, finishedWith, unfinished, placedBy, finish}
-use Rattle.finish.specs.Ready.{Ready, Placeable, pooledOf, placedAs}
+use Rattle.finish.specs.Ready.{Ready, Placeable, pooledOf, placedAs, concluded}
 use Rattle.finish.proofs.Sounds.{pool-distinct, offsets-small, pooled-is, ready}
 use Rattle.finish.proofs.Fit.{limits, asked-few, sound, Passed}
 use Rattle.finish.proofs.Mapped.{set-over-words, over-words-set}
@@ -86,42 +87,42 @@ module _ (Q : Left → Type 0) where
   placed-picks false t x y z a b c ne = c
 
 -- A stage that is refused leaves them so, with a jump and without one.
-relaxed-refused : (p : Pooled) (count : ℕ) (labels relocs : List ℕ) (rows : List (List ℕ)) (output : List ℕ)
-    → relaxed p count labels relocs rows output .0 .refusal ≢ 0 → LeftAlone labels relocs output (relaxed p count labels relocs rows output .1)
+relaxed-refused : (p : Pooled) (count : ℕ) (labels relocs : List ℕ) (ss : List Segment) (output : List ℕ)
+    → relaxed p count labels relocs ss output .0 .refusal ≢ 0 → LeftAlone labels relocs output (relaxed p count labels relocs ss output .1)
 unfolding relaxed
-relaxed-refused p count labels relocs rows output ne =
-    relaxed-picks (LeftAlone labels relocs output) (eqb (whyNotLaid p (length rows)) 0) (eqb (whyNotWritten p (length output)) 0) _ _ _ refl (refl, refl, refl) (refl, refl, refl) ne
+relaxed-refused p count labels relocs ss output ne =
+    relaxed-picks (LeftAlone labels relocs output) (eqb (whyNotLaid p (length ss)) 0) (eqb (whyNotWritten p (length output)) 0) _ _ _ refl (refl, refl, refl) (refl, refl, refl) ne
 
-unrelaxed-refused : (p : Pooled) (labels relocs : List ℕ) (rows : List (List ℕ)) (output : List ℕ)
-    → unrelaxed p labels relocs rows output .0 .refusal ≢ 0 → LeftAlone labels relocs output (unrelaxed p labels relocs rows output .1)
+unrelaxed-refused : (p : Pooled) (labels relocs : List ℕ) (ss : List Segment) (output : List ℕ)
+    → unrelaxed p labels relocs ss output .0 .refusal ≢ 0 → LeftAlone labels relocs output (unrelaxed p labels relocs ss output .1)
 unfolding unrelaxed
-unrelaxed-refused p labels relocs rows output ne =
+unrelaxed-refused p labels relocs ss output ne =
     unrelaxed-pick (LeftAlone labels relocs output) (eqb (whyNotInPlace p (length output)) 0) _ _ refl (refl, refl, refl) ne
 
-pub stages-refused : (bound : Bool) (p : Pooled) (count : ℕ) (labels relocs : List ℕ) (rows : List (List ℕ)) (output : List ℕ)
-    → pick bound (pick (hasJump p) (relaxed p count labels relocs rows output) (unrelaxed p labels relocs rows output)) (refusedWith 15, (labels, (relocs, (rows, output)))) .0 .refusal ≢ 0
-    → LeftAlone labels relocs output (pick bound (pick (hasJump p) (relaxed p count labels relocs rows output) (unrelaxed p labels relocs rows output)) (refusedWith 15, (labels, (relocs, (rows, output)))) .1)
-stages-refused bound p count labels relocs rows output ne =
-    placed-picks (LeftAlone labels relocs output) bound (hasJump p) _ _ _ (relaxed-refused p count labels relocs rows output) (unrelaxed-refused p labels relocs rows output) (refl, refl, refl) ne
+pub stages-refused : (bound : Bool) (p : Pooled) (count : ℕ) (labels relocs : List ℕ) (ss : List Segment) (output : List ℕ)
+    → pick bound (pick (hasJump p) (relaxed p count labels relocs ss output) (unrelaxed p labels relocs ss output)) (refusedWith 15, (labels, (relocs, (ss, output)))) .0 .refusal ≢ 0
+    → LeftAlone labels relocs output (pick bound (pick (hasJump p) (relaxed p count labels relocs ss output) (unrelaxed p labels relocs ss output)) (refusedWith 15, (labels, (relocs, (ss, output)))) .1)
+stages-refused bound p count labels relocs ss output ne =
+    placed-picks (LeftAlone labels relocs output) bound (hasJump p) _ _ _ (relaxed-refused p count labels relocs ss output) (unrelaxed-refused p labels relocs ss output) (refl, refl, refl) ne
 
-refused-labels : (p : Pooled) (b : CodeBuffer) (labels relocs : List ℕ) (rows : List (List ℕ)) (output : List ℕ)
-    → placedAs p b labels relocs rows output .0 .refusal ≢ 0 → placedAs p b labels relocs rows output .1 .0 ≡ labels
+refused-labels : (p : Pooled) (b : CodeBuffer) (labels relocs : List ℕ) (ss : List Segment) (output : List ℕ)
+    → placedAs p b labels relocs ss output .0 .refusal ≢ 0 → placedAs p b labels relocs ss output .1 .0 ≡ labels
 unfolding placedAs
-refused-labels p b labels relocs rows output ne =
-    stages-refused (allBound p (entries (relocAt relocs) (b .relocs))) p (b .relocs) labels relocs rows output ne .0
+refused-labels p b labels relocs ss output ne =
+    stages-refused (allBound p (entries (relocAt relocs) (b .relocs))) p (b .relocs) labels relocs ss output ne .0
 
-module _ (r : Recording) (rows : List (List ℕ)) (output : List ℕ) (pass : Passed r (length rows) (length output)) where
+module _ (r : Recording) (segments : ℕ) (output : List ℕ) (pass : Passed r segments (length output)) where
   abbrev bound : List ℕ
   bound = poolBound (r .buffer .code) (r .labels) (r .constants) (r .asked) (r .buffer .asked)
 
   handed : Ready (r .code) bound (r .events) (r .constants) (r .asked) (r .buffer .arch) (r .buffer .code) (r .buffer .labels) (r .buffer .events) (r .buffer .asked)
-  handed = ready r (sound r (length rows) (length output) (pass .stood) (pass .fit)) (asked-few r (length rows) (length output) (pass .stood))
+  handed = ready r (sound r segments (length output) (pass .stood) (pass .fit)) (asked-few r segments (length output) (pass .stood))
 
   -- what the stages are handed
-  pub placeable : Placeable (r .buffer) (r .code) bound (r .events) (r .uses) (r .refs) (r .constants) (r .asked) (r .relocs) output (length rows)
+  pub placeable : Placeable (r .buffer) (r .code) bound (r .events) (r .uses) (r .refs) (r .constants) (r .asked) (r .relocs) output segments
   placeable =
-      let s = sound r (length rows) (length output) (pass .stood) (pass .fit) in
-      let k = limits r (length rows) (length output) (pass .stood) in
+      let s = sound r segments (length output) (pass .stood) (pass .fit) in
+      let k = limits r segments (length output) (pass .stood) in
       record {
         ready = handed;
         entered = record { room = handed .room; recorded = s .events; used = s .uses; referred = s .refs; relocated = s .relocs };
@@ -133,46 +134,60 @@ module _ (r : Recording) (rows : List (List ℕ)) (output : List ℕ) (pass : Pa
   abbrev p : Pooled
   p = pooledOf (r .buffer) (r .code) bound (r .events) (r .uses) (r .refs) (r .constants) (r .asked)
 
-  module _ (small : (i : ℕ) → getD (r .labels) i 0 < 256) (unfit : whyUnfit r (length rows) (length output) ≡ 0) where
+  module _ (small : (i : ℕ) → getD (r .labels) i 0 < 256) (unfit : whyUnfit r segments (length output) ≡ 0) (ss : List Segment) (count : length ss ≡ segments) where
     pooled-as : pooled (r .buffer .arch) (view r) ≡ p
-    pooled-as = pooled-is r (sound r (length rows) (length output) (pass .stood) (pass .fit)) (asked-few r (length rows) (length output) (pass .stood))
+    pooled-as = pooled-is r (sound r segments (length output) (pass .stood) (pass .fit)) (asked-few r segments (length output) (pass .stood))
 
     labels-are : overWords (r .labels) (p .labels) ≡ bound
     labels-are =
         bound-words (r .buffer .code) (r .labels) (r .constants) (r .asked) (r .buffer .labels) (r .buffer .asked) small
-        (omega (arith, sound r (length rows) (length output) (pass .stood) (pass .fit) .labels .room)) (handed .owned)
-        (offsets-small r (sound r (length rows) (length output) (pass .stood) (pass .fit)) (asked-few r (length rows) (length output) (pass .stood)))
+        (omega (arith, sound r segments (length output) (pass .stood) (pass .fit) .labels .room)) (handed .owned)
+        (offsets-small r (sound r segments (length output) (pass .stood) (pass .fit)) (asked-few r segments (length output) (pass .stood)))
 
-    placed-is : placedBy (pooled (r .buffer .arch) (view r)) r rows output ≡ placedAs p (r .buffer) bound (r .relocs) rows output
+    placed-is : placedBy (pooled (r .buffer .arch) (view r)) r ss output ≡ placedAs p (r .buffer) bound (r .relocs) ss output
     unfolding placedBy placedAs
     placed-is = rw (pooled-as, labels-are)
 
-    module _ (placed : Outcome) (left : Left) (is : (placed, left) ≡ placedAs p (r .buffer) bound (r .relocs) rows output) where
-      pub finish-done : (f : Finished) → placed .refusal ≡ 0 → f ≡ finishedWith (r .buffer) placed → (f, left) ≡ finish r rows output
+    module _ (placed : Outcome) (left : Left) (is : (placed, left) ≡ placedAs p (r .buffer) bound (r .relocs) ss output) where
+      finish-done : (f : Finished) → placed .refusal ≡ 0 → f ≡ finishedWith (r .buffer) placed → (f, left) ≡ finish r ss output
       unfolding finish
       finish-done f e ef =
           rw (ef, placed-is ∙ sym is)
-          (sym (yes-eq (whyUnfit r (length rows) (length output)) 0 _ _ unfit ∙ yes-eq (placed .refusal) 0 _ _ e))
+          (sym (yes-eq (whyUnfit r (length ss) (length output)) 0 _ _ (rw count unfit) ∙ yes-eq (placed .refusal) 0 _ _ e))
 
-      pub finish-refused : (f : Finished) (labels : List ℕ) → placed .refusal ≢ 0 → f ≡ unfinished (r .buffer) (placed .refusal)
-          → labels ≡ poolUnbound (left .0) (r .constants) (r .asked) (r .buffer .asked) → (f, (labels, left .1)) ≡ finish r rows output
+      finish-refused : (f : Finished) (labels : List ℕ) → placed .refusal ≢ 0 → f ≡ unfinished (r .buffer) (placed .refusal)
+          → labels ≡ poolUnbound (left .0) (r .constants) (r .asked) (r .buffer .asked) → (f, (labels, left .1)) ≡ finish r ss output
       unfolding finish
       finish-refused f labels ne ef el =
           let kept : left .0 ≡ bound
           = ap (λ (x : Outcome × Left). x .1 .0) is
-          ∙ refused-labels p (r .buffer) bound (r .relocs) rows output (λ z. ne (ap (λ (x : Outcome × Left). x .0 .refusal) is ∙ z)) in
-          let s = sound r (length rows) (length output) (pass .stood) (pass .fit) in
+          ∙ refused-labels p (r .buffer) bound (r .relocs) ss output (λ z. ne (ap (λ (x : Outcome × Left). x .0 .refusal) is ∙ z)) in
+          let s = sound r segments (length output) (pass .stood) (pass .fit) in
           let back : labels ≡ r .labels
           = el
           ∙ ap (λ (t : List ℕ). poolUnbound t (r .constants) (r .asked) (r .buffer .asked)) kept
           ∙ poolUnbound-poolBound (r .buffer .code) (r .labels) (r .constants) (r .asked) (r .buffer .asked)
-          (pool-distinct r s (asked-few r (length rows) (length output) (pass .stood))) small
+          (pool-distinct r s (asked-few r segments (length output) (pass .stood))) small
           (unbound-at (r .labels) (r .constants) (r .asked) (r .buffer .asked) (pass .free)) in
           rw (ef, back, placed-is ∙ sym is)
-          (sym (yes-eq (whyUnfit r (length rows) (length output)) 0 _ _ unfit ∙ no-eq (placed .refusal) 0 _ _ ne))
+          (sym (yes-eq (whyUnfit r (length ss) (length output)) 0 _ _ (rw count unfit) ∙ no-eq (placed .refusal) 0 _ _ ne))
+
+      -- concluded, it is what finish answers and leaves
+      pub finish-concluded : (f : Finished) (labels : List ℕ) → (f, labels) ≡ concluded (r .buffer) (r .constants) (r .asked) placed (left .0)
+          → (f, (labels, left .1)) ≡ finish r ss output
+      unfolding concluded
+      finish-concluded f labels e =
+          ⊎-elim
+          (λ (z : placed .refusal ≡ 0).
+          let same = e ∙ yes-eq (placed .refusal) 0 _ _ z in
+          rw (ap (λ (x : Finished × List ℕ). x .1) same) (finish-done f z (ap (λ (x : Finished × List ℕ). x .0) same)))
+          (λ (ne : placed .refusal ≢ 0).
+          let same = e ∙ no-eq (placed .refusal) 0 _ _ ne in
+          finish-refused f labels ne (ap (λ (x : Finished × List ℕ). x .0) same) (ap (λ (x : Finished × List ℕ). x .1) same))
+          (eq-or-ne (placed .refusal) 0)
 
 -- a finish that is turned down before anything is touched
-pub finish-unfit : (r : Recording) (rows : List (List ℕ)) (output : List ℕ) (why : ℕ) (f : Finished) → why ≡ whyUnfit r (length rows) (length output) → why ≢ 0
-    → f ≡ unfinished (r .buffer) why → (f, (r .labels, (r .relocs, (rows, output)))) ≡ finish r rows output
+pub finish-unfit : (r : Recording) (ss : List Segment) (output : List ℕ) (why : ℕ) (f : Finished) → why ≡ whyUnfit r (length ss) (length output) → why ≢ 0
+    → f ≡ unfinished (r .buffer) why → (f, (r .labels, (r .relocs, (ss, output)))) ≡ finish r ss output
 unfolding finish
-finish-unfit r rows output why f e ne ef = rw (ef, ← e) (sym (no-eq why 0 _ _ ne))
+finish-unfit r ss output why f e ne ef = rw (ef, ← e) (sym (no-eq why 0 _ _ ne))

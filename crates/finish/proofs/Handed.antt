@@ -2,14 +2,13 @@
 use mathlib.Core.Path.{_≡_, refl, sym, ap, _∙_, subst}
 use mathlib.Core.Logic.{_≢_, ⊎-elim, inl, inr}
 use mathlib.Core.Bool.{Bool, true, false}
-use mathlib.Core.List.{List, [], _∷_, _++_, map}
-use Prim.Native.Nat.{ℕ, zero, suc, _+_, _-_, _*_, _≤_, _<_}
+use mathlib.Core.List.{List, [], _∷_, _++_}
+use Prim.Native.Nat.{ℕ, _+_, _-_, _*_, _≤_, _<_}
 use native.Mathlib.Omega.{arith}
 use lib.ListN.{length, getD, take, List·getD-append}
 use lib.Seq.{length-take-le, take-take}
 use borrow.Author.Tests.{ne-eqb}
 use Rattle.seqs.specs.Over.{over}
-use Rattle.seqs.proofs.Overwrites.{take-over-end}
 use Rattle.words.specs.Words.{wordAt}
 use Rattle.fields.specs.declared.Decoded.{Decoded}
 use Rattle.fields.specs.declared.Decoded.the-variants.{Use, Unsupported, Unknown}
@@ -33,10 +32,9 @@ use Rattle.fresh.proofs.Loops.{length-runs}
 use Rattle.fresh.proofs.Within.{displacement-fits, mapped-within, newEnds-within}
 use Rattle.pool.specs.Pool.{labelAt, bytesAt, poolStart, poolOffset, poolEvent, PoolRoom}
 use Rattle.pool.proofs.Pool.{from-poolStart, poolStart-bound, poolOffset-bound}
-use Rattle.layout.specs.Layout.{rowOf, segmentOf, tableOf, rowsFrom, allEvents, finishedLength, Recorded, Rising, Labelled}
+use Rattle.layout.specs.Layout.{allEvents, finishedLength, Recorded, Rising, Labelled}
 use Rattle.layout.proofs.Pooling.{all-ordered, all-modest, length-all}
-use Rattle.layout.proofs.Turns.{length-rows}
-use Rattle.layout.proofs.Rows.{segments-rows, table-laid, rising-laid}
+use Rattle.layout.proofs.Table.{table-laid, rising-laid}
 use Rattle.emit.specs.Emit.{Within, endAt, JumpWithin, RefsFit, RefsKnown, JumpsFit, WordsFit}
 use Rattle.checks.specs.Fields.{sizeOf, refsClear}
 use Rattle.checks.specs.Handed.{useLabel, refLabel, Named, JumpsNamed, TargetsNamed}
@@ -45,7 +43,7 @@ use Rattle.finish.specs.Tables.{tablesPooled}
 use Rattle.finish.specs.Ready.{Ready, Entered, Clearing, Writing, endOfRuns}
 use Rattle.finish.proofs.Formed.{recorded-ordered, recorded-modest, recorded-writes, jump-label, offset-lies, every-at, ref-apart, constant-size, pooled-length, well-formed, pool-apart}
 use Rattle.finish.proofs.Checked.{refs-clear}
-use Rattle.finish.proofs.Written.{any·ref, end-row}
+use Rattle.finish.proofs.Written.{any·ref, end-segment}
 use Rattle.finish.proofs.Emission.{PoolRuns, pool-runs}
 
 -- the events as a layout is handed them
@@ -64,13 +62,8 @@ unfolding segments
 take-segments [] ys o n c = refl
 take-segments (x ∷ xs) ys o n c = ap (λ l. segment o n x (isLong c) ∷ l) (take-segments xs ys (endOf x) ((segment o n x (isLong c)) .«new_end») (others c))
 
-take-map : {A B : Type 0} (g : A → B) (k : ℕ) (xs : List A) → take k (map g xs) ≡ map g (take k xs)
-take-map g zero xs = refl
-take-map g (suc k) [] = refl
-take-map g (suc k) (x ∷ xs) = ap (λ l. g x ∷ l) (take-map g k xs)
-
 module _ (code labels events constants asked : List ℕ) (len count n m : ℕ) (ready : Ready code labels events constants asked 2 len count n m)
-    (before rows : List (List ℕ)) (c : Choice) (laid : rows ≡ over before 0 (rowsFrom 0 0 (allEvents events n len constants asked m) c))
+    (before ss : List Segment) (c : Choice) (laid : ss ≡ over before 0 (segments 0 0 (allEvents events n len constants asked m) c))
     (few : n + m ≤ 65536) (room : n + m ≤ length before) where
   abbrev es : List LayoutEvent
   es = allEvents events n len constants asked m
@@ -81,36 +74,30 @@ module _ (code labels events constants asked : List ℕ) (len count n m : ℕ) (
   rec : Recorded events n len
   rec = recorded code labels events constants asked 2 len count n m ready
 
-  pub rising-all : Rising rows (n + m)
+  pub rising-all : Rising ss (n + m)
   rising-all =
-      subst (λ (k : ℕ). Rising rows k) long-es
-      (rising-laid before rows es c laid (omega (arith, long-es)) (poolStart len constants asked m) (all-ordered events n len constants asked rec m)
+      subst (λ (k : ℕ). Rising ss k) long-es
+      (rising-laid before ss es c laid (omega (arith, long-es)) (poolStart len constants asked m) (all-ordered events n len constants asked rec m)
       (all-modest events n len constants asked rec m)
       (omega (arith, ready .bytes .limit, ready .pool .few, poolStart-bound len constants asked m (ready .pool) m (omega arith)))
       (omega (arith, long-es)))
 
-  pub rising : Rising rows n
+  pub rising : Rising ss n
   rising = record {
     fits = omega (arith, rising-all .fits);
     rises = λ i j h k. rising-all .rises i j h (omega arith);
     small = λ i h. rising-all .small i (omega arith);
   }
 
-  pub table-all : tableOf rows (n + m) ≡ segments 0 0 es c
-  table-all = rw (← long-es) (table-laid before rows es c laid (omega (arith, long-es)))
+  pub table-all : take (n + m) ss ≡ segments 0 0 es c
+  table-all = rw (← long-es) (table-laid before ss es c laid (omega (arith, long-es)))
 
-  first-rows : take n rows ≡ rowsFrom 0 0 (tables.entries (eventAt events) n) c
-  first-rows =
-      let e : 0 + length (rowsFrom 0 0 es c) ≡ n + m = omega (arith, length-rows es 0 0 c, long-es) in
-      sym (take-take n (n + m) rows (omega arith))
-      ∙ ap (take n) (rw (laid, ← e) (take-over-end before 0 (rowsFrom 0 0 es c) (omega (arith, e))))
-      ∙ take-map rowOf n (segments 0 0 es c)
-      ∙ ap (map rowOf)
-      (ap (λ (k : ℕ). take k (segments 0 0 es c)) (sym (length-entries (eventAt events) n))
-      ∙ take-segments (tables.entries (eventAt events) n) (tables.entries (poolEvent len constants asked) m) 0 0 c)
-
-  pub table-first : tableOf rows n ≡ segments 0 0 (tables.entries (eventAt events) n) c
-  table-first = ap (map segmentOf) first-rows ∙ segments-rows (segments 0 0 (tables.entries (eventAt events) n) c)
+  pub table-first : take n ss ≡ segments 0 0 (tables.entries (eventAt events) n) c
+  table-first =
+      sym (take-take n (n + m) ss (omega arith))
+      ∙ ap (take n) table-all
+      ∙ ap (λ (k : ℕ). take k (segments 0 0 es c)) (sym (length-entries (eventAt events) n))
+      ∙ take-segments (tables.entries (eventAt events) n) (tables.entries (poolEvent len constants asked) m) 0 0 c
 
   -- where the recorded code ends
   abbrev to : ℕ
@@ -130,7 +117,7 @@ module _ (code labels events constants asked : List ℕ) (len count n m : ℕ) (
   unfolding alone RefsLie PoolLies
   alone-formed = record { ordered = first-ordered; landed = λ l bound. absurd (bound refl); fields = tt; constants = tt }
 
-  pub end-mapped : mapOffset (tableOf rows n) len ≡ to
+  pub end-mapped : mapOffset (take n ss) len ≡ to
   unfolding alone mapOffset
   end-mapped =
       rw table-first
@@ -259,9 +246,9 @@ module _ (code labels events constants asked refs : List ℕ) (len count n m f :
     };
   }
 
-  module _ (before rows : List (List ℕ)) (c : Choice) (laid : rows ≡ over before 0 (rowsFrom 0 0 (allEvents events n len constants asked m) c))
+  module _ (before ss : List Segment) (c : Choice) (laid : ss ≡ over before 0 (segments 0 0 (allEvents events n len constants asked m) c))
       (few : n + m ≤ 65536) (room : n + m ≤ length before) (chosen : length c ≡ n + m) (final output : List ℕ)
-      (moved : (l : ℕ) → l < count → wordAt final l ≡ mapOffset (tableOf rows (n + m)) (wordAt labels l)) (same : length final ≡ length labels)
+      (moved : (l : ℕ) → l < count → wordAt final l ≡ mapOffset (take (n + m) ss) (wordAt labels l)) (same : length final ≡ length labels)
       (fits : finishedLength (allEvents events n len constants asked m) c (poolStart len constants asked m) ≤ length output) (limit : length output ≤ 16777216) where
     abbrev p : Pooled
     p = pooled·of []
@@ -276,17 +263,17 @@ module _ (code labels events constants asked refs : List ℕ) (len count n m f :
           fits,
         )
 
-    table : tableOf rows (n + m) ≡ segmentsOf p c
-    table = table-all code labels events constants asked len count n m ready before rows c laid few room
+    table : take (n + m) ss ≡ segmentsOf p c
+    table = table-all code labels events constants asked len count n m ready before ss c laid few room
 
-    refs-fit : RefsFit (length output) refs final rows (n + m) f
+    refs-fit : RefsFit (length output) refs final ss (n + m) f
     refs-fit = record {
+      recorded = λ i h bound. omega (arith, ref-small i h);
       each = λ i h. record {
         entry = omega (arith, referred .room);
         known = omega (arith, same, referred .entry i h .label, ready .room);
-        recorded = λ bound. omega (arith, ref-small i h);
         within =
-            within-size (decoded (wordAt refs (i * 4 + 2))) (mapOffset (tableOf rows (n + m)) (wordAt refs (i * 4))) (length output)
+            within-size (decoded (wordAt refs (i * 4 + 2))) (mapOffset (take (n + m) ss) (wordAt refs (i * 4))) (length output)
             (omega (
               arith,
               ap (λ (ss : List Segment). mapOffset ss (wordAt refs (i * 4))) table,
@@ -296,16 +283,16 @@ module _ (code labels events constants asked refs : List ℕ) (len count n m f :
       };
     }
 
-    jumps-fit : JumpsFit (length output) events final c rows n
+    jumps-fit : JumpsFit (length output) events final c ss n
     jumps-fit = record {
+      chosen = omega (arith, chosen);
+      laid = omega (arith, rising-all code labels events constants asked len count n m ready before ss c laid few room .fits);
       each = λ i h. record {
         entry = omega (arith, ready .recorded .room);
-        chosen = omega (arith, chosen);
-        laid = omega (arith, rising-all code labels events constants asked len count n m ready before rows c laid few room .fits);
         within =
-            jump-within (eventAt events i) (getD c i false) (endAt rows i) final (length output)
+            jump-within (eventAt events i) (getD c i false) (endAt ss i) final (length output)
             (λ j e.
-            let at = end-row rows (segmentsOf p c) (n + m) i (omega arith) table in
+            let at = end-segment ss (segmentsOf p c) (n + m) i (omega arith) table in
             let is = List·getD-append (tables.entries (eventAt events) n) (tables.entries (poolEvent len constants asked) m) (Align 0 0 0) i (omega (arith, length-entries (eventAt events) n)) ∙ getD-entries (eventAt events) n i (Align 0 0 0) h ∙ e in (
               omega (arith, same, jump-label events n count len 2 (ready .recorded) i j h e, ready .room),
               omega (arith, at, displacement-fits (p .events) 0 0 c i j (omega (arith, length-all events n len constants asked m)) is),
@@ -320,7 +307,7 @@ module _ (code labels events constants asked refs : List ℕ) (len count n m f :
           omega (
             arith,
             moved (labelAt constants asked j) (ready .owned j h),
-            ap (mapOffset (tableOf rows (n + m))) (ready .stands j h),
+            ap (mapOffset (take (n + m) ss)) (ready .stands j h),
             ap (λ (ss : List Segment). mapOffset ss (poolOffset len constants asked j)) table,
             mapped-within p c (formed []) (poolOffset len constants asked j) (length (bytesAt constants asked j))
                 (omega (arith, ready .bytes .limit, ready .pool .few, poolOffset-bound len constants asked m (ready .pool) j h))
@@ -335,29 +322,29 @@ module _ (code labels events constants asked refs : List ℕ) (len count n m f :
         omega (
           arith,
           from-poolStart (endOfRuns code events c len n) constants asked m,
-          pool-ends code labels events constants asked len count n m ready before rows c laid few room,
+          pool-ends code labels events constants asked len count n m ready before ss c laid few room,
           fits,
         )
 
     -- What a relaxed finish writes the code from.
-    pub writing : Writing output code final events refs constants asked c rows len n m f (endOfRuns code events c len n)
+    pub writing : Writing output code final events refs constants asked c ss len n m f (endOfRuns code events c len n)
     writing = record {
       small = ready .bytes .limit;
-      rising = rising code labels events constants asked len count n m ready before rows c laid few room;
-      rising-all = rising-all code labels events constants asked len count n m ready before rows c laid few room;
+      rising = rising code labels events constants asked len count n m ready before ss c laid few room;
+      rising-all = rising-all code labels events constants asked len count n m ready before ss c laid few room;
       emits = record {
         recorded = omega (arith, ready .recorded .room);
         chosen = omega (arith, chosen);
-        laid = first-rows code labels events constants asked len count n m ready before rows c laid few room;
+        laid = table-first code labels events constants asked len count n m ready before ss c laid few room;
         ordered = recorded-ordered events n count len 2 (ready .recorded);
         coded = ready .bytes .room;
         writes = recorded-writes events n count len 2 (ready .recorded);
         room = to-fits;
       };
-      ends = end-mapped code labels events constants asked len count n m ready before rows c laid few room;
+      ends = end-mapped code labels events constants asked len count n m ready before ss c laid few room;
       near = omega (arith, to-fits, limit);
       pool = ready .pool;
-      pooled = rw (pool-ends code labels events constants asked len count n m ready before rows c laid few room) fits;
+      pooled = rw (pool-ends code labels events constants asked len count n m ready before ss c laid few room) fits;
       filled = refs-fit;
       jumped = jumps-fit;
       named = record { known = λ j h. omega (arith, same, ready .named .known j h) };

@@ -12,3 +12,4 @@ pub mod Stages
 pub mod Placing
 pub mod Fit
 pub mod Finishing
+pub mod Plans

@@ -1,18 +1,19 @@
 -- With or without a jump: what is answered and left once the pool's labels are bound.
 use mathlib.Core.Path.{_≡_, refl, sym, ap, _∙_, subst}
-use mathlib.Core.Logic.{_⊎_, ⊎-elim}
-use mathlib.Core.Bool.{Bool, true, false, _&&_, cond}
-use mathlib.Core.List.{List, [], _++_}
+use mathlib.Core.Logic.{_⊎_, _≢_, ⊎-elim}
+use mathlib.Core.Bool.{Bool, true, false, not, _&&_, cond}
+use mathlib.Core.List.{List, [], _∷_, _++_}
 use Prim.Native.Nat.{ℕ, _+_, _-_, _*_, _≤_, _<_}
 use native.Mathlib.Omega.{arith}
-use lib.Dec.{eqb}
+use lib.Dec.{eqb, ltb}
 use lib.ListN.{length, take}
-use Rattle.seqs.specs.Pick.{pick}
+use Rattle.seqs.specs.Pick.{pick, first}
 use Rattle.seqs.proofs.Booleans.{true-is-not-false}
 use Rattle.seqs.proofs.Picking.{pick-yes, pick-no}
 use Rattle.words.specs.Words.{wordAt}
 use Rattle.relax.specs.declared.LayoutEvent.{LayoutEvent}
 use Rattle.relax.specs.Events.{eventAt}
+use Rattle.relax.specs.declared.Segment.{Segment}
 use Rattle.buffer.specs.declared.CodeBuffer.{CodeBuffer}
 use Rattle.recording.specs.Sound.{RefsSound}
 use Rattle.recording.specs.View as tables
@@ -25,32 +26,33 @@ use Rattle.finish.specs.declared.Outcome.{Outcome}
 use Rattle.finish.specs.Refusals.{allBound, hasJump, whyNotInPlace}
 use Rattle.finish.specs.Finish.{Left, refusedWith, relaxed, unrelaxed}
 use Rattle.finish.specs.Tables.{tablesPooled}
-use Rattle.finish.specs.Ready.{Ready, Relaxable, Keepable, kept, Placeable, pooledOf, placedAs}
+use Rattle.finish.specs.Ready.{Ready, Relaxable, Keepable, kept, Placeable, pooledOf, placedAs, Starts}
 use Rattle.finish.proofs.Checked.{uses-bound, refs-bound, relocs-bound, jumps-bound, has-jump}
 use Rattle.finish.proofs.Handed.{kind-label}
+use Rattle.finish.proofs.Stages.{refused-early}
 
 no-entries : {A : Type 0} (f : ℕ → A) (t : Bool) (n : ℕ) → cond t (tables.entries f n) [] ≡ tables.entries f (cond t n 0)
 no-entries f true n = refl
 no-entries f false n = refl
 
 -- what is kept, beside what is left alone
-abbrev beside : List ℕ → List ℕ → List (List ℕ) → Outcome × List ℕ → Outcome × Left
-beside labels relocs rows x = (x .0, (labels, (relocs, (rows, x .1))))
+abbrev beside : List ℕ → List ℕ → List Segment → Outcome × List ℕ → Outcome × Left
+beside labels relocs ss x = (x .0, (labels, (relocs, (ss, x .1))))
 
-pick-beside : (labels relocs : List ℕ) (rows : List (List ℕ)) (t : Bool) (x y : Outcome × List ℕ)
-    → beside labels relocs rows (pick t x y) ≡ pick t (beside labels relocs rows x) (beside labels relocs rows y)
+pick-beside : (labels relocs : List ℕ) (ss : List Segment) (t : Bool) (x y : Outcome × List ℕ)
+    → beside labels relocs ss (pick t x y) ≡ pick t (beside labels relocs ss x) (beside labels relocs ss y)
 unfolding pick
-pick-beside labels relocs rows true x y = refl
-pick-beside labels relocs rows false x y = refl
+pick-beside labels relocs ss true x y = refl
+pick-beside labels relocs ss false x y = refl
 
-kept-beside : (p : Pooled) (labels relocs : List ℕ) (rows : List (List ℕ)) (output left : List ℕ) (r : Outcome) → (r, left) ≡ kept p output
-    → beside labels relocs rows (r, left) ≡ unrelaxed p labels relocs rows output
+kept-beside : (p : Pooled) (labels relocs : List ℕ) (ss : List Segment) (output left : List ℕ) (r : Outcome) → (r, left) ≡ kept p output
+    → beside labels relocs ss (r, left) ≡ unrelaxed p labels relocs ss output
 unfolding kept unrelaxed
-kept-beside p labels relocs rows output left r e =
-    ap (beside labels relocs rows) e ∙ pick-beside labels relocs rows (eqb (whyNotInPlace p (length output)) 0) _ _
+kept-beside p labels relocs ss output left r e =
+    ap (beside labels relocs ss) e ∙ pick-beside labels relocs ss (eqb (whyNotInPlace p (length output)) 0) _ _
 
-module _ (b : CodeBuffer) (code labels events uses refs constants asked relocs output : List ℕ) (rows : List (List ℕ))
-    (x : Placeable b code labels events uses refs constants asked relocs output (length rows)) where
+module _ (b : CodeBuffer) (code labels events uses refs constants asked relocs output : List ℕ) (segments : ℕ)
+    (x : Placeable b code labels events uses refs constants asked relocs output segments) where
   abbrev p : Pooled
   p = pooledOf b code labels events uses refs constants asked
 
@@ -96,7 +98,7 @@ module _ (b : CodeBuffer) (code labels events uses refs constants asked relocs o
   }
 
   pub relaxable : checked.hasJump events (b .events) ≡ true
-      → Relaxable code labels events refs constants asked relocs output (length rows) (b .code) (b .labels) (b .events) (b .asked) (b .refs) (b .relocs)
+      → Relaxable code labels events refs constants asked relocs output segments (b .code) (b .labels) (b .events) (b .asked) (b .refs) (b .relocs)
   relaxable h = record {
     ready = subst (λ (a : ℕ). Ready code labels events constants asked a (b .code) (b .labels) (b .events) (b .asked)) (arch-is h) (x .ready);
     referred = subst (λ (a : ℕ). RefsSound refs (b .refs) a (b .labels)) (arch-is h) (x .entered .referred);
@@ -120,24 +122,41 @@ module _ (b : CodeBuffer) (code labels events uses refs constants asked relocs o
   module _ (bound : Bool)
       (bound·answer : bound ≡ (checked.usesBound uses (b .uses) labels
       && (checked.relocsBound relocs (b .relocs) labels && (checked.refsBound refs (b .refs) labels && checked.jumpsBound events (b .events) labels)))) where
-    pub placed-unbound : (r : Outcome) → bound ≡ false → r ≡ refusedWith 15 → (r, (labels, (relocs, (rows, output)))) ≡ placedAs p b labels relocs rows output
+    pub placed-unbound : (r : Outcome) → bound ≡ false → r ≡ refusedWith 15 → (ss : List Segment) → (r, (labels, (relocs, (ss, output)))) ≡ placedAs p b labels relocs ss output
     unfolding placedAs
-    placed-unbound r e er = rw (er, bound-is ∙ sym bound·answer) (sym (pick-no bound _ _ e))
+    placed-unbound r e er ss = rw (er, bound-is ∙ sym bound·answer) (sym (pick-no bound _ _ e))
 
     module _ (all·bound : bound ≡ true) (jump : Bool) (jump·answer : jump ≡ checked.hasJump events (b .events)) where
-      pub placed-relaxed : jump ≡ true → (left : Outcome × Left)
-          → ((us : List tables.Use) → left ≡ relaxed (tablesPooled 2 (b .code) (take (b .code) code) (tables.entries (wordAt labels) (b .labels)) (tables.entries (eventAt events) (b .events)) us (tables.entries (tables.refAt refs) (b .refs)) constants asked (b .asked)) (b .relocs) labels relocs rows output)
-          → left ≡ placedAs p b labels relocs rows output
+      placed-relaxed : jump ≡ true → (ss : List Segment) (left : Outcome × Left)
+          → ((us : List tables.Use) → left ≡ relaxed (tablesPooled 2 (b .code) (take (b .code) code) (tables.entries (wordAt labels) (b .labels)) (tables.entries (eventAt events) (b .events)) us (tables.entries (tables.refAt refs) (b .refs)) constants asked (b .asked)) (b .relocs) labels relocs ss output)
+          → left ≡ placedAs p b labels relocs ss output
       unfolding placedAs
-      placed-relaxed e left is =
+      placed-relaxed e ss left is =
           rw (bound-is ∙ sym bound·answer, jump-is ∙ sym jump·answer)
           (sym (pick-yes bound _ _ all·bound ∙ pick-yes jump _ _ e ∙ rw (arch-is (sym jump·answer ∙ e)) (sym (is (tables.entries (tables.useAt uses) (b .uses))))))
 
+      -- with a jump: 16 and 17, or a layout
+      module _ (jumps : jump ≡ true) (why : ℕ)
+          (why·answer : why ≡ first ((ltb segments (b .events + b .asked), 16) ∷ (not (checked.refsClear refs (b .refs) events (b .events) (b .code) constants asked (b .asked)), 17) ∷ [])) where
+        relaxes : Relaxable code labels events refs constants asked relocs output segments (b .code) (b .labels) (b .events) (b .asked) (b .refs) (b .relocs)
+        relaxes = relaxable (sym jump·answer ∙ jumps)
+
+        pub started-refused : why ≢ 0 → (r : Outcome) → r ≡ refusedWith why → (ss : List Segment) → length ss ≡ segments
+            → (r, (labels, (relocs, (ss, output)))) ≡ placedAs p b labels relocs ss output
+        started-refused ne r er ss l =
+            placed-relaxed jumps ss _
+            (λ us.
+            refused-early code labels events refs constants asked relocs output ss (b .code) (b .labels) (b .events) (b .asked) (b .refs) (b .relocs)
+            (rw l relaxes) us why (rw l why·answer) r ne er)
+
+        pub starts : why ≡ 0 → Starts b code labels events uses refs constants asked relocs output output segments
+        starts z = record { kept = refl; relaxable = relaxes; laid = sym z ∙ why·answer; placed = placed-relaxed jumps }
+
       pub placed-kept : jump ≡ false → (r : Outcome) (left : List ℕ)
           → ((es : List LayoutEvent) (rs : List tables.Ref) → (r, left) ≡ kept (tablesPooled (b .arch) (b .code) (take (b .code) code) (tables.entries (wordAt labels) (b .labels)) es (tables.entries (tables.useAt uses) (b .uses)) rs constants asked (b .asked)) output)
-          → (r, (labels, (relocs, (rows, left)))) ≡ placedAs p b labels relocs rows output
+          → (ss : List Segment) → (r, (labels, (relocs, (ss, left)))) ≡ placedAs p b labels relocs ss output
       unfolding placedAs
-      placed-kept e r left is =
+      placed-kept e r left is ss =
           rw (bound-is ∙ sym bound·answer, jump-is ∙ sym jump·answer)
-          (kept-beside p labels relocs rows output left r (is (tables.entries (eventAt events) (b .events)) (tables.entries (tables.refAt refs) (b .refs)))
+          (kept-beside p labels relocs ss output left r (is (tables.entries (eventAt events) (b .events)) (tables.entries (tables.refAt refs) (b .refs)))
           ∙ sym (pick-yes bound _ _ all·bound ∙ pick-no jump _ _ e))

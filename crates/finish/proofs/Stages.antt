@@ -28,7 +28,7 @@ use Rattle.fresh.specs.Pooled.{Pooled}
 use Rattle.fresh.specs.Fresh.{Choice, moved}
 use Rattle.fresh.specs.Rounds.{Settled, settled}
 use Rattle.fresh.specs.Fill.{assembled}
-use Rattle.fresh.specs.Segments.{mapOffset, segmentsOf}
+use Rattle.fresh.specs.Segments.{segments, mapOffset, segmentsOf}
 use Rattle.fresh.proofs.Shape.{WellFormed}
 use Rattle.fresh.proofs.Entries.{apart-lies}
 use Rattle.fresh.proofs.Fill.{length-assembled, labels-same}
@@ -39,13 +39,13 @@ use Rattle.pool.proofs.Pool.{from-poolStart, poolStart-suc, poolStart-grows}
 use Rattle.checks.specs.Fields.{sizeOf, refsClear, whyUnreached, whyUses}
 use Rattle.emit.specs.Emit as emit
 use Rattle.emit.specs.Emit.{mappedWords}
-use Rattle.layout.specs.Layout.{rowsFrom, tableOf, allEvents, finishedLength, relaxedBy, Relaxed}
+use Rattle.layout.specs.Layout.{allEvents, finishedLength, relaxedBy, Relaxed}
 use Rattle.layout.proofs.Pooling.{length-all}
 use Rattle.layout.proofs.Settled.{relaxed-entries, relaxed-settled, finished-placed}
 use Rattle.checks.specs.Entries.{all}
 use Rattle.finish.specs.declared.Outcome.{Outcome}
 use Rattle.finish.specs.Refusals.{every, reachesBy, refReaches, whyNotLaid, whyNotWritten, whyNotInPlace}
-use Rattle.finish.specs.Finish.{refusedWith, overWords, relocated, settledRows, relaxed}
+use Rattle.finish.specs.Finish.{refusedWith, overWords, relocated, settledSegments, relaxed}
 use Rattle.finish.specs.Tables.{tablesPooled}
 use Rattle.finish.specs.Ready.{Relaxable, codeWritten, endOfRuns, Writing, codeCopied, Copying, Keepable, kept}
 use Rattle.finish.proofs.Checked.{refs-clear, every-entries, uses-refused}
@@ -128,35 +128,35 @@ field-reaches (Use k) offset label addend = refl
 field-reaches Unsupported offset label addend = refl
 field-reaches Unknown offset label addend = refl
 
-reach-all : (refs labels : List ℕ) (rows : List (List ℕ)) (k f : ℕ) → all (λ (i : ℕ). emit.refReaches refs labels rows k i) f ≡ emit.refsReach refs labels rows k f
+reach-all : (refs labels : List ℕ) (ss : List Segment) (k f : ℕ) → all (λ (i : ℕ). emit.refReaches refs labels ss k i) f ≡ emit.refsReach refs labels ss k f
 unfolding all emit.refsReach
-reach-all refs labels rows k zero = refl
-reach-all refs labels rows k (suc f) = rw (reach-all refs labels rows k f)
+reach-all refs labels ss k zero = refl
+reach-all refs labels ss k (suc f) = rw (reach-all refs labels ss k f)
 
-module _ (code labels events refs constants asked relocs output : List ℕ) (rows : List (List ℕ)) (len count n m f l : ℕ)
-    (x : Relaxable code labels events refs constants asked relocs output (length rows) len count n m f l) (us : List tables.Use) where
+module _ (code labels events refs constants asked relocs output : List ℕ) (ss : List Segment) (len count n m f l : ℕ)
+    (x : Relaxable code labels events refs constants asked relocs output (length ss) len count n m f l) (us : List tables.Use) where
   abbrev p : Pooled
   p = tablesPooled 2 len (take len code) (tables.entries (wordAt labels) count) (tables.entries (eventAt events) n) us (tables.entries (tables.refAt refs) f) constants asked m
 
   p-length : length (p .code) ≡ poolStart len constants asked m
   p-length = pooled-length code labels events constants asked len count n m (x .ready) us (tables.entries (tables.refAt refs) f)
 
-  early-is : whyNotLaid p (length rows) ≡ first ((ltb (length rows) (n + m), 16) ∷ (not (refsClear refs f events n len constants asked m), 17) ∷ [])
+  early-is : whyNotLaid p (length ss) ≡ first ((ltb (length ss) (n + m), 16) ∷ (not (refsClear refs f events n len constants asked m), 17) ∷ [])
   unfolding whyNotLaid
   early-is = rw (length-all events n len constants asked m, refs-clear p refs events constants asked f n m len refl refl p-length)
 
-  module _ (early : ℕ) (early·answer : early ≡ first ((ltb (length rows) (n + m), 16) ∷ (not (refsClear refs f events n len constants asked m), 17) ∷ [])) where
+  module _ (early : ℕ) (early·answer : early ≡ first ((ltb (length ss) (n + m), 16) ∷ (not (refsClear refs f events n len constants asked m), 17) ∷ [])) where
     pub refused-early : (r : Outcome) → early ≢ 0 → r ≡ refusedWith early
-        → (r, (labels, (relocs, (rows, output)))) ≡ relaxed p l labels relocs rows output
+        → (r, (labels, (relocs, (ss, output)))) ≡ relaxed p l labels relocs ss output
     unfolding relaxed
     refused-early r ne e = rw (e, early-is ∙ sym early·answer) (sym (no-eq early 0 _ _ ne))
 
     module _ (none·early : early ≡ 0) where
-      early·passed : (ltb (length rows) (n + m) ≡ false) × (first ((not (refsClear refs f events n len constants asked m), 17) ∷ []) ≡ 0)
-      early·passed = passed (ltb (length rows) (n + m)) 16 _ (λ e. omega arith) (sym early·answer ∙ none·early)
+      early·passed : (ltb (length ss) (n + m) ≡ false) × (first ((not (refsClear refs f events n len constants asked m), 17) ∷ []) ≡ 0)
+      early·passed = passed (ltb (length ss) (n + m)) 16 _ (λ e. omega arith) (sym early·answer ∙ none·early)
 
-      pub room : n + m ≤ length rows
-      room = ltb-false (length rows) (n + m) (early·passed .0)
+      pub room : n + m ≤ length ss
+      room = ltb-false (length ss) (n + m) (early·passed .0)
 
       pub few : n + m ≤ 65536
       few = omega (arith, room, x .segments-limit)
@@ -167,8 +167,8 @@ module _ (code labels events refs constants asked relocs output : List ℕ) (row
       wf : WellFormed p
       wf = formed code labels events constants asked refs len count n m f (x .ready) (x .referred) clear us
 
-      module _ (rows′ : List (List ℕ)) (c : Choice) (layouts len′ : ℕ)
-          (laid : Relaxed (allEvents events n len constants asked m) (wordAt labels) (poolStart len constants asked m) rows rows′ c layouts len′) where
+      module _ (ss′ : List Segment) (c : Choice) (layouts len′ : ℕ)
+          (laid : Relaxed (allEvents events n len constants asked m) (wordAt labels) (poolStart len constants asked m) ss ss′ c layouts len′) where
         settled-is : relaxedBy (allEvents events n len constants asked m) (wordAt labels) ≡ settled p
         settled-is =
             relaxed-entries events n len constants asked m labels count (λ i j h e. jump-label events n count len 2 (x .ready .recorded) i j h e)
@@ -177,8 +177,8 @@ module _ (code labels events refs constants asked relocs output : List ℕ) (row
         choice-is : c ≡ settled p .choice
         choice-is = laid .choice ∙ ap (λ (s : Settled). s .choice) settled-is
 
-        pub rows-are : rows′ ≡ over rows 0 (rowsFrom 0 0 (allEvents events n len constants asked m) c)
-        rows-are = laid .table ∙ ap (λ (d : Choice). over rows 0 (rowsFrom 0 0 (allEvents events n len constants asked m) d)) (sym (laid .choice))
+        pub segments-are : ss′ ≡ over ss 0 (segments 0 0 (allEvents events n len constants asked m) c)
+        segments-are = laid .table ∙ ap (λ (d : Choice). over ss 0 (segments 0 0 (allEvents events n len constants asked m) d)) (sym (laid .choice))
 
         len-is : len′ ≡ length (assembled p c)
         len-is =
@@ -188,14 +188,14 @@ module _ (code labels events refs constants asked relocs output : List ℕ) (row
             ∙ finished-placed p c wf
             ∙ sym (length-assembled p c)
 
-        table-is : tableOf rows′ (n + m) ≡ segmentsOf p c
-        table-is = table-all code labels events constants asked len count n m (x .ready) rows rows′ c rows-are few room
+        table-is : take (n + m) ss′ ≡ segmentsOf p c
+        table-is = table-all code labels events constants asked len count n m (x .ready) ss ss′ c segments-are few room
 
         -- 18, as the segments say it
-        reach-is : every (refReaches p c) (p .refs) ≡ emit.refsReach refs labels rows′ (n + m) f
+        reach-is : every (refReaches p c) (p .refs) ≡ emit.refsReach refs labels ss′ (n + m) f
         unfolding refReaches
         reach-is =
-            every-entries (refReaches p c) (tables.refAt refs) (λ (i : ℕ). emit.refReaches refs labels rows′ (n + m) i) f
+            every-entries (refReaches p c) (tables.refAt refs) (λ (i : ℕ). emit.refReaches refs labels ss′ (n + m) i) f
             (λ i h.
             rw (
               target-map p c wf (wordAt refs (i * 4 + 1)),
@@ -204,33 +204,33 @@ module _ (code labels events refs constants asked relocs output : List ℕ) (row
               table-is,
             )
             (field-reaches (decoded (wordAt refs (i * 4 + 2))) _ _ _))
-            ∙ reach-all refs labels rows′ (n + m) f
+            ∙ reach-all refs labels ss′ (n + m) f
 
-        late-is : whyNotWritten p (length output) ≡ first ((not (emit.refsReach refs labels rows′ (n + m) f), 18) ∷ (ltb (length output) len′, 23) ∷ [])
+        late-is : whyNotWritten p (length output) ≡ first ((not (emit.refsReach refs labels ss′ (n + m) f), 18) ∷ (ltb (length output) len′, 23) ∷ [])
         unfolding whyNotWritten
         late-is = rw (← choice-is, reach-is, ← len-is)
 
-        rows-settled : rows′ ≡ settledRows p rows
-        rows-settled = rw (← choice-is) rows-are
+        segments-settled : ss′ ≡ settledSegments p ss
+        segments-settled = rw (← choice-is) segments-are
 
-        module _ (late : ℕ) (late·answer : late ≡ first ((not (emit.refsReach refs labels rows′ (n + m) f), 18) ∷ (ltb (length output) len′, 23) ∷ [])) where
+        module _ (late : ℕ) (late·answer : late ≡ first ((not (emit.refsReach refs labels ss′ (n + m) f), 18) ∷ (ltb (length output) len′, 23) ∷ [])) where
           pub refused-late : (r : Outcome) → late ≢ 0 → r ≡ refusedWith late
-              → (r, (labels, (relocs, (rows′, output)))) ≡ relaxed p l labels relocs rows output
+              → (r, (labels, (relocs, (ss′, output)))) ≡ relaxed p l labels relocs ss output
           unfolding relaxed
           refused-late r ne e =
-              rw (e, rows-settled, early-is ∙ sym early·answer, late-is ∙ sym late·answer)
+              rw (e, segments-settled, early-is ∙ sym early·answer, late-is ∙ sym late·answer)
               (sym (yes-eq early 0 _ _ none·early ∙ no-eq late 0 _ _ ne))
 
           module _ (none·late : late ≡ 0) (chosen : length c ≡ n + m) (final relocs′ left : List ℕ)
-              (final-is : final ≡ mappedWords (mapOffset (tableOf rows′ (n + m))) labels 1 count) where
+              (final-is : final ≡ mappedWords (mapOffset (take (n + m) ss′)) labels 1 count) where
             code-fits : length (assembled p c) ≤ length output
             code-fits =
                 rw (← len-is)
                 (ltb-false (length output) len′
                 (passed (ltb (length output) len′) 23 0 (λ e. omega arith)
-                (passed (not (emit.refsReach refs labels rows′ (n + m) f)) 18 _ (λ e. omega arith) (sym late·answer ∙ none·late) .1) .0))
+                (passed (not (emit.refsReach refs labels ss′ (n + m) f)) 18 _ (λ e. omega arith) (sym late·answer ∙ none·late) .1) .0))
 
-            label-small : (i : ℕ) → i < count → mapOffset (tableOf rows′ (n + m)) (wordAt labels i) < 4294967296
+            label-small : (i : ℕ) → i < count → mapOffset (take (n + m) ss′) (wordAt labels i) < 4294967296
             unfolding mapOffset
             label-small i h =
                 rw table-is
@@ -248,33 +248,33 @@ module _ (code labels events refs constants asked relocs output : List ℕ) (row
                 ))
                 (eq-or-ne (wordAt labels i) none))
 
-            label-moved : (i : ℕ) → i < count → wordAt final i ≡ mapOffset (tableOf rows′ (n + m)) (wordAt labels i)
+            label-moved : (i : ℕ) → i < count → wordAt final i ≡ mapOffset (take (n + m) ss′) (wordAt labels i)
             label-moved i h =
-                rw (final-is, labels-mapped (mapOffset (tableOf rows′ (n + m))) labels count)
-                (word-over (λ (k : ℕ). mapOffset (tableOf rows′ (n + m)) (wordAt labels k)) labels count i h (x .ready .room) (label-small i h))
+                rw (final-is, labels-mapped (mapOffset (take (n + m) ss′)) labels count)
+                (word-over (λ (k : ℕ). mapOffset (take (n + m) ss′) (wordAt labels k)) labels count i h (x .ready .room) (label-small i h))
 
             final-long : length final ≡ length labels
-            final-long = rw (final-is, labels-mapped (mapOffset (tableOf rows′ (n + m))) labels count) (length-over labels 0 _)
+            final-long = rw (final-is, labels-mapped (mapOffset (take (n + m) ss′)) labels count) (length-over labels 0 _)
 
             -- what the code is written from
-            pub writing-is : Writing output code final events refs constants asked c rows′ len n m f (endOfRuns code events c len n)
+            pub writing-is : Writing output code final events refs constants asked c ss′ len n m f (endOfRuns code events c len n)
             writing-is =
-                writing code labels events constants asked refs len count n m f (x .ready) (x .referred) clear rows rows′ c rows-are few room chosen final output label-moved final-long
+                writing code labels events constants asked refs len count n m f (x .ready) (x .referred) clear ss ss′ c segments-are few room chosen final output label-moved final-long
                 (omega (arith, ap (λ (d : Choice). finishedLength (allEvents events n len constants asked m) d (poolStart len constants asked m)) (laid .choice), laid .finished, len-is, code-fits))
                 (x .output-limit)
 
             final-labels : final ≡ overWords labels (map (moved p c) (p .labels))
             final-labels =
                 final-is
-                ∙ labels-mapped (mapOffset (tableOf rows′ (n + m))) labels count
+                ∙ labels-mapped (mapOffset (take (n + m) ss′)) labels count
                 ∙ ap (overWords labels)
-                (sym (map-entries (mapOffset (tableOf rows′ (n + m))) (wordAt labels) count)
+                (sym (map-entries (mapOffset (take (n + m) ss′)) (wordAt labels) count)
                 ∙ ap (λ (ss : List Segment). map (mapOffset ss) (p .labels)) table-is
                 ∙ labels-same p c wf)
 
-            code-is : codeWritten output code final events refs constants asked c rows′ len n m f ≡ over output 0 (assembled p c)
+            code-is : codeWritten output code final events refs constants asked c ss′ len n m f ≡ over output 0 (assembled p c)
             code-is =
-                code-written code labels final events refs constants asked len count n m f us c rows′
+                code-written code labels final events refs constants asked len count n m f us c ss′
                 (record {
                   ready = x .ready;
                   clear = clear-all code labels events constants asked refs len count n m f (x .ready) (x .referred) clear us;
@@ -286,19 +286,19 @@ module _ (code labels events refs constants asked relocs output : List ℕ) (row
                 output _ _ _ refl refl refl code-fits
 
             pub done : (r : Outcome) → r ≡ record { refusal = 0; len = len′; layouts = layouts }
-                → relocs′ ≡ mappedWords (mapOffset (tableOf rows′ (n + m))) relocs 6 l
-                → left ≡ codeWritten output code final events refs constants asked c rows′ len n m f
-                → (r, (final, (relocs′, (rows′, left)))) ≡ relaxed p l labels relocs rows output
+                → relocs′ ≡ mappedWords (mapOffset (take (n + m) ss′)) relocs 6 l
+                → left ≡ codeWritten output code final events refs constants asked c ss′ len n m f
+                → (r, (final, (relocs′, (ss′, left)))) ≡ relaxed p l labels relocs ss output
             unfolding relaxed
             done r er em el =
                 rw (
                   er,
                   el ∙ code-is,
                   final-labels,
-                  em ∙ relocs-mapped (mapOffset (tableOf rows′ (n + m))) relocs l ∙ ap (λ (ss : List Segment). relocated (mapOffset ss) relocs l) table-is,
+                  em ∙ relocs-mapped (mapOffset (take (n + m) ss′)) relocs l ∙ ap (λ (ss : List Segment). relocated (mapOffset ss) relocs l) table-is,
                   len-is,
                   laid .rounds ∙ ap (λ (s : Settled). s .rounds) settled-is,
-                  rows-settled,
+                  segments-settled,
                   choice-is,
                   early-is ∙ sym early·answer,
                   late-is ∙ sym late·answer,

@@ -28,7 +28,7 @@ use Rattle.fresh.proofs.Fill.{built-assembled, length-built}
 use Rattle.fresh.proofs.Past.{built-past, inPlace-past}
 use Rattle.pool.specs.Pool.{labelAt, poolStart, poolOffset, poolBytes, poolWritten}
 use Rattle.pool.proofs.Pool.{poolStart-bound, length-poolBytes, poolStart-suc, poolStart-grows}
-use Rattle.layout.specs.Layout.{segmentOf, tableOf}
+use Rattle.layout.specs.Layout.{zeroSegment}
 use Rattle.emit.specs.Emit.{usesFilled, refsFilled, jumpsFilled, endAt}
 use Rattle.checks.specs.Fields.{sizeOf}
 use Rattle.finish.specs.Refusals.{every, refClear}
@@ -39,13 +39,13 @@ use Rattle.finish.proofs.Filled.{uses-filled, refs-filled, jumps-filled
 use Rattle.finish.proofs.Emission.{pool-runs}
 
 -- what the code is written from: the tables, the layout of a choice of long jumps, and labels at their new offsets
-pub record Placing (code labels final events refs constants asked : List ℕ) (len count n m f : ℕ) (us : List tables.Use) (c : Choice) (rows : List (List ℕ)) : Type 0 where
+pub record Placing (code labels final events refs constants asked : List ℕ) (len count n m f : ℕ) (us : List tables.Use) (c : Choice) (ss : List Segment) : Type 0 where
   pub ready : Ready code labels events constants asked 2 len count n m
   pub clear : every (refClear (tablesPooled 2 len (take len code) (tables.entries (wordAt labels) count) (tables.entries (eventAt events) n) us (tables.entries (tables.refAt refs) f) constants asked m)) (tables.entries (tables.refAt refs) f) ≡ true
-  pub laid : tableOf rows (n + m) ≡ segmentsOf (tablesPooled 2 len (take len code) (tables.entries (wordAt labels) count) (tables.entries (eventAt events) n) us (tables.entries (tables.refAt refs) f) constants asked m) c
+  pub laid : take (n + m) ss ≡ segmentsOf (tablesPooled 2 len (take len code) (tables.entries (wordAt labels) count) (tables.entries (eventAt events) n) us (tables.entries (tables.refAt refs) f) constants asked m) c
   pub known : (i : ℕ) → i < f → wordAt refs (i * 4 + 1) < count
   pub named : (i : ℕ) (j : RelaxableJump) → i < n → eventAt events i ≡ Jump j → j .label < count
-  pub moved : (l : ℕ) → l < count → wordAt final l ≡ mapOffset (tableOf rows (n + m)) (wordAt labels l)
+  pub moved : (l : ℕ) → l < count → wordAt final l ≡ mapOffset (take (n + m) ss) (wordAt labels l)
 
 abbrev pub any·ref : tables.Ref
 any·ref = record { offset = 0; label = 0; code = 0; addend = 0 }
@@ -61,16 +61,15 @@ over-at xs ys zs n h =
     let e : n ≡ 0 + length ys = omega arith in
     ap (λ (k : ℕ). over (over xs 0 ys) k zs) e ∙ over-append xs 0 ys zs
 
--- a segment's new end, read from its row
-pub end-row : (rows : List (List ℕ)) (ss : List Segment) (k i : ℕ) → i < k → tableOf rows k ≡ ss → endAt rows i ≡ getD (newEnds ss) i 0
-end-row rows ss k i h e =
-    ap (λ (row : List ℕ). (segmentOf row) .«new_end») (sym (getD-take k rows i [] h))
-    ∙ ap (λ (s : Segment). s .«new_end») (sym (List·getD-map segmentOf (take k rows) i []))
-    ∙ ap (λ (l : List Segment). getD l i (segmentOf []) .«new_end») e
-    ∙ sym (List·getD-map (λ (s : Segment). s .«new_end») ss i (segmentOf []))
+-- a segment's new end, read from the table
+pub end-segment : (ss made : List Segment) (k i : ℕ) → i < k → take k ss ≡ made → endAt ss i ≡ getD (newEnds made) i 0
+end-segment ss made k i h e =
+    ap (λ (s : Segment). s .«new_end») (sym (getD-take k ss i zeroSegment h))
+    ∙ ap (λ (l : List Segment). getD l i zeroSegment .«new_end») e
+    ∙ sym (List·getD-map (λ (s : Segment). s .«new_end») made i zeroSegment)
 
-module _ (code labels final events refs constants asked : List ℕ) (len count n m f : ℕ) (us : List tables.Use) (c : Choice) (rows : List (List ℕ))
-    (pl : Placing code labels final events refs constants asked len count n m f us c rows) where
+module _ (code labels final events refs constants asked : List ℕ) (len count n m f : ℕ) (us : List tables.Use) (c : Choice) (ss : List Segment)
+    (pl : Placing code labels final events refs constants asked len count n m f us c ss) where
   abbrev p : Pooled
   p = tablesPooled 2 len (take len code) (tables.entries (wordAt labels) count) (tables.entries (eventAt events) n) us (tables.entries (tables.refAt refs) f) constants asked m
 
@@ -86,8 +85,8 @@ module _ (code labels final events refs constants asked : List ℕ) (len count n
       label-at (labelAt constants asked j) (pl .ready .owned j h)
       ∙ ap (mapOffset (segmentsOf p c)) (getD-entries (wordAt labels) count (labelAt constants asked j) none (pl .ready .owned j h) ∙ pl .ready .stands j h)
 
-  ends-at : (i : ℕ) → i < n → endAt rows i ≡ getD (newEnds (segmentsOf p c)) i 0
-  ends-at i h = end-row rows (segmentsOf p c) (n + m) i (omega arith) (pl .laid)
+  ends-at : (i : ℕ) → i < n → endAt ss i ≡ getD (newEnds (segmentsOf p c)) i 0
+  ends-at i h = end-segment ss (segmentsOf p c) (n + m) i (omega arith) (pl .laid)
 
   all-runs : runs 0 0 (p .code) (p .events) c
       ≡ runs 0 0 (take len code) (tables.entries (eventAt events) n) c
@@ -104,7 +103,7 @@ module _ (code labels final events refs constants asked : List ℕ) (len count n
       → to ≡ length (runs 0 0 (take len code) (tables.entries (eventAt events) n) c)
       → laid ≡ over placed to (poolBytes 2 to constants asked m)
       → length (assembled p c) ≤ length output
-      → poolWritten (jumpsFilled (refsFilled laid refs final rows (n + m) f) events final c rows n) final constants asked m
+      → poolWritten (jumpsFilled (refsFilled laid refs final ss (n + m) f) events final c ss n) final constants asked m
       ≡ over output 0 (assembled p c)
   unfolding fill
   code-written output placed laid to ep et el fits =
@@ -113,8 +112,8 @@ module _ (code labels final events refs constants asked : List ℕ) (len count n
       let whole : laid ≡ over output 0 (runs 0 0 (p .code) (p .events) c)
       = rw (el, ep, et, all-runs) (over-at output recorded (poolBytes 2 (length recorded) constants asked m) (length recorded) refl) in
       rw (
-        refs-filled laid refs final (p .labels) rows (segmentsOf p c) (n + m) f (pl .laid) (λ i h. label-at (wordAt refs (i * 4 + 1)) (pl .known i h)),
-        jumps-filled (fillRefs at (p .labels) (p .refs) laid) events final (p .labels) constants asked c rows at (newEnds (segmentsOf p c)) n len m ends-at
+        refs-filled laid refs final (p .labels) ss (segmentsOf p c) (n + m) f (pl .laid) (λ i h. label-at (wordAt refs (i * 4 + 1)) (pl .known i h)),
+        jumps-filled (fillRefs at (p .labels) (p .refs) laid) events final (p .labels) constants asked c ss at (newEnds (segmentsOf p c)) n len m ends-at
             (λ i j h e. label-at (j .label) (pl .named i j h e)),
         pool-filled (fillJumps at (p .labels) (p .events) c (newEnds (segmentsOf p c)) (fillRefs at (p .labels) (p .refs) laid)) final constants asked at len m pool-at,
         whole,

@@ -1,29 +1,33 @@
 -- What the stages of finish are handed once the entries are checked and the pool's labels are bound in the table of labels.
 use mathlib.Core.Path.{_≡_}
 use mathlib.Core.Logic.{_⊎_}
-use mathlib.Core.Bool.{Bool}
-use mathlib.Core.List.{List}
+use mathlib.Core.Bool.{Bool, not}
+use mathlib.Core.List.{List, [], _∷_}
 use Prim.Native.Nat.{ℕ, _+_, _*_, _≤_, _<_}
-use lib.Dec.{eqb}
+use lib.Dec.{eqb, ltb}
 use lib.ListN.{length, take}
-use Rattle.seqs.specs.Pick.{pick}
+use Rattle.seqs.specs.Pick.{pick, first}
 use Rattle.seqs.specs.Over.{over}
 use Rattle.words.specs.Words.{wordAt}
 use Rattle.recording.specs.Sound.{startAt, endAt, CodeSound, LabelSound, EventsSound, UsesSound, RefsSound, RelocsSound}
+use Rattle.relax.specs.declared.Segment.{Segment}
 use Rattle.relax.specs.Events.{eventAt}
 use Rattle.buffer.specs.declared.CodeBuffer.{CodeBuffer}
-use Rattle.recording.specs.View.{entries, useAt, refAt, relocAt}
+use Rattle.recording.specs.Calls.{Recording}
+use Rattle.recording.specs.View.{Use, entries, useAt, refAt, relocAt}
 use Rattle.fresh.specs.Pooled.{Pooled}
 use Rattle.fresh.specs.Fill.{inPlace}
 use Rattle.fresh.specs.Segments.{mapOffset}
 use Rattle.fresh.proofs.Shape.{runs}
-use Rattle.pool.specs.Pool.{labelAt, poolStart, poolOffset, poolBytes, poolWritten, PoolFits, PoolLabels, PoolRoom}
-use Rattle.layout.specs.Layout.{tableOf, Rising}
+use Rattle.pool.specs.Pool.{labelAt, poolStart, poolOffset, poolBytes, poolWritten, poolUnbound, PoolFits, PoolLabels, PoolRoom}
+use Rattle.layout.specs.Layout.{Rising}
 use Rattle.emit.specs.Emit.{usesFilled, refsFilled, jumpsFilled, Emits, UsesFit, RefsFit, JumpsFit, WordsFit}
+use Rattle.checks.specs.Fields.{refsClear}
 use Rattle.checks.specs.Search as search
+use Rattle.finish.specs.declared.Finished.{Finished}
 use Rattle.finish.specs.declared.Outcome.{Outcome}
 use Rattle.finish.specs.Refusals.{allBound, hasJump, whyNotInPlace}
-use Rattle.finish.specs.Finish.{Left, refusedWith, relaxed, unrelaxed}
+use Rattle.finish.specs.Finish.{Left, refusedWith, relaxed, unrelaxed, finishedWith, unfinished, finish}
 use Rattle.finish.specs.Tables.{tablesPooled}
 
 -- a label as recordings leave it, or one of the pool
@@ -64,26 +68,26 @@ abbrev pub endOfRuns : List ℕ → List ℕ → List Bool → ℕ → ℕ → �
 endOfRuns code events long len n = length (runs 0 0 (take len code) (entries (eventAt events) n) long)
 
 -- the output once all is written, in the order of the calls
-abbrev pub codeWritten : List ℕ → List ℕ → List ℕ → List ℕ → List ℕ → List ℕ → List ℕ → List Bool → List (List ℕ) → ℕ → ℕ → ℕ → ℕ → List ℕ
-codeWritten output code labels events refs constants asked long rows len n m f =
+abbrev pub codeWritten : List ℕ → List ℕ → List ℕ → List ℕ → List ℕ → List ℕ → List ℕ → List Bool → List Segment → ℕ → ℕ → ℕ → ℕ → List ℕ
+codeWritten output code labels events refs constants asked long ss len n m f =
     let to = endOfRuns code events long len n in
     let placed = over output 0 (runs 0 0 (take len code) (entries (eventAt events) n) long) in
     let laid = over placed to (poolBytes 2 to constants asked m) in
-    poolWritten (jumpsFilled (refsFilled laid refs labels rows (n + m) f) events labels long rows n) labels constants asked m
+    poolWritten (jumpsFilled (refsFilled laid refs labels ss (n + m) f) events labels long ss n) labels constants asked m
 
--- what the code is written from: a layout of a choice of long jumps in the rows, labels at their new offsets, and an output that has room. `to` is where
+-- what the code is written from: a layout of a choice of long jumps in the table, labels at their new offsets, and an output that has room. `to` is where
 -- the recorded code ends in the output.
-pub record Writing (output code labels events refs constants asked : List ℕ) (long : List Bool) (rows : List (List ℕ)) (len n m f to : ℕ) : Type 0 where
+pub record Writing (output code labels events refs constants asked : List ℕ) (long : List Bool) (ss : List Segment) (len n m f to : ℕ) : Type 0 where
   pub small : len ≤ 16777216
-  pub rising : Rising rows n
-  pub rising-all : Rising rows (n + m)
-  pub emits : Emits output code events long rows n len
-  pub ends : mapOffset (tableOf rows n) len ≡ to
+  pub rising : Rising ss n
+  pub rising-all : Rising ss (n + m)
+  pub emits : Emits output code events long ss n len
+  pub ends : mapOffset (take n ss) len ≡ to
   pub near : to ≤ 16777216
   pub pool : PoolFits constants asked m
   pub pooled : poolStart to constants asked m ≤ length output
-  pub filled : RefsFit (length output) refs labels rows (n + m) f
-  pub jumped : JumpsFit (length output) events labels long rows n
+  pub filled : RefsFit (length output) refs labels ss (n + m) f
+  pub jumped : JumpsFit (length output) events labels long ss n
   pub named : PoolLabels labels constants asked m
   pub written : PoolRoom output labels constants asked m
 
@@ -144,8 +148,31 @@ pooledOf b code labels events uses refs constants asked =
     (entries (refAt refs) (b .refs)) constants asked (b .asked)
 
 -- what is answered and left, where the table of labels has the pool's labels bound
-unfoldable pub placedAs : Pooled → CodeBuffer → List ℕ → List ℕ → List (List ℕ) → List ℕ → Outcome × Left
-placedAs p b labels relocs rows output =
+unfoldable pub placedAs : Pooled → CodeBuffer → List ℕ → List ℕ → List Segment → List ℕ → Outcome × Left
+placedAs p b labels relocs ss output =
     pick (allBound p (entries (relocAt relocs) (b .relocs)))
-    (pick (hasJump p) (relaxed p (b .relocs) labels relocs rows output) (unrelaxed p labels relocs rows output))
-    (refusedWith 15, (labels, (relocs, (rows, output))))
+    (pick (hasJump p) (relaxed p (b .relocs) labels relocs ss output) (unrelaxed p labels relocs ss output))
+    (refusedWith 15, (labels, (relocs, (ss, output))))
+
+-- what is left before a layout that is to be made: the output is as it was, and what is then relaxed is what is placed
+pub record Starts (b : CodeBuffer) (code labels events uses refs constants asked relocs output left : List ℕ) (segments : ℕ) : Type 0 where
+  pub kept : left ≡ output
+  pub relaxable : Relaxable code labels events refs constants asked relocs output segments (b .code) (b .labels) (b .events) (b .asked) (b .refs) (b .relocs)
+  pub laid : 0 ≡ first ((ltb segments (b .events + b .asked), 16) ∷ (not (refsClear refs (b .refs) events (b .events) (b .code) constants asked (b .asked)), 17) ∷ [])
+  pub placed : (ss : List Segment) (x : Outcome × Left)
+      → ((us : List Use) → x ≡ relaxed (tablesPooled 2 (b .code) (take (b .code) code) (entries (wordAt labels) (b .labels)) (entries (eventAt events) (b .events)) us (entries (refAt refs) (b .refs)) constants asked (b .asked)) (b .relocs) labels relocs ss output)
+      → x ≡ placedAs (pooledOf b code labels events uses refs constants asked) b labels relocs ss output
+
+-- the answer and the labels once a recording is placed: one that is refused gets the pool's labels back
+unfoldable pub concluded : CodeBuffer → List ℕ → List ℕ → Outcome → List ℕ → Finished × List ℕ
+concluded b constants asked placed labels =
+    pick (eqb (placed .refusal) 0) (finishedWith b placed, labels) (unfinished b (placed .refusal), poolUnbound labels constants asked (b .asked))
+
+-- what finish leaves before a layout that is to be made: what is then relaxed and concluded is what finish answers and leaves
+pub record Begins (r : Recording) (labels output left : List ℕ) (segments : ℕ) : Type 0 where
+  pub kept : left ≡ output
+  pub relaxable : Relaxable (r .code) labels (r .events) (r .refs) (r .constants) (r .asked) (r .relocs) output segments (r .buffer .code) (r .buffer .labels) (r .buffer .events) (r .buffer .asked) (r .buffer .refs) (r .buffer .relocs)
+  pub laid : 0 ≡ first ((ltb segments (r .buffer .events + r .buffer .asked), 16) ∷ (not (refsClear (r .refs) (r .buffer .refs) (r .events) (r .buffer .events) (r .buffer .code) (r .constants) (r .asked) (r .buffer .asked)), 17) ∷ [])
+  pub concludes : (ss : List Segment) → length ss ≡ segments → (placed : Outcome) (x : Left)
+      → ((us : List Use) → (placed, x) ≡ relaxed (tablesPooled 2 (r .buffer .code) (take (r .buffer .code) (r .code)) (entries (wordAt labels) (r .buffer .labels)) (entries (eventAt (r .events)) (r .buffer .events)) us (entries (refAt (r .refs)) (r .buffer .refs)) (r .constants) (r .asked) (r .buffer .asked)) (r .buffer .relocs) labels (r .relocs) ss output)
+      → (f : Finished) (back : List ℕ) → (f, back) ≡ concluded (r .buffer) (r .constants) (r .asked) placed (x .0) → (f, (back, x .1)) ≡ finish r ss output

@@ -1,10 +1,17 @@
 // `finish`: from a recording to code. After asmkit's core/buffer.rs (see NOTICE). It asks in the order of document 01's refusals; nothing is written to
 // the output before the last of them is past, and a table that was written to for a while is as before where finish is refused.
 ghost use mathlib.Core.Path.{_≡_};
+ghost use mathlib.Core.Bool.{true, false};
+ghost use mathlib.Core.List.{List};
+ghost use lib.ListN.{length};
+ghost use Rattle.relax.specs.declared.Segment.{Segment};
+ghost use Rattle.pool.specs.Pool.{PoolFits, PoolLabels};
 ghost use Rattle.checks.specs.Lent.{recordingOf};
 ghost use Rattle.finish.specs.Refusals.{whyUnfit};
 ghost use Rattle.finish.specs.Finish.{unfinished, finishedWith, finish};
+ghost use Rattle.finish.specs.Ready.{concluded, Begins};
 use buffer::CodeBuffer;
+use relax::Segment;
 
 mod pooled;
 
@@ -34,6 +41,18 @@ pub struct Outcome {
     pub refusal: u32,
     pub len: u32,
     pub layouts: u32,
+}
+
+// What becomes of it before a layout: whether one is to be made, and if none is, the outcome.
+pub struct Started {
+    pub relax: bool,
+    pub outcome: Outcome,
+}
+
+// What finish comes to before a layout: whether one is to be made, and if none is, what it answers.
+struct Begun {
+    relax: bool,
+    finished: Finished,
 }
 
 // 1 to 4 as every call, 1 for an entry that no recording writes, 13 and 14.
@@ -117,9 +136,26 @@ fn finished_with(mut b: CodeBuffer, placed: Outcome) -> Finished
     }
 }
 
-// Finishes a recording: pools its constants, relaxes its jumps and writes its code to `output`. On success `labels` and `relocs` hold final offsets. The
-// tables are lent whole; `segments` has room for every alignment and jump, those of the pool included.
-pub fn finish(
+// What finish answers once a recording is placed. One that is refused gets the pool's labels back.
+fn conclude(
+    b: CodeBuffer,
+    labels: &mut [u8],
+    constants: &[u8],
+    asked: &[u8],
+    placed: Outcome,
+) -> Finished
+    requires { ⌜ PoolFits (now constants) (now asked) (b .asked) ⌝ ∗ ⌜ PoolLabels (now labels) (now constants) (now asked) (b .asked) ⌝ }
+    ensures { λ r. ⌜ (r, now (labels .exit)) ≡ concluded b (now (constants .entry)) (now (asked .entry)) placed (now (labels .entry)) ⌝ }
+{
+    if placed.refusal != 0 {
+        pool::unbind(labels, constants, asked, b.asked as usize);
+        return unfinished(b, placed.refusal);
+    }
+    finished_with(b, placed)
+}
+
+// Finish up to a layout: 1 to 17, and without a jump all of it. `segments` is how many there is room for.
+fn begin(
     b: CodeBuffer,
     code: &[u8],
     labels: &mut [u8],
@@ -128,11 +164,12 @@ pub fn finish(
     refs: &[u8],
     constants: &[u8],
     asked: &[u8],
-    relocs: &mut [u8],
-    segments: &mut [[u32; 4]],
+    relocs: &[u8],
+    segments: usize,
     output: &mut [u8],
-) -> Finished
-    ensures { λ r. ⌜ (r, (now (labels .exit), (now (relocs .exit), (now (segments .exit), now (output .exit))))) ≡ finish (recordingOf b (now (code .entry)) (now (labels .entry)) (now (events .entry)) (now (uses .entry)) (now (refs .entry)) (now (constants .entry)) (now (asked .entry)) (now (relocs .entry))) (now (segments .entry)) (now (output .entry)) ⌝ }
+) -> Begun
+    ensures { λ r. ⌜ (r .relax ≡ false → (ss : List Segment) → length ss ≡ segments → (r .finished, (now (labels .exit), (now (relocs .entry), (ss, now (output .exit))))) ≡ finish (recordingOf b (now (code .entry)) (now (labels .entry)) (now (events .entry)) (now (uses .entry)) (now (refs .entry)) (now (constants .entry)) (now (asked .entry)) (now (relocs .entry))) ss (now (output .entry))) ⌝ }
+    ensures { λ r. ⌜ (r .relax ≡ true → Begins (recordingOf b (now (code .entry)) (now (labels .entry)) (now (events .entry)) (now (uses .entry)) (now (refs .entry)) (now (constants .entry)) (now (asked .entry)) (now (relocs .entry))) (now (labels .exit)) (now (output .entry)) (now (output .exit)) segments) ⌝ }
 {
     let why = why_unfit(
         b,
@@ -144,15 +181,17 @@ pub fn finish(
         constants,
         asked,
         relocs,
-        segments.len(),
+        segments,
         output.len(),
     );
     if why != 0 {
-        return unfinished(b, why);
+        return Begun {
+            relax: false,
+            finished: unfinished(b, why),
+        };
     }
-    let m = b.asked as usize;
-    pool::bind(b.code, labels, constants, asked, m);
-    let placed = pooled::place(
+    pool::bind(b.code, labels, constants, asked, b.asked as usize);
+    let started = pooled::start(
         b,
         code,
         labels,
@@ -165,9 +204,68 @@ pub fn finish(
         segments,
         output,
     );
-    if placed.refusal != 0 {
-        pool::unbind(labels, constants, asked, m);
-        return unfinished(b, placed.refusal);
+    if started.relax {
+        return Begun {
+            relax: true,
+            finished: unfinished(b, 0),
+        };
     }
-    finished_with(b, placed)
+    let outcome = started.outcome;
+    Begun {
+        relax: false,
+        finished: conclude(b, labels, constants, asked, outcome),
+    }
+}
+
+// Finishes a recording: pools its constants, relaxes its jumps and writes its code to `output`. On success `labels` and `relocs` hold final offsets. The
+// tables are lent whole; `segments` has room for every alignment and jump, those of the pool included.
+pub fn finish(
+    b: CodeBuffer,
+    code: &[u8],
+    labels: &mut [u8],
+    events: &[u8],
+    uses: &[u8],
+    refs: &[u8],
+    constants: &[u8],
+    asked: &[u8],
+    relocs: &mut [u8],
+    segments: &mut [Segment],
+    output: &mut [u8],
+) -> Finished
+    ensures { λ r. ⌜ (r, (now (labels .exit), (now (relocs .exit), (now (segments .exit), now (output .exit))))) ≡ finish (recordingOf b (now (code .entry)) (now (labels .entry)) (now (events .entry)) (now (uses .entry)) (now (refs .entry)) (now (constants .entry)) (now (asked .entry)) (now (relocs .entry))) (now (segments .entry)) (now (output .entry)) ⌝ }
+{
+    let begun = begin(
+        b,
+        code,
+        labels,
+        events,
+        uses,
+        refs,
+        constants,
+        asked,
+        relocs,
+        segments.len(),
+        output,
+    );
+    if !begun.relax {
+        return begun.finished;
+    }
+    let placed = pooled::relaxed(
+        code,
+        labels,
+        events,
+        refs,
+        constants,
+        asked,
+        relocs,
+        segments,
+        output,
+        b.code,
+        b.labels as usize,
+        b.events as usize,
+        b.asked as usize,
+        b.refs as usize,
+        b.relocs as usize,
+    );
+    conclude(b, labels, constants, asked, placed)
 }

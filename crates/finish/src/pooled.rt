@@ -1,6 +1,6 @@
 // What becomes of a recording once its entries are checked and the pool's labels are bound: with a jump it is laid out anew, without one it stays as it is.
 ghost use mathlib.Core.Path.{_≡_};
-ghost use mathlib.Core.Bool.{false, not, _&&_};
+ghost use mathlib.Core.Bool.{true, false, not, _&&_};
 ghost use mathlib.Core.List.{List, [], _∷_, map};
 ghost use Prim.Native.Nat.{_+_, _*_, _≤_};
 ghost use lib.Dec.{ltb};
@@ -8,17 +8,18 @@ ghost use lib.ListN.{length, take, replicate};
 ghost use Rattle.seqs.specs.Pick.{first, orElse};
 ghost use Rattle.words.specs.Words.{wordAt};
 ghost use Rattle.relax.specs.declared.LayoutEvent.{LayoutEvent};
+ghost use Rattle.relax.specs.declared.Segment.{Segment};
 ghost use Rattle.relax.specs.Events.{eventAt};
 ghost use Rattle.recording.specs.View as tables;
-ghost use Rattle.layout.specs.Layout.{Rising};
-ghost use Rattle.emit.specs.Emit.{refsReach, RefsKnown};
 ghost use Rattle.checks.specs.Fields.{usesBound, refsBound, jumpsBound, relocsBound, refsClear, whyUses};
 ghost use Rattle.checks.specs.Handed.{useLabel, Named};
 ghost use Rattle.finish.specs.Finish.{relaxed};
 ghost use Rattle.finish.specs.Tables.{tablesPooled};
-ghost use Rattle.finish.specs.Ready.{Entered, Clearing, endOfRuns, codeWritten, Writing, Relaxable, codeCopied, Copying, Keepable, kept, Placeable, pooledOf, placedAs};
+ghost use Rattle.finish.specs.Ready.{Entered, Clearing, endOfRuns, codeWritten, Writing, Relaxable, codeCopied, Copying, Keepable, kept, Placeable, pooledOf, placedAs, Starts};
 use crate::Outcome;
+use crate::Started;
 use buffer::CodeBuffer;
+use relax::Segment;
 
 fn refused(why: u32) -> Outcome
     ensures { λ r. ⌜ r ≡ record { refusal = why; len = 0; layouts = 0 } ⌝ }
@@ -83,19 +84,10 @@ fn why_not_laid(
 }
 
 // 18: a ref can't reach; 23: the finished code exceeds the output.
-fn why_not_written(
-    refs: &[u8],
-    labels: &[u8],
-    segments: &[[u32; 4]],
-    f: usize,
-    all: usize,
-    len: u32,
-    output: usize,
-) -> u32
-    requires { ⌜ Rising (now segments) all ⌝ ∗ ⌜ RefsKnown (now refs) (now labels) f ⌝ }
-    ensures { λ r. ⌜ r ≡ first ((not (refsReach (now (refs .entry)) (now (labels .entry)) (now (segments .entry)) all f), 18) ∷ (ltb output len, 23) ∷ []) ⌝ }
+fn why_not_written(reach: bool, len: u32, output: usize) -> u32
+    ensures { λ r. ⌜ r ≡ first ((not reach, 18) ∷ (ltb output len, 23) ∷ []) ⌝ }
 {
-    if !emit::refs_reach(refs, labels, segments, f, all) {
+    if !reach {
         return 18;
     }
     if output < len as usize {
@@ -105,7 +97,7 @@ fn why_not_written(
 }
 
 // Writes the finished code: the events and the runs between them, the pool, the refs, the jumps, and the constants last.
-fn write_relaxed(
+pub(crate) fn write_relaxed(
     output: &mut [u8],
     code: &[u8],
     labels: &[u8],
@@ -114,7 +106,7 @@ fn write_relaxed(
     constants: &[u8],
     asked: &[u8],
     long: &[bool],
-    segments: &[[u32; 4]],
+    segments: &[Segment],
     len: u32,
     n: usize,
     m: usize,
@@ -132,7 +124,7 @@ fn write_relaxed(
 }
 
 // The layout and what comes after it: 18 and 23, which leave the settled segments in their table, and the writing. `long` has an entry for each event.
-fn lay_out(
+pub(crate) fn lay_out(
     code: &[u8],
     labels: &mut [u8],
     events: &[u8],
@@ -140,7 +132,7 @@ fn lay_out(
     constants: &[u8],
     asked: &[u8],
     relocs: &mut [u8],
-    segments: &mut [[u32; 4]],
+    segments: &mut [Segment],
     output: &mut [u8],
     long: &mut [bool],
     len: u32,
@@ -154,12 +146,14 @@ fn lay_out(
     ensures { λ r. ⌜ ((us : List tables.Use) → (r, (now (labels .exit), (now (relocs .exit), (now (segments .exit), now (output .exit))))) ≡ relaxed (tablesPooled 2 len (take len (now (code .entry))) (tables.entries (wordAt (now (labels .entry))) count) (tables.entries (eventAt (now (events .entry))) n) us (tables.entries (tables.refAt (now (refs .entry))) f) (now (constants .entry)) (now (asked .entry)) m) l (now (labels .entry)) (now (relocs .entry)) (now (segments .entry)) (now (output .entry))) ⌝ }
 {
     let laid = layout::relax_jumps(segments, events, labels, constants, asked, long, n, m, len);
-    let why = why_not_written(refs, labels, segments, f, n + m, laid.len, output.len());
+    let all = n + m;
+    let reach = emit::refs_reach(refs, labels, segments, f, all);
+    let why = why_not_written(reach, laid.len, output.len());
     if why != 0 {
         return refused(why);
     }
-    emit::map_labels(labels, segments, count, n + m);
-    emit::map_relocs(relocs, segments, l, n + m);
+    emit::map_words(labels, segments, 1, count, all);
+    emit::map_words(relocs, segments, 6, l, all);
     write_relaxed(
         output,
         code,
@@ -182,8 +176,8 @@ fn lay_out(
     }
 }
 
-// With a jump: 16 and 17 come before the layout.
-fn relaxed(
+// With a jump, 16 and 17 being past.
+pub(crate) fn relaxed(
     code: &[u8],
     labels: &mut [u8],
     events: &[u8],
@@ -191,7 +185,7 @@ fn relaxed(
     constants: &[u8],
     asked: &[u8],
     relocs: &mut [u8],
-    segments: &mut [[u32; 4]],
+    segments: &mut [Segment],
     output: &mut [u8],
     len: u32,
     count: usize,
@@ -200,26 +194,9 @@ fn relaxed(
     f: usize,
     l: usize,
 ) -> Outcome
-    requires { ⌜ Relaxable (now code) (now labels) (now events) (now refs) (now constants) (now asked) (now relocs) (now output) (length (now segments)) len count n m f l ⌝ }
+    requires { ⌜ Relaxable (now code) (now labels) (now events) (now refs) (now constants) (now asked) (now relocs) (now output) (length (now segments)) len count n m f l ⌝ ∗ ⌜ 0 ≡ first ((ltb (length (now segments)) (n + m), 16) ∷ (not (refsClear (now refs) f (now events) n len (now constants) (now asked) m), 17) ∷ []) ⌝ }
     ensures { λ r. ⌜ ((us : List tables.Use) → (r, (now (labels .exit), (now (relocs .exit), (now (segments .exit), now (output .exit))))) ≡ relaxed (tablesPooled 2 len (take len (now (code .entry))) (tables.entries (wordAt (now (labels .entry))) count) (tables.entries (eventAt (now (events .entry))) n) us (tables.entries (tables.refAt (now (refs .entry))) f) (now (constants .entry)) (now (asked .entry)) m) l (now (labels .entry)) (now (relocs .entry)) (now (segments .entry)) (now (output .entry))) ⌝ }
 {
-    let end = pool::pool_end(len, constants, asked, m);
-    let why = why_not_laid(
-        segments.len(),
-        refs,
-        f,
-        events,
-        n,
-        labels,
-        constants,
-        asked,
-        m,
-        len,
-        end,
-    );
-    if why != 0 {
-        return refused(why);
-    }
     let all = n + m;
     let mut long = [false; 65536];
     lay_out(
@@ -320,22 +297,23 @@ fn unrelaxed(
     }
 }
 
-// Once the entries are checked and the pool's labels are bound: 15, then with or without a jump.
-pub(crate) fn place(
+// Once the entries are checked and the pool's labels are bound: 15, then 16 and 17 with a jump, and all without one.
+pub(crate) fn start(
     b: CodeBuffer,
     code: &[u8],
-    labels: &mut [u8],
+    labels: &[u8],
     events: &[u8],
     uses: &[u8],
     refs: &[u8],
     constants: &[u8],
     asked: &[u8],
-    relocs: &mut [u8],
-    segments: &mut [[u32; 4]],
+    relocs: &[u8],
+    segments: usize,
     output: &mut [u8],
-) -> Outcome
-    requires { ⌜ Placeable b (now code) (now labels) (now events) (now uses) (now refs) (now constants) (now asked) (now relocs) (now output) (length (now segments)) ⌝ }
-    ensures { λ r. ⌜ (r, (now (labels .exit), (now (relocs .exit), (now (segments .exit), now (output .exit))))) ≡ placedAs (pooledOf b (now (code .entry)) (now (labels .entry)) (now (events .entry)) (now (uses .entry)) (now (refs .entry)) (now (constants .entry)) (now (asked .entry))) b (now (labels .entry)) (now (relocs .entry)) (now (segments .entry)) (now (output .entry)) ⌝ }
+) -> Started
+    requires { ⌜ Placeable b (now code) (now labels) (now events) (now uses) (now refs) (now constants) (now asked) (now relocs) (now output) segments ⌝ }
+    ensures { λ r. ⌜ (r .relax ≡ false → (ss : List Segment) → length ss ≡ segments → (r .outcome, (now (labels .entry), (now (relocs .entry), (ss, now (output .exit))))) ≡ placedAs (pooledOf b (now (code .entry)) (now (labels .entry)) (now (events .entry)) (now (uses .entry)) (now (refs .entry)) (now (constants .entry)) (now (asked .entry))) b (now (labels .entry)) (now (relocs .entry)) ss (now (output .entry))) ⌝ }
+    ensures { λ r. ⌜ (r .relax ≡ true → Starts b (now (code .entry)) (now (labels .entry)) (now (events .entry)) (now (uses .entry)) (now (refs .entry)) (now (constants .entry)) (now (asked .entry)) (now (relocs .entry)) (now (output .entry)) (now (output .exit)) segments) ⌝ }
 {
     let count = b.labels as usize;
     let n = b.events as usize;
@@ -358,28 +336,32 @@ pub(crate) fn place(
         b.code,
         count,
     ) {
-        return refused(15);
+        return Started {
+            relax: false,
+            outcome: refused(15),
+        };
     }
     if checks::fields_fit::has_jump(events, n) {
-        return relaxed(
-            code,
-            labels,
-            events,
+        let end = pool::pool_end(b.code, constants, asked, m);
+        let why = why_not_laid(
+            segments,
             refs,
+            f,
+            events,
+            n,
+            labels,
             constants,
             asked,
-            relocs,
-            segments,
-            output,
-            b.code,
-            count,
-            n,
             m,
-            f,
-            l,
+            b.code,
+            end,
         );
+        return Started {
+            relax: why == 0,
+            outcome: refused(why),
+        };
     }
-    unrelaxed(
+    let outcome = unrelaxed(
         code,
         labels,
         uses,
@@ -391,5 +373,9 @@ pub(crate) fn place(
         count,
         u,
         m,
-    )
+    );
+    Started {
+        relax: false,
+        outcome,
+    }
 }

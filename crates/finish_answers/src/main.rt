@@ -8,6 +8,7 @@ use buffer::CodeBuffer;
 use buffer::Recorded;
 use finish::CodeBufferFinalized;
 use finish::Finished;
+use relax::Segment;
 
 // A recording, in little-endian words: bytes that follow, architecture, symbols, bytes of the sheet, the sheet, and the answer: error and index;
 // where the error is 0, finished length, alignment, layouts, the number of labels and their offsets, the number of relocations and of each
@@ -348,6 +349,45 @@ fn replay(
     }
 }
 
+fn table() -> [Segment; 8192] {
+    let zero = Segment {
+        old_start: 0,
+        old_end: 0,
+        new_start: 0,
+        new_end: 0,
+    };
+    [zero; 8192]
+}
+
+// Finishes with a table of 8,192 segments.
+fn finish_with_table(
+    recording: CodeBuffer,
+    code: &[u8],
+    labels: &mut [u8],
+    events: &[u8],
+    uses: &[u8],
+    refs: &[u8],
+    constants: &[u8],
+    asked: &[u8],
+    relocs: &mut [u8],
+    output: &mut [u8],
+) -> Finished {
+    let mut segments = table();
+    finish::finish(
+        recording,
+        code,
+        labels,
+        events,
+        uses,
+        refs,
+        constants,
+        asked,
+        relocs,
+        &mut segments,
+        output,
+    )
+}
+
 // Finishes a recording whose calls were all accepted.
 fn finish_recording(
     recording: CodeBuffer,
@@ -356,13 +396,12 @@ fn finish_recording(
     entries: &[u8],
     constants: &[u8],
     relocs: &mut [u8],
-    segments: &mut [[u32; 4]],
     output: &mut [u8],
 ) -> Finished {
     let quarter = entries.len() / 4;
     let half = quarter * 2;
     let end = quarter * 3;
-    finish::finish(
+    finish_with_table(
         recording,
         code,
         labels,
@@ -372,7 +411,6 @@ fn finish_recording(
         constants,
         &entries[end..],
         relocs,
-        segments,
         output,
     )
 }
@@ -582,7 +620,6 @@ fn judge_replayed(
     entries: &[u8],
     constants: &[u8],
     relocs: &mut [u8],
-    segments: &mut [[u32; 4]],
     output: &mut [u8],
 ) -> Counts {
     let refusal = replayed.last.refusal;
@@ -596,7 +633,6 @@ fn judge_replayed(
         entries,
         constants,
         relocs,
-        segments,
         output,
     );
     judge_finished(
@@ -636,7 +672,6 @@ fn try_recording(
     entries: &mut [u8],
     constants: &mut [u8],
     relocs: &mut [u8],
-    segments: &mut [[u32; 4]],
     output: &mut [u8],
 ) -> Counts {
     if stored.len() < 24 {
@@ -670,7 +705,6 @@ fn try_recording(
         entries,
         constants,
         relocs,
-        segments,
         output,
     );
     counted(counts, answer)
@@ -699,7 +733,6 @@ fn read_recording(
     entries: &mut [u8],
     constants: &mut [u8],
     relocs: &mut [u8],
-    segments: &mut [[u32; 4]],
     output: &mut [u8],
 ) -> Counts {
     let mut head = [0u8; 4];
@@ -720,7 +753,6 @@ fn read_recording(
         entries,
         constants,
         relocs,
-        segments,
         output,
     )
 }
@@ -741,19 +773,9 @@ fn read_next(
     entries: &mut [u8],
     constants: &mut [u8],
     relocs: &mut [u8],
-    segments: &mut [[u32; 4]],
     output: &mut [u8],
 ) -> Counts {
-    let one = read_recording(
-        stored,
-        code,
-        labels,
-        entries,
-        constants,
-        relocs,
-        segments,
-        output,
-    );
+    let one = read_recording(stored, code, labels, entries, constants, relocs, output);
     told(sum, one)
 }
 
@@ -777,7 +799,6 @@ fn read_recordings(
     entries: &mut [u8],
     constants: &mut [u8],
     relocs: &mut [u8],
-    segments: &mut [[u32; 4]],
     output: &mut [u8],
 ) -> Counts {
     let mut sum = NONE;
@@ -791,7 +812,6 @@ fn read_recordings(
             entries,
             constants,
             relocs,
-            segments,
             output,
         );
         left = left_after(sum.cut_short, left);
@@ -806,7 +826,6 @@ fn lend_tables(recordings: u32, code: &mut [u8; 3145728], output: &mut [u8; 3145
     let mut entries = [0u8; 393216];
     let mut constants = [0u8; 294912];
     let mut relocs = [0u8; 98304];
-    let mut segments = [[0u32; 4]; 8192];
     read_recordings(
         recordings,
         &mut stored,
@@ -815,7 +834,6 @@ fn lend_tables(recordings: u32, code: &mut [u8; 3145728], output: &mut [u8; 3145
         &mut entries,
         &mut constants,
         &mut relocs,
-        &mut segments,
         output,
     )
 }

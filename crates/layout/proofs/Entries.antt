@@ -1,6 +1,6 @@
 -- Lists read from a table, entry by entry.
-use mathlib.Core.Path.{_≡_, refl, sym, _∙_, ap}
-use mathlib.Core.List.{List, [], _∷_, _++_, map, append-assoc, append-nil}
+use mathlib.Core.Path.{_≡_, sym, _∙_, ap}
+use mathlib.Core.List.{[], _∷_, _++_, append-assoc, append-nil}
 use Prim.Native.Nat.{ℕ, zero, suc, _+_}
 use native.Mathlib.Omega.{arith}
 use Rattle.recording.specs.View.{entries}
@@ -11,7 +11,3 @@ entries-split f i zero = let e : i + 0 ≡ i = omega arith in ap (λ (n : ℕ). 
 entries-split f i (suc k) =
     let e : i + suc k ≡ suc (i + k) = omega arith in
     ap (λ (n : ℕ). entries f n) e ∙ rw (entries-split f i k) (append-assoc (entries f i) (entries (λ (j : ℕ). f (i + j)) k) (f (i + k) ∷ []))
-
-pub map-snoc : {A B : Type 0} (f : A → B) (xs : List A) (x : A) → map f (xs ++ (x ∷ [])) ≡ map f xs ++ (f x ∷ [])
-map-snoc f [] x = refl
-map-snoc f (y ∷ xs) x = ap (λ (l : List _). f y ∷ l) (map-snoc f xs x)

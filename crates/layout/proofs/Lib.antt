@@ -2,7 +2,8 @@ pub mod Search
 pub mod Entries
 pub mod Turns
 pub mod Pooling
-pub mod Rows
+pub mod Table
 pub mod Scan
 pub mod Settled
 pub mod Standing
+pub mod Plans

@@ -20,10 +20,11 @@ use Rattle.fresh.specs.Fresh.{Choice, startOf}
 use Rattle.fresh.specs.Segments.{segment, segments}
 use Rattle.fresh.proofs.Shape.{size, Ordered, Modest, Cursor, after}
 use Rattle.fresh.proofs.Forms.{width-size}
+use Rattle.fresh.proofs.Loops.{length-segments, segments-snoc}
 use Rattle.pool.specs.Pool.{sizeAt, poolStart, poolPadding, poolEvent, PoolFits}
-use Rattle.layout.specs.Layout.{rowOf, rowsFrom, endFrom, finishedLength, allEvents, Recorded}
+use Rattle.layout.specs.Layout.{endFrom, finishedLength, allEvents, Recorded}
 use Rattle.recording.proofs.Views.{length-entries}
-use Rattle.layout.proofs.Turns.{after-snoc, rows-snoc, length-rows}
+use Rattle.layout.proofs.Turns.{after-snoc}
 
 alignment-range : (n : ℕ) → (0 < constantAlignment n) × (constantAlignment n ≤ 16)
 alignment-range n = by (leb n 8)
@@ -46,15 +47,15 @@ align-segment : (old new t u len multiple : ℕ) (long : Bool) → u ≡ new + (
 unfolding size
 align-segment old new t u len multiple long h = rw (h, width-size) refl
 
--- The rows of the first j alignments stand over a table's from row n on, and the loop stands at the recorded offset `old` and the new offset `new`.
-pub record PoolLaid (before rows : List (List ℕ)) (constants asked : List ℕ) (n from to j old new : ℕ) : Type 0 where
-  pub table : rows ≡ over before n (rowsFrom from to (entries (poolEvent from constants asked) j) [])
+-- The segments of the first j alignments stand over a table's from segment n on, and the loop stands at the recorded offset `old` and the new offset `new`.
+pub record PoolLaid (before ss : List Segment) (constants asked : List ℕ) (n from to j old new : ℕ) : Type 0 where
+  pub table : ss ≡ over before n (segments from to (entries (poolEvent from constants asked) j) [])
   pub start : old ≡ poolStart from constants asked j
   pub sum : new ≡ endFrom from to (entries (poolEvent from constants asked) j) [] old
   pub near : old ≤ from + 79 * j
   pub small : new ≤ to + 79 * j
 
-pub pool-none : (before : List (List ℕ)) (constants asked : List ℕ) (n from to : ℕ) → PoolLaid before before constants asked n from to 0 from to
+pub pool-none : (before : List Segment) (constants asked : List ℕ) (n from to : ℕ) → PoolLaid before before constants asked n from to 0 from to
 unfolding after segments poolStart
 pool-none before constants asked n from to = record {
   table = sym (over-nil before n);
@@ -64,7 +65,7 @@ pool-none before constants asked n from to = record {
   small = omega arith;
 }
 
-module _ (before rows : List (List ℕ)) (constants asked : List ℕ) (n from to j old new m : ℕ) (laid : PoolLaid before rows constants asked n from to j old new)
+module _ (before ss : List Segment) (constants asked : List ℕ) (n from to j old new m : ℕ) (laid : PoolLaid before ss constants asked n from to j old new)
     (fits : PoolFits constants asked m) (more : j < m) (sz a b : ℕ) (s : sz ≡ sizeAt constants asked j)
     (p : a ≡ paddingLength old (constantAlignment sz)) (q : b ≡ paddingLength new (constantAlignment sz)) where
   es : List LayoutEvent
@@ -89,15 +90,15 @@ module _ (before rows : List (List ℕ)) (constants asked : List ℕ) (n from to
       after-snoc es from to [] (poolEvent from constants asked j)
       ∙ ap (λ (x : Segment). record { old = poolStart from constants asked j + poolPadding from constants asked j; new = x .«new_end» }) the-segment
 
-  pub pool-more : PoolLaid before (set rows (n + j) (old ∷ (old + a) ∷ new ∷ (new + b) ∷ [])) constants asked n from to (suc j) (old + a + sz) (new + b + sz)
+  pub pool-more : PoolLaid before (set ss (n + j) (record { «old_start» = old; «old_end» = old + a; «new_start» = new; «new_end» = new + b })) constants asked n from to (suc j) (old + a + sz) (new + b + sz)
   unfolding poolStart there es
   pool-more =
       let o : poolStart from constants asked j + poolPadding from constants asked j ≡ old + a = rw (p, s, laid .start) refl in
       record {
         table =
             rw (laid .table)
-            (over-snoc before n (rowsFrom from to es []) (n + j) _ (omega (arith, length-rows es from to [], length-entries (poolEvent from constants asked) j))
-            ∙ ap (over before n) (sym (rows-snoc es from to [] (poolEvent from constants asked j) ∙ ap (λ (x : Segment). rowsFrom from to es [] ++ (rowOf x ∷ [])) the-segment)));
+            (over-snoc before n (segments from to es []) (n + j) _ (omega (arith, length-segments es from to [], length-entries (poolEvent from constants asked) j))
+            ∙ ap (over before n) (sym (segments-snoc es from to [] (poolEvent from constants asked j) ∙ ap (λ (x : Segment). segments from to es [] ++ (x ∷ [])) the-segment)));
         start = rw (p, s, laid .start) refl;
         sum = rw next (omega (arith, o));
         near = omega (arith, laid .near, p, s, pool-padding old sz _ a refl p, fits .sized j more);
@@ -162,8 +163,8 @@ module _ (events : List ℕ) (n code : ℕ) (constants asked : List ℕ) where
     two j = after (length (entries (poolEvent code constants asked) j)) code to (entries (poolEvent code constants asked) j) []
 
     record Joined (j : ℕ) : Type 0 where
-      rows : rowsFrom 0 0 (allEvents events n code constants asked j) c
-          ≡ rowsFrom 0 0 (entries (eventAt events) n) c ++ rowsFrom code to (entries (poolEvent code constants asked) j) []
+      joins : segments 0 0 (allEvents events n code constants asked j) c
+          ≡ segments 0 0 (entries (eventAt events) n) c ++ segments code to (entries (poolEvent code constants asked) j) []
       same : (t : ℕ) → poolStart code constants asked j ≤ t → (one j) .new + (t - (one j) .old) ≡ (two j) .new + (t - (two j) .old)
 
     joined : (j : ℕ) → Joined j
@@ -172,14 +173,14 @@ module _ (events : List ℕ) (n code : ℕ) (constants asked : List ℕ) where
         let a = ap (λ (x : Cursor). x .old) here in
         let b = ap (λ (x : Cursor). x .new) here in
         record {
-          rows = rw all-none (sym (append-nil (rowsFrom 0 0 (entries (eventAt events) n) c)));
+          joins = rw all-none (sym (append-nil (segments 0 0 (entries (eventAt events) n) c)));
           same = λ t h. rw all-none (omega (arith, a, b));
         }
     joined (suc j) =
         let q = joined j in
         let t = poolStart code constants asked j in
         let e = poolEvent code constants asked j in
-        let first = rowsFrom 0 0 (entries (eventAt events) n) c in
+        let first = segments 0 0 (entries (eventAt events) n) c in
         let u = (one j) .new + (t - (one j) .old) in
         let len = poolPadding code constants asked j in
         let multiple = constantAlignment (sizeAt constants asked j) in
@@ -191,30 +192,30 @@ module _ (events : List ℕ) (n code : ℕ) (constants asked : List ℕ) where
         let next-two : two (suc j) ≡ record { old = t + len; new = s .«new_end» }
         = after-snoc (entries (poolEvent code constants asked) j) code to [] e ∙ ap (λ (x : Segment). record { old = t + len; new = x .«new_end» }) s2 in
         record {
-          rows =
+          joins =
               rw (all-suc j)
-              (rows-snoc (allEvents events n code constants asked j) 0 0 c e
-              ∙ (ap (λ (x : Segment). rowsFrom 0 0 (allEvents events n code constants asked j) c ++ (rowOf x ∷ [])) s1
-              ∙ (ap (λ (l : List (List ℕ)). l ++ (rowOf s ∷ [])) (q .rows)
-              ∙ (append-assoc first (rowsFrom code to (entries (poolEvent code constants asked) j) []) (rowOf s ∷ [])
-              ∙ sym (ap (λ (l : List (List ℕ)). first ++ l)
-              (rows-snoc (entries (poolEvent code constants asked) j) code to [] e
-              ∙ ap (λ (x : Segment). rowsFrom code to (entries (poolEvent code constants asked) j) [] ++ (rowOf x ∷ [])) s2))))));
+              (segments-snoc (allEvents events n code constants asked j) 0 0 c e
+              ∙ (ap (λ (x : Segment). segments 0 0 (allEvents events n code constants asked j) c ++ (x ∷ [])) s1
+              ∙ (ap (λ (l : List Segment). l ++ (s ∷ [])) (q .joins)
+              ∙ (append-assoc first (segments code to (entries (poolEvent code constants asked) j) []) (s ∷ [])
+              ∙ sym (ap (λ (l : List Segment). first ++ l)
+              (segments-snoc (entries (poolEvent code constants asked) j) code to [] e
+              ∙ ap (λ (x : Segment). segments code to (entries (poolEvent code constants asked) j) [] ++ (x ∷ [])) s2))))));
           same = λ v h. rw (next-one, next-two) refl;
         }
 
     -- Both together are the layout of all events,
-    pub rows-join : (before rows rows′ : List (List ℕ)) (m : ℕ) → rows ≡ over before 0 (rowsFrom 0 0 (entries (eventAt events) n) c)
-        → rows′ ≡ over rows n (rowsFrom code to (entries (poolEvent code constants asked) m) [])
-        → rows′ ≡ over before 0 (rowsFrom 0 0 (allEvents events n code constants asked m) c)
-    rows-join before rows rows′ m h k =
-        let first = rowsFrom 0 0 (entries (eventAt events) n) c in
-        let e : n ≡ 0 + length first = omega (arith, length-rows (entries (eventAt events) n) 0 0 c, length-entries (eventAt events) n) in
+    pub segments-join : (before ss ss′ : List Segment) (m : ℕ) → ss ≡ over before 0 (segments 0 0 (entries (eventAt events) n) c)
+        → ss′ ≡ over ss n (segments code to (entries (poolEvent code constants asked) m) [])
+        → ss′ ≡ over before 0 (segments 0 0 (allEvents events n code constants asked m) c)
+    segments-join before ss ss′ m h k =
+        let first = segments 0 0 (entries (eventAt events) n) c in
+        let e : n ≡ 0 + length first = omega (arith, length-segments (entries (eventAt events) n) 0 0 c, length-entries (eventAt events) n) in
         k
-        ∙ (ap (λ (x : List (List ℕ)). over x n (rowsFrom code to (entries (poolEvent code constants asked) m) [])) h
-        ∙ (ap (λ (x : ℕ). over (over before 0 first) x (rowsFrom code to (entries (poolEvent code constants asked) m) [])) e
-        ∙ (over-append before 0 first (rowsFrom code to (entries (poolEvent code constants asked) m) [])
-        ∙ ap (λ (l : List (List ℕ)). over before 0 l) (sym ((joined m) .rows)))))
+        ∙ (ap (λ (x : List Segment). over x n (segments code to (entries (poolEvent code constants asked) m) [])) h
+        ∙ (ap (λ (x : ℕ). over (over before 0 first) x (segments code to (entries (poolEvent code constants asked) m) [])) e
+        ∙ (over-append before 0 first (segments code to (entries (poolEvent code constants asked) m) [])
+        ∙ ap (λ (l : List Segment). over before 0 l) (sym ((joined m) .joins)))))
 
     -- and they end together.
     pub ends-join : (m : ℕ) → endFrom code to (entries (poolEvent code constants asked) m) [] (poolStart code constants asked m)

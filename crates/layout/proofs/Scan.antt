@@ -1,26 +1,29 @@
 -- A round's scan, event by event.
 use mathlib.Core.Path.{_≡_, refl, sym, _∙_, ap}
+use mathlib.Core.Logic.{_≢_}
 use mathlib.Core.Bool.{Bool, true, false, _||_, or-true, or-false}
-use mathlib.Core.List.{List, []}
+use mathlib.Core.List.{List}
 use Prim.Native.Nat.{ℕ, _+_, _≤_, _<_}
 use native.Mathlib.Omega.{arith}
 use native.Mathlib.Numerals.{add-one}
 use lib.ListN.{length, getD, take, set, List·getD-map}
-use lib.Seq.{take-all, set-getD, length-take-le}
+use lib.Seq.{take-all, set-getD, getD-take, length-take-le}
 use Rattle.seqs.specs.Over.{over}
 use Rattle.seqs.proofs.Overwrites.{over-nil, over-copy, getD-over-after}
-use Rattle.relax.specs.declared.LayoutEvent.the-variants.{Align}
+use Rattle.words.specs.Words.{wordAt}
+use Rattle.relax.specs.declared.LayoutEvent.{LayoutEvent}
+use Rattle.relax.specs.declared.LayoutEvent.the-variants.{Jump, Align}
 use Rattle.relax.specs.declared.Segment.{Segment}
 use Rattle.relax.specs.Events.{eventAt}
+use Rattle.buffer.specs.State.{none}
 use Rattle.recording.specs.View.{entries}
 use Rattle.fresh.specs.Fresh.{Choice}
 use Rattle.fresh.specs.Rounds.{isFar, any, join}
 use Rattle.fresh.specs.Segments.{mapOffset}
 use Rattle.fresh.proofs.Shape.{newEnds}
 use Rattle.fresh.proofs.Choices.{farOf-getD, length-farOf, length-join, join-getD, any-suc}
-use Rattle.layout.specs.Layout.{segmentOf, tableOf, farIn}
+use Rattle.layout.specs.Layout.{zeroSegment, Known, soughtBy, farIn}
 use Rattle.recording.proofs.Views.{length-entries, getD-entries}
-use Rattle.layout.proofs.Search.{row-at}
 
 -- the scan has passed i events, f being those that it lengthens
 pub record Scanned (f c : Choice) (i : ℕ) (long : Choice) (grew : Bool) : Type 0 where
@@ -54,38 +57,54 @@ module _ (f c : Choice) (i : ℕ) (long : Choice) (grew : Bool) (q : Scanned f c
     seen = sym (rw (add-one i) (any-suc f i h ∙ rw e (or-true (any (take i f)))));
   }
 
-module _ (rows : List (List ℕ)) (at : ℕ → ℕ) (events : List ℕ) (n k : ℕ) (c : Choice) (small : n ≤ k) where
-  count : length (farIn (tableOf rows k) at (entries (eventAt events) n) c) ≡ n
+-- The label that is mapped before the test is that of the test,
+pub far-sought : (g at : ℕ → ℕ) (e : LayoutEvent) (long : Bool) (end t : ℕ) → t ≡ g (soughtBy e long at)
+    → isFar (λ (l : ℕ). t) e long end ≡ isFar (λ (l : ℕ). g (at l)) e long end
+unfolding isFar soughtBy
+far-sought g at (Jump j) true end t h = refl
+far-sought g at (Jump j) false end t h = rw h refl
+far-sought g at (Align start len align) long end t h = refl
+
+-- and it can be mapped.
+pub sought-small : (e : LayoutEvent) (long : Bool) (labels : List ℕ) → Known e labels → soughtBy e long (wordAt labels) ≢ none
+    → soughtBy e long (wordAt labels) ≤ 300000000
+unfolding soughtBy
+sought-small (Jump j) true labels known bound = absurd (bound refl)
+sought-small (Jump j) false labels known bound = known .small j refl bound
+sought-small (Align start len align) long labels known bound = absurd (bound refl)
+
+module _ (ss : List Segment) (at : ℕ → ℕ) (events : List ℕ) (n k : ℕ) (c : Choice) (small : n ≤ k) where
+  count : length (farIn (take k ss) at (entries (eventAt events) n) c) ≡ n
   count = length-farOf _ (entries (eventAt events) n) c _ ∙ length-entries (eventAt events) n
 
-  end-at : (i : ℕ) → i < n → getD (newEnds (tableOf rows k)) i 0 ≡ (segmentOf (getD rows i [])) .«new_end»
+  end-at : (i : ℕ) → i < n → getD (newEnds (take k ss)) i 0 ≡ (getD ss i zeroSegment) .«new_end»
   end-at i h =
-      List·getD-map (λ (s : Segment). s .«new_end») (tableOf rows k) i (segmentOf [])
-      ∙ ap (λ (s : Segment). s .«new_end») (row-at rows k i (omega arith))
+      List·getD-map (λ (s : Segment). s .«new_end») (take k ss) i zeroSegment
+      ∙ ap (λ (s : Segment). s .«new_end») (getD-take k ss i zeroSegment (omega arith))
 
   -- what is said of an event is the entry of the round's list
   far-at : (i : ℕ) → i < n
-      → getD (farIn (tableOf rows k) at (entries (eventAt events) n) c) i false
-      ≡ isFar (λ (l : ℕ). mapOffset (tableOf rows k) (at l)) (eventAt events i) (getD c i false) ((segmentOf (getD rows i [])) .«new_end»)
+      → getD (farIn (take k ss) at (entries (eventAt events) n) c) i false
+      ≡ isFar (λ (l : ℕ). mapOffset (take k ss) (at l)) (eventAt events i) (getD c i false) ((getD ss i zeroSegment) .«new_end»)
   far-at i h =
       farOf-getD _ (entries (eventAt events) n) c _ i (Align 0 0 0) (omega (arith, length-entries (eventAt events) n))
       ∙ rw (getD-entries (eventAt events) n i (Align 0 0 0) h, end-at i h) refl
 
-  module _ (i : ℕ) (long : Choice) (grew : Bool) (q : Scanned (farIn (tableOf rows k) at (entries (eventAt events) n) c) c i long grew) (h : i < n) (r : Bool)
-      (e : r ≡ isFar (λ (l : ℕ). mapOffset (tableOf rows k) (at l)) (eventAt events i) (getD long i false) ((segmentOf (getD rows i [])) .«new_end»)) where
-    said : getD (farIn (tableOf rows k) at (entries (eventAt events) n) c) i false ≡ r
+  module _ (i : ℕ) (long : Choice) (grew : Bool) (q : Scanned (farIn (take k ss) at (entries (eventAt events) n) c) c i long grew) (h : i < n) (r : Bool)
+      (e : r ≡ isFar (λ (l : ℕ). mapOffset (take k ss) (at l)) (eventAt events i) (getD long i false) ((getD ss i zeroSegment) .«new_end»)) where
+    said : getD (farIn (take k ss) at (entries (eventAt events) n) c) i false ≡ r
     said = far-at i h ∙ (rw (← scanned-at _ c i long grew q (omega (arith, count))) (sym e))
 
     pub scan-mark : (long′ : Choice) (grew′ : Bool) → r ≡ true → long′ ≡ set long i true → grew′ ≡ true
-        → Scanned (farIn (tableOf rows k) at (entries (eventAt events) n) c) c (i + 1) long′ grew′
+        → Scanned (farIn (take k ss) at (entries (eventAt events) n) c) c (i + 1) long′ grew′
     scan-mark long′ grew′ t a b = rw (a, b) (scanned-mark _ c i long grew q (omega (arith, count)) (said ∙ t))
 
     pub scan-keep : (long′ : Choice) (grew′ : Bool) → r ≡ false → long′ ≡ long → grew′ ≡ grew
-        → Scanned (farIn (tableOf rows k) at (entries (eventAt events) n) c) c (i + 1) long′ grew′
+        → Scanned (farIn (take k ss) at (entries (eventAt events) n) c) c (i + 1) long′ grew′
     scan-keep long′ grew′ t a b = rw (a, b) (scanned-keep _ c i long grew q (omega (arith, count)) (said ∙ t))
 
-  pub scan-all : (long : Choice) (grew : Bool) → Scanned (farIn (tableOf rows k) at (entries (eventAt events) n) c) c n long grew
-      → (long ≡ over c 0 (join c (farIn (tableOf rows k) at (entries (eventAt events) n) c))) × (grew ≡ any (farIn (tableOf rows k) at (entries (eventAt events) n) c))
+  pub scan-all : (long : Choice) (grew : Bool) → Scanned (farIn (take k ss) at (entries (eventAt events) n) c) c n long grew
+      → (long ≡ over c 0 (join c (farIn (take k ss) at (entries (eventAt events) n) c))) × (grew ≡ any (farIn (take k ss) at (entries (eventAt events) n) c))
   scan-all long grew q =
-      let f = farIn (tableOf rows k) at (entries (eventAt events) n) c in
+      let f = farIn (take k ss) at (entries (eventAt events) n) c in
       (q .mixed ∙ ap (λ (l : Choice). over c 0 l) (take-all n (join c f) (omega (arith, length-join c f, count))), q .seen ∙ ap any (take-all n f (omega (arith, count))))

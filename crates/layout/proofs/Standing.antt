@@ -10,6 +10,7 @@ use Rattle.seqs.specs.Over.{over}
 use Rattle.seqs.proofs.Overwrites.{length-over, take-over-end, getD-over-after}
 use Rattle.relax.specs.declared.LayoutEvent.{LayoutEvent}
 use Rattle.relax.specs.declared.LayoutEvent.the-variants.{Align}
+use Rattle.relax.specs.declared.Segment.{Segment}
 use Rattle.relax.specs.Events.{eventAt}
 use Rattle.recording.specs.View.{entries}
 use Rattle.fresh.specs.Fresh.{Choice, isLong, others}
@@ -17,13 +18,13 @@ use Rattle.fresh.specs.Rounds.{Settled, jumps, isFar, firstEnd, otherEnds, farO
 use Rattle.fresh.specs.Segments.{segments, mapOffset}
 use Rattle.fresh.proofs.Shape.{newEnds}
 use Rattle.fresh.proofs.Tests.{no-confusion}
+use Rattle.fresh.proofs.Loops.{length-segments}
 use Rattle.fresh.proofs.Choices.{isLong-getD, others-getD, length-farOf, length-join}
 use Rattle.pool.specs.Pool.{poolStart, PoolFits}
-use Rattle.layout.specs.Layout.{tableOf, allEvents, rowsFrom, finishedLength, farIn, farBy, relaxing, relaxedBy, Relaxed, Recorded, Rising}
+use Rattle.layout.specs.Layout.{allEvents, finishedLength, farIn, farBy, relaxing, relaxedBy, Relaxed, Recorded, Rising}
 use Rattle.recording.proofs.Views.{length-entries}
-use Rattle.layout.proofs.Turns.{length-rows}
 use Rattle.layout.proofs.Pooling.{all-none, all-suc, length-all, all-ordered, all-modest, pool-near}
-use Rattle.layout.proofs.Rows.{table-laid, rising-laid}
+use Rattle.layout.proofs.Table.{table-laid, rising-laid}
 use Rattle.fresh.proofs.Rounds.{shorts, shorts-lt, shorts-all}
 use Rattle.layout.proofs.Settled.{jumps-le, all-short, relaxing-last, relaxing-again}
 
@@ -91,35 +92,35 @@ module _ (events : List ℕ) (n code : ℕ) (constants asked : List ℕ) where
         ∙ sym (rw k (take-suc x (n + j) false (omega (arith, length-over c 0 (join c f))) ∙ ap (λ (b : Bool). take (n + j) x ++ (b ∷ [])) last))))))
 
   -- What the scan finds among the recorded events is what the round lengthens of all.
-  round-is : (m : ℕ) (at : ℕ → ℕ) (c c′ : Choice) (grew : Bool) (rows rows′ : List (List ℕ)) → length c ≡ n + m → n + m ≤ length rows
-      → rows′ ≡ over rows 0 (rowsFrom 0 0 (allEvents events n code constants asked m) c)
-      → c′ ≡ over c 0 (join c (farIn (tableOf rows′ (n + m)) at (entries (eventAt events) n) c))
-      → grew ≡ any (farIn (tableOf rows′ (n + m)) at (entries (eventAt events) n) c)
+  round-is : (m : ℕ) (at : ℕ → ℕ) (c c′ : Choice) (grew : Bool) (ss ss′ : List Segment) → length c ≡ n + m → n + m ≤ length ss
+      → ss′ ≡ over ss 0 (segments 0 0 (allEvents events n code constants asked m) c)
+      → c′ ≡ over c 0 (join c (farIn (take (n + m) ss′) at (entries (eventAt events) n) c))
+      → grew ≡ any (farIn (take (n + m) ss′) at (entries (eventAt events) n) c)
       → (c′ ≡ join c (farBy (allEvents events n code constants asked m) at c)) × (grew ≡ any (farBy (allEvents events n code constants asked m) at c))
-  round-is m at c c′ grew rows rows′ sized room laid next says =
+  round-is m at c c′ grew ss ss′ sized room laid next says =
       let es = allEvents events n code constants asked m in
-      let ss = segments 0 0 es c in
-      let g : ℕ → ℕ = λ l. mapOffset ss (at l) in
-      let table : tableOf rows′ (n + m) ≡ ss
-      = ap (λ (k : ℕ). tableOf rows′ k) (sym (length-all events n code constants asked m))
-      ∙ table-laid rows rows′ es c laid (omega (arith, length-all events n code constants asked m)) in
-      let x = over c 0 (join c (farOf g (entries (eventAt events) n) c (newEnds ss))) in (
+      let made = segments 0 0 es c in
+      let g : ℕ → ℕ = λ l. mapOffset made (at l) in
+      let table : take (n + m) ss′ ≡ made
+      = ap (λ (k : ℕ). take k ss′) (sym (length-all events n code constants asked m))
+      ∙ table-laid ss ss′ es c laid (omega (arith, length-all events n code constants asked m)) in
+      let x = over c 0 (join c (farOf g (entries (eventAt events) n) c (newEnds made))) in (
         next
             ∙ (rw table refl
-            ∙ (sym (take-all (n + m) x (omega (arith, length-over c 0 (join c (farOf g (entries (eventAt events) n) c (newEnds ss))))))
-            ∙ sym (join-all g c (newEnds ss) m (omega arith)))),
-        says ∙ (rw table refl ∙ sym (any-all g c (newEnds ss) m)),
+            ∙ (sym (take-all (n + m) x (omega (arith, length-over c 0 (join c (farOf g (entries (eventAt events) n) c (newEnds made))))))
+            ∙ sym (join-all g c (newEnds made) m (omega arith)))),
+        says ∙ (rw table refl ∙ sym (any-all g c (newEnds made) m)),
       )
 
 -- The rounds stand at the choice c, with so many layouts made: what is left of them is what k more rounds make, k jumps less the layouts made.
-pub record Standing (es : List LayoutEvent) (at : ℕ → ℕ) (before rows : List (List ℕ)) (c : Choice) (layouts : ℕ) : Type 0 where
+pub record Standing (es : List LayoutEvent) (at : ℕ → ℕ) (before ss : List Segment) (c : Choice) (layouts : ℕ) : Type 0 where
   pub sized : length c ≡ length es
   pub few : shorts es c + layouts ≤ jumps es
   pub choice : (relaxing (jumps es - layouts) es at c) .choice ≡ (relaxedBy es at) .choice
   pub rounds : layouts + (relaxing (jumps es - layouts) es at c) .rounds ≡ (relaxedBy es at) .rounds
-  pub past : (ys : List (List ℕ)) → length ys ≡ length es → over rows 0 ys ≡ over before 0 ys
+  pub past : (ys : List Segment) → length ys ≡ length es → over ss 0 ys ≡ over before 0 ys
 
-pub standing-none : (es : List LayoutEvent) (at : ℕ → ℕ) (before : List (List ℕ)) (c : Choice) (n : ℕ) → length es ≡ n → c ≡ replicate n false
+pub standing-none : (es : List LayoutEvent) (at : ℕ → ℕ) (before : List Segment) (c : Choice) (n : ℕ) → length es ≡ n → c ≡ replicate n false
     → Standing es at before before c 0
 standing-none es at before c n size h =
     let e = h ∙ (ap (λ (k : ℕ). replicate k false) (sym size) ∙ all-short es) in
@@ -132,11 +133,11 @@ standing-none es at before c n size h =
       past = λ ys k. refl;
     }
 
-module _ (es : List LayoutEvent) (at : ℕ → ℕ) (before rows : List (List ℕ)) (c : Choice) (layouts : ℕ) (q : Standing es at before rows c layouts) where
+module _ (es : List LayoutEvent) (at : ℕ → ℕ) (before ss : List Segment) (c : Choice) (layouts : ℕ) (q : Standing es at before ss c layouts) where
   pub layouts-few : layouts ≤ length es
   layouts-few = omega (arith, q .few, jumps-le es)
 
-  module _ (rows′ : List (List ℕ)) (c′ : Choice) (grew : Bool) (laid : rows′ ≡ over rows 0 (rowsFrom 0 0 es c))
+  module _ (ss′ : List Segment) (c′ : Choice) (grew : Bool) (laid : ss′ ≡ over ss 0 (segments 0 0 es c))
       (round : (c′ ≡ join c (farBy es at c)) × (grew ≡ any (farBy es at c))) where
     far-count : length (farBy es at c) ≡ length es
     far-count = length-farOf _ es c _
@@ -147,7 +148,7 @@ module _ (es : List LayoutEvent) (at : ℕ → ℕ) (before rows : List (List �
     standing-less : grew ≡ true → layouts < jumps es
     standing-less t = omega (arith, q .few, fewer t)
 
-    standing-more : grew ≡ true → Standing es at before rows′ c′ (layouts + 1)
+    standing-more : grew ≡ true → Standing es at before ss′ c′ (layouts + 1)
     standing-more t =
         let k : jumps es - layouts ≡ suc (jumps es - (layouts + 1)) = omega (arith, standing-less t) in
         let rest : Settled = relaxing (jumps es - (layouts + 1)) es at (join c (farBy es at c)) in
@@ -159,11 +160,11 @@ module _ (es : List LayoutEvent) (at : ℕ → ℕ) (before rows : List (List �
           choice = rw (round .0) (sym (ap (λ (s : Settled). s .choice) step) ∙ q .choice);
           rounds = rw (round .0) (omega (arith, ap (λ (s : Settled). s .rounds) step, q .rounds));
           past = λ ys h.
-              ap (λ (x : List (List ℕ)). over x 0 ys) laid
-              ∙ (over-again rows (rowsFrom 0 0 es c) ys (length-rows es 0 0 c ∙ sym h) ∙ q .past ys h);
+              ap (λ (x : List Segment). over x 0 ys) laid
+              ∙ (over-again ss (segments 0 0 es c) ys (length-segments es 0 0 c ∙ sym h) ∙ q .past ys h);
         }
 
-    standing-done : grew ≡ false → (total len : ℕ) → len ≡ finishedLength es c total → Relaxed es at total before rows′ c′ (layouts + 1) len
+    standing-done : grew ≡ false → (total len : ℕ) → len ≡ finishedLength es c total → Relaxed es at total before ss′ c′ (layouts + 1) len
     standing-done t total len finished =
         let none = sym (round .1) ∙ t in
         let same : c′ ≡ c = round .0 ∙ join-none c (farBy es at c) (q .sized ∙ sym far-count) none in
@@ -172,37 +173,37 @@ module _ (es : List LayoutEvent) (at : ℕ → ℕ) (before rows : List (List �
         record {
           choice = same ∙ here;
           rounds = omega (arith, ap (λ (s : Settled). s .rounds) step, q .rounds);
-          table = laid ∙ (q .past (rowsFrom 0 0 es c) (length-rows es 0 0 c) ∙ ap (λ (x : Choice). over before 0 (rowsFrom 0 0 es x)) here);
+          table = laid ∙ (q .past (segments 0 0 es c) (length-segments es 0 0 c) ∙ ap (λ (x : Choice). over before 0 (segments 0 0 es x)) here);
           finished = finished ∙ ap (λ (x : Choice). finishedLength es x total) here;
         }
 
 -- A round as the program makes it: all events are laid out, and the recorded ones are scanned.
-module _ (events : List ℕ) (n code : ℕ) (constants asked : List ℕ) (m : ℕ) (at : ℕ → ℕ) (before rows : List (List ℕ)) (c : Choice) (layouts : ℕ)
-    (q : Standing (allEvents events n code constants asked m) at before rows c layouts) (room : n + m ≤ length rows) (rows′ : List (List ℕ)) (c′ : Choice)
-    (grew : Bool) (laid : rows′ ≡ over rows 0 (rowsFrom 0 0 (allEvents events n code constants asked m) c))
-    (next : c′ ≡ over c 0 (join c (farIn (tableOf rows′ (n + m)) at (entries (eventAt events) n) c)))
-    (says : grew ≡ any (farIn (tableOf rows′ (n + m)) at (entries (eventAt events) n) c)) where
+module _ (events : List ℕ) (n code : ℕ) (constants asked : List ℕ) (m : ℕ) (at : ℕ → ℕ) (before ss : List Segment) (c : Choice) (layouts : ℕ)
+    (q : Standing (allEvents events n code constants asked m) at before ss c layouts) (room : n + m ≤ length ss) (ss′ : List Segment) (c′ : Choice)
+    (grew : Bool) (laid : ss′ ≡ over ss 0 (segments 0 0 (allEvents events n code constants asked m) c))
+    (next : c′ ≡ over c 0 (join c (farIn (take (n + m) ss′) at (entries (eventAt events) n) c)))
+    (says : grew ≡ any (farIn (take (n + m) ss′) at (entries (eventAt events) n) c)) where
   round : (c′ ≡ join c (farBy (allEvents events n code constants asked m) at c)) × (grew ≡ any (farBy (allEvents events n code constants asked m) at c))
   round =
-      round-is events n code constants asked m at c c′ grew rows rows′ (q .sized ∙ length-all events n code constants asked m) room laid next says
+      round-is events n code constants asked m at c c′ grew ss ss′ (q .sized ∙ length-all events n code constants asked m) room laid next says
 
   pub round-less : grew ≡ true → layouts < jumps (allEvents events n code constants asked m)
-  round-less = standing-less (allEvents events n code constants asked m) at before rows c layouts q rows′ c′ grew laid round
+  round-less = standing-less (allEvents events n code constants asked m) at before ss c layouts q ss′ c′ grew laid round
 
-  pub round-more : grew ≡ true → Standing (allEvents events n code constants asked m) at before rows′ c′ (layouts + 1)
-  round-more = standing-more (allEvents events n code constants asked m) at before rows c layouts q rows′ c′ grew laid round
+  pub round-more : grew ≡ true → Standing (allEvents events n code constants asked m) at before ss′ c′ (layouts + 1)
+  round-more = standing-more (allEvents events n code constants asked m) at before ss c layouts q ss′ c′ grew laid round
 
   pub round-done : grew ≡ false → (total len : ℕ) → len ≡ finishedLength (allEvents events n code constants asked m) c total
-      → Relaxed (allEvents events n code constants asked m) at total before rows′ c′ (layouts + 1) len
-  round-done = standing-done (allEvents events n code constants asked m) at before rows c layouts q rows′ c′ grew laid round
+      → Relaxed (allEvents events n code constants asked m) at total before ss′ c′ (layouts + 1) len
+  round-done = standing-done (allEvents events n code constants asked m) at before ss c layouts q ss′ c′ grew laid round
 
 -- The table of a layout is as the scan wants it.
-pub rising-all : (events : List ℕ) (n code : ℕ) (constants asked : List ℕ) (m : ℕ) (c : Choice) (rows rows′ : List (List ℕ)) → Recorded events n code
-    → PoolFits constants asked m → n + m ≤ 65536 → n + m ≤ length rows → rows′ ≡ over rows 0 (rowsFrom 0 0 (allEvents events n code constants asked m) c)
-    → Rising rows′ (n + m)
-rising-all events n code constants asked m c rows rows′ rec fits few room laid =
+pub rising-all : (events : List ℕ) (n code : ℕ) (constants asked : List ℕ) (m : ℕ) (c : Choice) (ss ss′ : List Segment) → Recorded events n code
+    → PoolFits constants asked m → n + m ≤ 65536 → n + m ≤ length ss → ss′ ≡ over ss 0 (segments 0 0 (allEvents events n code constants asked m) c)
+    → Rising ss′ (n + m)
+rising-all events n code constants asked m c ss ss′ rec fits few room laid =
     let size = length-all events n code constants asked m in
     rw (← size)
-    (rising-laid rows rows′ (allEvents events n code constants asked m) c laid (omega (arith, size)) (poolStart code constants asked m)
+    (rising-laid ss ss′ (allEvents events n code constants asked m) c laid (omega (arith, size)) (poolStart code constants asked m)
     (all-ordered events n code constants asked rec m)
     (all-modest events n code constants asked rec m) (omega (arith, rec .small, pool-near events n code constants asked m m fits (omega arith))) (omega (arith, size)))

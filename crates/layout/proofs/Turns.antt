@@ -1,10 +1,10 @@
--- A turn of the layout: the next event follows, its sums fit, and its row joins the rows before.
+-- A turn of the layout: the next event follows, its sums fit, and its segment joins those before.
 use mathlib.Core.Path.{_≡_, refl, sym, _∙_, ap}
 use mathlib.Core.Bool.{Bool, false}
-use mathlib.Core.List.{List, [], _∷_, _++_, map}
+use mathlib.Core.List.{List, [], _∷_, _++_}
 use Prim.Native.Nat.{ℕ, suc, _+_, _-_, _≤_, _<_}
 use native.Mathlib.Omega.{arith}
-use lib.ListN.{length, getD, set, length-map}
+use lib.ListN.{length, getD, set}
 use Rattle.seqs.specs.Over.{over}
 use Rattle.seqs.proofs.Overwrites.{over-nil, over-snoc}
 use Rattle.relax.specs.declared.LayoutEvent.{LayoutEvent}
@@ -20,9 +20,9 @@ use Rattle.fresh.proofs.Events.{end-is, ordered-le}
 use Rattle.fresh.proofs.Choices.{isLong-getD, others-getD}
 use Rattle.fresh.proofs.Forms.{width-size}
 use Rattle.fresh.proofs.Loops.{length-segments, segments-snoc, size-le, after-le}
-use Rattle.layout.specs.Layout.{rowOf, rowsFrom, Follows, Recorded, Laid}
+use Rattle.layout.specs.Layout.{Follows, Recorded, Laid}
 use Rattle.recording.proofs.Views.{length-entries}
-use Rattle.layout.proofs.Entries.{entries-split, map-snoc}
+use Rattle.layout.proofs.Entries.{entries-split}
 
 pub width-le : (e : LayoutEvent) (long : Bool) (n : ℕ) → Modest (e ∷ []) → width e long n ≤ 4096
 width-le e long n h = omega (arith, width-size e long n, size-le (e ∷ []) 0 long n h (omega arith))
@@ -63,15 +63,7 @@ unfolding after
 after-snoc [] o n c e = rw (isLong-getD c) refl
 after-snoc (x ∷ es) o n c e = after-snoc es (endOf x) _ (others c) e ∙ rw (others-getD c (length es)) refl
 
-pub rows-snoc : (es : List LayoutEvent) (o n : ℕ) (c : Choice) (e : LayoutEvent)
-    → rowsFrom o n (es ++ (e ∷ [])) c
-    ≡ rowsFrom o n es c ++ (rowOf (segment ((after (length es) o n es c) .old) ((after (length es) o n es c) .new) e (getD c (length es) false)) ∷ [])
-rows-snoc es o n c e = ap (map rowOf) (segments-snoc es o n c e) ∙ map-snoc rowOf (segments o n es c) _
-
-pub length-rows : (es : List LayoutEvent) (o n : ℕ) (c : Choice) → length (rowsFrom o n es c) ≡ length es
-length-rows es o n c = length-map (segments o n es c) rowOf ∙ length-segments es o n c
-
-module _ (before rows : List (List ℕ)) (es : List LayoutEvent) (c : Choice) (old new : ℕ) (laid : Laid before rows es c old new) (e : LayoutEvent) where
+module _ (before ss : List Segment) (es : List LayoutEvent) (c : Choice) (old new : ℕ) (laid : Laid before ss es c old new) (e : LayoutEvent) where
   follows : (len : ℕ) → Ordered 0 len (es ++ (e ∷ [])) → Modest (es ++ (e ∷ [])) → len ≤ 22000000 → length es ≤ 65536 → Follows e old new
   follows len o m l k =
       let low = last-ordered es 0 0 len c e o in
@@ -86,35 +78,35 @@ module _ (before rows : List (List ℕ)) (es : List LayoutEvent) (c : Choice) (o
       }
 
   laid-more : (i : ℕ) (s : Segment) → i ≡ length es → s ≡ segment old new e (getD c i false)
-      → Laid before (set rows i (rowOf s)) (es ++ (e ∷ [])) c (s .«old_end») (s .«new_end»)
+      → Laid before (set ss i s) (es ++ (e ∷ [])) c (s .«old_end») (s .«new_end»)
   laid-more i s h q = record {
     table =
         rw (q, laid .table, h)
-        (over-snoc before 0 (rowsFrom 0 0 es c) (length es) _ (omega (arith, length-rows es 0 0 c))
-        ∙ ap (over before 0) (sym (rows-snoc es 0 0 c e ∙ rw (laid .here) refl)));
+        (over-snoc before 0 (segments 0 0 es c) (length es) _ (omega (arith, length-segments es 0 0 c))
+        ∙ ap (over before 0) (sym (segments-snoc es 0 0 c e ∙ rw (laid .here) refl)));
     here = after-snoc es 0 0 c e ∙ rw (q, h, laid .here) refl;
   }
 
-pub laid-none : (before : List (List ℕ)) (c : Choice) → Laid before before [] c 0 0
+pub laid-none : (before : List Segment) (c : Choice) → Laid before before [] c 0 0
 unfolding after segments
 laid-none before c = record { table = sym (over-nil before 0); here = refl }
 
 -- The recorded events.
-module _ (before rows : List (List ℕ)) (events : List ℕ) (n code : ℕ) (c : Choice) (old new i : ℕ) (rec : Recorded events n code) (few : n ≤ 65536)
-    (laid : Laid before rows (entries (eventAt events) i) c old new) (more : i < n) where
+module _ (before ss : List Segment) (events : List ℕ) (n code : ℕ) (c : Choice) (old new i : ℕ) (rec : Recorded events n code) (few : n ≤ 65536)
+    (laid : Laid before ss (entries (eventAt events) i) c old new) (more : i < n) where
   rest : entries (eventAt events) n ≡ entries (eventAt events) (suc i) ++ entries (λ (j : ℕ). eventAt events (suc i + j)) (n - suc i)
   rest = let e : n ≡ suc i + (n - suc i) = omega arith in ap (λ (k : ℕ). entries (eventAt events) k) e ∙ entries-split (eventAt events) (suc i) (n - suc i)
 
   pub event-follows : Follows (eventAt events i) old new
   event-follows =
-      follows before rows (entries (eventAt events) i) c old new laid (eventAt events i) code
+      follows before ss (entries (eventAt events) i) c old new laid (eventAt events i) code
       (prefix-ordered (entries (eventAt events) (suc i)) _ 0 code (rw rest at (rec .ordered)))
       (prefix-modest (entries (eventAt events) (suc i)) _ (rw rest at (rec .modest)))
       (omega (arith, rec .small)) (omega (arith, length-entries (eventAt events) i))
 
   pub event-laid : (s : Segment) → s ≡ segment old new (eventAt events i) (getD c i false)
-      → Laid before (set rows i (rowOf s)) (entries (eventAt events) (suc i)) c (s .«old_end») (s .«new_end»)
-  event-laid s q = laid-more before rows (entries (eventAt events) i) c old new laid (eventAt events i) i s (sym (length-entries (eventAt events) i)) q
+      → Laid before (set ss i s) (entries (eventAt events) (suc i)) c (s .«old_end») (s .«new_end»)
+  event-laid s q = laid-more before ss (entries (eventAt events) i) c old new laid (eventAt events i) i s (sym (length-entries (eventAt events) i)) q
 
 ordered-more : (es : List LayoutEvent) (o n m : ℕ) → Ordered o n es → n ≤ m → Ordered o m es
 unfolding Ordered
@@ -130,9 +122,9 @@ recorded-more events n code rec = record {
 }
 
 -- What follows the recorded events stands at a small new offset.
-pub events-end : (before rows : List (List ℕ)) (events : List ℕ) (n code : ℕ) (c : Choice) (old new : ℕ) → Recorded events n code → n ≤ 65536
-    → Laid before rows (entries (eventAt events) n) c old new → (old ≤ code) × (new + (code - old) ≤ 300000000)
-events-end before rows events n code c old new rec few laid =
+pub events-end : (before ss : List Segment) (events : List ℕ) (n code : ℕ) (c : Choice) (old new : ℕ) → Recorded events n code → n ≤ 65536
+    → Laid before ss (entries (eventAt events) n) c old new → (old ≤ code) × (new + (code - old) ≤ 300000000)
+events-end before ss events n code c old new rec few laid =
     let es = entries (eventAt events) n in
     omega (
       arith,

@@ -1,14 +1,14 @@
 -- The table of segments, what a layout leaves in it, and the rounds by segments.
 use mathlib.Core.Path.{_≡_}
 use mathlib.Core.Logic.{_≢_}
-use mathlib.Core.Bool.{true, false}
-use mathlib.Core.List.{List, [], _∷_, _++_, map}
+use mathlib.Core.Bool.{Bool, true, false}
+use mathlib.Core.List.{List, [], _∷_, _++_}
 use Prim.Native.Nat.{ℕ, zero, suc, _+_, _-_, _*_, _≤_, _<_}
-use lib.ListN.{length, getD, take}
+use lib.ListN.{length, getD}
 use Rattle.seqs.specs.Over.{over}
 use Rattle.words.specs.Words.{wordAt}
 use Rattle.relax.specs.declared.LayoutEvent.{LayoutEvent}
-use Rattle.relax.specs.declared.LayoutEvent.the-variants.{Jump}
+use Rattle.relax.specs.declared.LayoutEvent.the-variants.{Jump, Align}
 use Rattle.relax.specs.declared.RelaxableJump.{RelaxableJump}
 use Rattle.relax.specs.declared.Segment.{Segment}
 use Rattle.relax.specs.Events.{eventAt, endOf}
@@ -20,34 +20,26 @@ use Rattle.fresh.specs.Segments.{segments, mapOffset}
 use Rattle.fresh.proofs.Shape.{Ordered, Modest, newEnds, after}
 use Rattle.pool.specs.Pool.{poolEvent}
 
--- a segment as a row of the table, and back
-abbrev pub rowOf : Segment → List ℕ
-rowOf s = s .«old_start» ∷ s .«old_end» ∷ s .«new_start» ∷ s .«new_end» ∷ []
+-- all zeros: the segment before the first, and what a table has past its end
+abbrev pub zeroSegment : Segment
+zeroSegment = record { «old_start» = 0; «old_end» = 0; «new_start» = 0; «new_end» = 0 }
 
-abbrev pub segmentOf : List ℕ → Segment
-segmentOf row =
-    record { «old_start» = getD row 0 0; «old_end» = getD row 1 0; «new_start» = getD row 2 0; «new_end» = getD row 3 0 }
-
--- the segments in the first n rows
-abbrev pub tableOf : List (List ℕ) → ℕ → List Segment
-tableOf rows n = map segmentOf (take n rows)
-
--- where the segment in row i starts in the recording
-abbrev pub startAt : List (List ℕ) → ℕ → ℕ
-startAt rows i = (segmentOf (getD rows i [])) .«old_start»
+-- where segment i starts in the recording
+abbrev pub startAt : List Segment → ℕ → ℕ
+startAt ss i = (getD ss i zeroSegment) .«old_start»
 
 -- what `map` is handed: the recorded starts of the first n segments rise, and new offsets are small
-pub record Rising (rows : List (List ℕ)) (n : ℕ) : Type 0 where
-  pub fits : n ≤ length rows
-  pub rises : (i j : ℕ) → i ≤ j → j < n → startAt rows i ≤ startAt rows j
-  pub small : (i : ℕ) → i < n → ((segmentOf (getD rows i [])) .«new_start» ≤ 300000000) × ((segmentOf (getD rows i [])) .«new_end» ≤ 300000000)
+pub record Rising (ss : List Segment) (n : ℕ) : Type 0 where
+  pub fits : n ≤ length ss
+  pub rises : (i j : ℕ) → i ≤ j → j < n → startAt ss i ≤ startAt ss j
+  pub small : (i : ℕ) → i < n → ((getD ss i zeroSegment) .«new_start» ≤ 300000000) × ((getD ss i zeroSegment) .«new_end» ≤ 300000000)
 
 -- of the first n segments those before lo start at or before an offset, those from hi on after it
-pub record Between (rows : List (List ℕ)) (n offset lo hi : ℕ) : Type 0 where
+pub record Between (ss : List Segment) (n offset lo hi : ℕ) : Type 0 where
   pub order : lo ≤ hi
   pub within : hi ≤ n
-  pub under : (j : ℕ) → j < lo → startAt rows j ≤ offset
-  pub above : (j : ℕ) → hi ≤ j → j < n → offset < startAt rows j
+  pub under : (j : ℕ) → j < lo → startAt ss j ≤ offset
+  pub above : (j : ℕ) → hi ≤ j → j < n → offset < startAt ss j
 
 -- an event of modest size that follows the recorded offset `old`, where its new offsets are small
 pub record Follows (event : LayoutEvent) (old new : ℕ) : Type 0 where
@@ -67,10 +59,6 @@ pub record Recorded (events : List ℕ) (n code : ℕ) : Type 0 where
 abbrev pub allEvents : List ℕ → ℕ → ℕ → List ℕ → List ℕ → ℕ → List LayoutEvent
 allEvents events n code constants asked m = entries (eventAt events) n ++ entries (poolEvent code constants asked) m
 
--- the rows of a layout, where the event before these ended at the recorded offset o and the new offset n
-abbrev pub rowsFrom : ℕ → ℕ → List LayoutEvent → Choice → List (List ℕ)
-rowsFrom o n es c = map rowOf (segments o n es c)
-
 -- the new offset of what was recorded at `total`, past the last event
 abbrev pub endFrom : ℕ → ℕ → List LayoutEvent → Choice → ℕ → ℕ
 endFrom o n es c total = (after (length es) o n es c) .new + (total - (after (length es) o n es c) .old)
@@ -79,9 +67,9 @@ endFrom o n es c total = (after (length es) o n es c) .new + (total - (after (le
 abbrev pub finishedLength : List LayoutEvent → Choice → ℕ → ℕ
 finishedLength es c total = endFrom 0 0 es c total
 
--- the rows of these events stand over the first of a table, and the last event ends at the recorded offset `old` and the new offset `new`
-pub record Laid (before rows : List (List ℕ)) (es : List LayoutEvent) (c : Choice) (old new : ℕ) : Type 0 where
-  pub table : rows ≡ over before 0 (rowsFrom 0 0 es c)
+-- the segments of these events stand over the first of a table, and the last event ends at the recorded offset `old` and the new offset `new`
+pub record Laid (before ss : List Segment) (es : List LayoutEvent) (c : Choice) (old new : ℕ) : Type 0 where
+  pub table : ss ≡ over before 0 (segments 0 0 es c)
   pub here : after (length es) 0 0 es c ≡ record { old = old; new = new }
 
 -- the label of an event, if it is a jump, lies in its table, and is unbound or small
@@ -92,6 +80,12 @@ pub record Known (event : LayoutEvent) (labels : List ℕ) : Type 0 where
 -- so for each of the first n events
 pub record Labelled (events labels : List ℕ) (n : ℕ) : Type 0 where
   pub known : (i : ℕ) → i < n → Known (eventAt events i) labels
+
+-- the recorded offset of the label that an event, long or not, is to reach, if it is a short jump
+unfoldable pub soughtBy : LayoutEvent → Bool → (ℕ → ℕ) → ℕ
+soughtBy (Jump j) true at = none
+soughtBy (Jump j) false at = at (j .label)
+soughtBy (Align start len align) long at = none
 
 -- which events a round lengthens, as segments say; `at` knows the recorded offset of a label by its number
 abbrev pub farIn : List Segment → (ℕ → ℕ) → List LayoutEvent → Choice → Choice
@@ -121,8 +115,8 @@ relaxed es labels = relaxedBy es (λ (l : ℕ). getD labels l none)
 
 -- What the rounds leave of these events, `at` knowing the recorded offsets of labels and `total` being the recorded length: the settled choice, its
 -- layout in the table, the number of layouts made, and the finished length.
-pub record Relaxed (es : List LayoutEvent) (at : ℕ → ℕ) (total : ℕ) (before rows : List (List ℕ)) (long : Choice) (layouts len : ℕ) : Type 0 where
+pub record Relaxed (es : List LayoutEvent) (at : ℕ → ℕ) (total : ℕ) (before ss : List Segment) (long : Choice) (layouts len : ℕ) : Type 0 where
   pub choice : long ≡ (relaxedBy es at) .choice
   pub rounds : layouts ≡ (relaxedBy es at) .rounds
-  pub table : rows ≡ over before 0 (rowsFrom 0 0 es ((relaxedBy es at) .choice))
+  pub table : ss ≡ over before 0 (segments 0 0 es ((relaxedBy es at) .choice))
   pub finished : len ≡ finishedLength es ((relaxedBy es at) .choice) total

@@ -1,11 +1,11 @@
 // `layout` and `map`: where each event of a recording and each byte between events comes to stand, and the rounds by which jumps become long. After
-// asmkit's core/relax.rs (see NOTICE). A row of the table of segments is a `Segment`.
+// asmkit's core/relax.rs (see NOTICE). The table is a lent slice of `Segment`; only `segment_at` and `put_segment` reach into it.
 ghost use mathlib.Core.Path.{_≡_};
 ghost use mathlib.Core.Logic.{_≢_};
 ghost use mathlib.Core.Bool.{false};
 ghost use mathlib.Core.List.{[]};
 ghost use Prim.Native.Nat.{_+_, _*_, _≤_, _<_};
-ghost use lib.ListN.{length, getD, set, replicate};
+ghost use lib.ListN.{length, getD, take, set, replicate};
 ghost use Rattle.seqs.specs.Over.{over};
 ghost use Rattle.words.specs.Words.{wordAt};
 ghost use Rattle.relax.specs.Events.{eventAt};
@@ -15,9 +15,10 @@ ghost use Rattle.fresh.specs.Forms.{width};
 ghost use Rattle.fresh.specs.Fresh.{startOf};
 ghost use Rattle.fresh.specs.Rounds.{reaches, isFar, any, join};
 ghost use Rattle.fresh.specs.Segments.{segment, image, mapOffset};
+ghost use Rattle.fresh.specs.Segments as fresh;
 ghost use Rattle.fresh.proofs.Shape.{longSize};
 ghost use Rattle.pool.specs.Pool.{poolStart, poolEvent, PoolFits};
-ghost use Rattle.layout.specs.Layout.{rowOf, segmentOf, tableOf, Rising, Between, Follows, Recorded, allEvents, rowsFrom, endFrom, finishedLength, Laid, Known, Labelled, farIn, Relaxed};
+ghost use Rattle.layout.specs.Layout.{zeroSegment, Rising, Between, Follows, Recorded, allEvents, endFrom, finishedLength, Laid, Known, soughtBy, Labelled, farIn, Relaxed};
 use relax::Condition;
 use relax::LayoutEvent;
 use relax::Segment;
@@ -28,36 +29,24 @@ pub struct Summary {
     pub len: u32,
 }
 
-// Row `i` of the table.
-pub fn segment_at(segments: &[[u32; 4]], i: usize) -> Segment
+// Segment `i` of the table.
+pub fn segment_at(segments: &[Segment], i: usize) -> Segment
     requires { ⌜ i < length (now segments) ⌝ }
-    ensures { λ r. ⌜ r ≡ segmentOf (getD (now (segments .entry)) i []) ⌝ }
+    ensures { λ r. ⌜ r ≡ getD (now (segments .entry)) i zeroSegment ⌝ }
 {
-    let row = segments[i];
-    Segment {
-        old_start: row[0],
-        old_end: row[1],
-        new_start: row[2],
-        new_end: row[3],
-    }
+    segments[i]
 }
 
-// Writes row `i` of the table.
-pub fn put_segment(segments: &mut [[u32; 4]], i: usize, segment: Segment)
+// Writes segment `i` of the table.
+pub fn put_segment(segments: &mut [Segment], i: usize, segment: Segment)
     requires { ⌜ i < length (now segments) ⌝ }
-    ensures { λ _. ⌜ now (segments .exit) ≡ set (now (segments .entry)) i (rowOf segment) ⌝ }
+    ensures { λ _. ⌜ now (segments .exit) ≡ set (now (segments .entry)) i segment ⌝ }
 {
-    let row = [
-        segment.old_start,
-        segment.old_end,
-        segment.new_start,
-        segment.new_end,
-    ];
-    segments[i] = row;
+    segments[i] = segment;
 }
 
 // How many of the first `n` segments start at or before an offset.
-fn find(segments: &[[u32; 4]], n: usize, offset: u32) -> usize
+fn find(segments: &[Segment], n: usize, offset: u32) -> usize
     requires { ⌜ Rising (now segments) n ⌝ }
     ensures { λ r. ⌜ Between (now (segments .entry)) n offset r r ⌝ }
 {
@@ -87,9 +76,9 @@ fn place(segment: Segment, offset: u32) -> u32
 }
 
 // The new offset of what was recorded at an offset.
-pub fn map(segments: &[[u32; 4]], n: usize, offset: u32) -> u32
+pub fn map(segments: &[Segment], n: usize, offset: u32) -> u32
     requires { ⌜ Rising (now segments) n ⌝ ∗ ⌜ (offset ≢ none → offset ≤ 300000000) ⌝ }
-    ensures { λ r. ⌜ r ≡ mapOffset (tableOf (now (segments .entry)) n) offset ⌝ }
+    ensures { λ r. ⌜ r ≡ mapOffset (take n (now (segments .entry))) offset ⌝ }
 {
     if offset == buffer::NONE {
         return offset;
@@ -160,8 +149,8 @@ pub fn next_segment(event: LayoutEvent, long: bool, old: u32, new: u32) -> Segme
     }
 }
 
-// Fills the rows of the first `n` events; the last of them, all zeros where there is none.
-fn layout_events(segments: &mut [[u32; 4]], events: &[u8], long: &[bool], n: usize) -> Segment
+// Fills the segments of the first `n` events; the last of them, all zeros where there is none.
+fn layout_events(segments: &mut [Segment], events: &[u8], long: &[bool], n: usize) -> Segment
     requires { ⌜ Recorded (now events) n 16777216 ⌝ ∗ ⌜ (n ≤ 65536) × (n ≤ length (now segments)) × (n ≤ length (now long)) ⌝ }
     ensures { λ r. ⌜ Laid (now (segments .entry)) (now (segments .exit)) (entries (eventAt (now (events .entry))) n) (now (long .entry)) (r .«old_end») (r .«new_end») ⌝ }
 {
@@ -181,9 +170,9 @@ fn layout_events(segments: &mut [[u32; 4]], events: &[u8], long: &[bool], n: usi
     last
 }
 
-// Fills the rows of the pool's alignments, `m` from row `n` on: the pool starts at the recorded offset `old` and the new offset `new`. Where it ends.
+// Fills the segments of the pool's alignments, `m` from segment `n` on: the pool starts at the recorded offset `old` and the new offset `new`. Where it ends.
 fn layout_pool(
-    segments: &mut [[u32; 4]],
+    segments: &mut [Segment],
     constants: &[u8],
     asked: &[u8],
     n: usize,
@@ -192,7 +181,7 @@ fn layout_pool(
     new: u32,
 ) -> u32
     requires { ⌜ PoolFits (now constants) (now asked) m ⌝ ∗ ⌜ (n ≤ 65536) × (n + m ≤ length (now segments)) × (old ≤ 300000000) × (new ≤ 300000000) ⌝ }
-    ensures { λ r. ⌜ now (segments .exit) ≡ over (now (segments .entry)) n (rowsFrom old new (entries (poolEvent old (now (constants .entry)) (now (asked .entry))) m) []) ⌝ }
+    ensures { λ r. ⌜ now (segments .exit) ≡ over (now (segments .entry)) n (fresh.segments old new (entries (poolEvent old (now (constants .entry)) (now (asked .entry))) m) []) ⌝ }
     ensures { λ r. ⌜ r ≡ endFrom old new (entries (poolEvent old (now (constants .entry)) (now (asked .entry))) m) [] (poolStart old (now (constants .entry)) (now (asked .entry)) m) ⌝ }
 {
     let mut from = old;
@@ -222,7 +211,7 @@ fn layout_pool(
 
 // Lays out the `n` events and after them the alignments of the pool's `m` constants, the code being `code` bytes long; the finished length.
 pub fn layout(
-    segments: &mut [[u32; 4]],
+    segments: &mut [Segment],
     events: &[u8],
     constants: &[u8],
     asked: &[u8],
@@ -232,7 +221,7 @@ pub fn layout(
     code: u32,
 ) -> u32
     requires { ⌜ Recorded (now events) n code ⌝ ∗ ⌜ PoolFits (now constants) (now asked) m ⌝ ∗ ⌜ (n + m ≤ 65536) × (n + m ≤ length (now segments)) × (n ≤ length (now long)) ⌝ }
-    ensures { λ r. ⌜ now (segments .exit) ≡ over (now (segments .entry)) 0 (rowsFrom 0 0 (allEvents (now (events .entry)) n code (now (constants .entry)) (now (asked .entry)) m) (now (long .entry))) ⌝ }
+    ensures { λ r. ⌜ now (segments .exit) ≡ over (now (segments .entry)) 0 (fresh.segments 0 0 (allEvents (now (events .entry)) n code (now (constants .entry)) (now (asked .entry)) m) (now (long .entry))) ⌝ }
     ensures { λ r. ⌜ r ≡ finishedLength (allEvents (now (events .entry)) n code (now (constants .entry)) (now (asked .entry)) m) (now (long .entry)) (poolStart code (now (constants .entry)) (now (asked .entry)) m) ⌝ }
 {
     let last = layout_events(segments, events, long, n);
@@ -251,25 +240,36 @@ pub fn in_reach(end: u32, label: u32) -> bool
     }
 }
 
-// Whether an event is a short jump that does not reach its label, by the first `n` segments. It ends at the new offset `end`.
-fn is_far(
-    event: LayoutEvent,
-    long: bool,
-    end: u32,
-    labels: &[u8],
-    segments: &[[u32; 4]],
-    n: usize,
-) -> bool
-    requires { ⌜ Rising (now segments) n ⌝ ∗ ⌜ Known event (now labels) ⌝ }
-    ensures { λ r. ⌜ r ≡ isFar (λ l. mapOffset (tableOf (now (segments .entry)) n) (wordAt (now (labels .entry)) l)) event long end ⌝ }
+// The recorded offset of the label that a short jump is to reach; of no other event is there one.
+fn sought(event: LayoutEvent, long: bool, labels: &[u8]) -> u32
+    requires { ⌜ Known event (now labels) ⌝ }
+    ensures { λ r. ⌜ r ≡ soughtBy event long (wordAt (now (labels .entry))) ⌝ }
 {
     match event {
         LayoutEvent::Jump(jump) => {
             if long {
+                return buffer::NONE;
+            }
+            words::word_at(labels, jump.label as usize)
+        }
+        LayoutEvent::Align {
+            start: _,
+            len: _,
+            align: _,
+        } => buffer::NONE,
+    }
+}
+
+// Whether an event is a short jump that does not reach its label. It ends at the new offset `end`, and its label stands at the new offset `target`.
+fn is_far(event: LayoutEvent, long: bool, end: u32, target: u32) -> bool
+    ensures { λ r. ⌜ r ≡ isFar (λ l. target) event long end ⌝ }
+{
+    match event {
+        LayoutEvent::Jump(_) => {
+            if long {
                 return false;
             }
-            let label = words::word_at(labels, jump.label as usize);
-            let near = in_reach(end, map(segments, n, label));
+            let near = in_reach(end, target);
             !near
         }
         LayoutEvent::Align {
@@ -284,21 +284,23 @@ fn is_far(
 pub fn lengthen(
     events: &[u8],
     labels: &[u8],
-    segments: &[[u32; 4]],
+    segments: &[Segment],
     long: &mut [bool],
     n: usize,
     m: usize,
 ) -> bool
     requires { ⌜ Rising (now segments) (n + m) ⌝ ∗ ⌜ Labelled (now events) (now labels) n ⌝ ∗ ⌜ (n + m ≤ 65536) × (n * 20 ≤ length (now events)) × (n ≤ length (now long)) ⌝ }
-    ensures { λ r. ⌜ now (long .exit) ≡ over (now (long .entry)) 0 (join (now (long .entry)) (farIn (tableOf (now (segments .entry)) (n + m)) (wordAt (now (labels .entry))) (entries (eventAt (now (events .entry))) n) (now (long .entry)))) ⌝ }
-    ensures { λ r. ⌜ r ≡ any (farIn (tableOf (now (segments .entry)) (n + m)) (wordAt (now (labels .entry))) (entries (eventAt (now (events .entry))) n) (now (long .entry))) ⌝ }
+    ensures { λ r. ⌜ now (long .exit) ≡ over (now (long .entry)) 0 (join (now (long .entry)) (farIn (take (n + m) (now (segments .entry))) (wordAt (now (labels .entry))) (entries (eventAt (now (events .entry))) n) (now (long .entry)))) ⌝ }
+    ensures { λ r. ⌜ r ≡ any (farIn (take (n + m) (now (segments .entry))) (wordAt (now (labels .entry))) (entries (eventAt (now (events .entry))) n) (now (long .entry))) ⌝ }
 {
     let mut grew = false;
     let mut i: usize = 0;
     while i < n {
         let event = relax::event_at(events, i);
         let segment = segment_at(segments, i);
-        if is_far(event, long[i], segment.new_end, labels, segments, n + m) {
+        let is_long = long[i];
+        let target = map(segments, n + m, sought(event, is_long, labels));
+        if is_far(event, is_long, segment.new_end, target) {
             long[i] = true;
             grew = true;
         }
@@ -309,7 +311,7 @@ pub fn lengthen(
 
 // The rounds: lays out and lengthens until a round lengthens none.
 pub fn relax_jumps(
-    segments: &mut [[u32; 4]],
+    segments: &mut [Segment],
     events: &[u8],
     labels: &[u8],
     constants: &[u8],

@@ -9,6 +9,7 @@ use Rattle.seqs.proofs.Overwrites.{over-nil, over-append}
 use Rattle.seqs.proofs.Picking.{yes-lt, no-lt}
 use Rattle.words.specs.Words.{bytesOf, setWord}
 use Rattle.words.proofs.Entries.{setWords, four-words}
+use Rattle.relax.specs.declared.Segment.{Segment}
 use Rattle.buffer.specs.declared.CodeBuffer.{CodeBuffer}
 use Rattle.buffer.specs.declared.Recorded.{Recorded}
 use Rattle.buffer.specs.declared.Made.{Made}
@@ -130,7 +131,7 @@ module _ (counts counts' : List ℕ) where
           (e ∙ ap (λ (x : CodeBuffer). sheets.runSheet sheet (recordingOf x code labels events uses refs constants asked relocs)) r)
           ∙ sym (no-lt _ 48 _ _ h))
 
-    module _ (segments segments' : List (List ℕ)) (labels' relocs' output output' finalized finalized' : List ℕ) where
+    module _ (segments segments' : List Segment) (labels' relocs' output output' finalized finalized' : List ℕ) where
       pub record-short : length finalized < 24
           → (1, (counts, ((labels, (relocs, (segments, output))), finalized)))
           ≡ finish (lentOf counts code labels events uses refs constants asked relocs) segments output finalized

@@ -7,6 +7,7 @@ use lib.Dec.{ltb}
 use lib.ListN.{length}
 use Rattle.seqs.specs.Pick.{pick}
 use Rattle.words.specs.Words.{wordAt}
+use Rattle.relax.specs.declared.Segment.{Segment}
 use Rattle.buffer.specs.declared.CodeBuffer.{CodeBuffer}
 use Rattle.buffer.specs.State.{none}
 use Rattle.buffer.specs.Calls as calls
@@ -134,7 +135,7 @@ runSheet sheet l =
     pick (tooShort (l .counts)) ((1, 0), l) (a .0, lentWith (l .counts) (a .1))
 
 -- the answer, the counts, the labels, relocations, segments and output, and the record; a refused finish gives a record of zeros
-unfoldable pub finish : Lent → List (List ℕ) → List ℕ → List ℕ → ℕ × (List ℕ × (finishing.Left × List ℕ))
+unfoldable pub finish : Lent → List Segment → List ℕ → List ℕ → ℕ × (List ℕ × (finishing.Left × List ℕ))
 finish l segments output finalized =
     let a = finishing.finish (recordingIn l) segments output in
     let left : finishing.Left = (l .labels, (l .relocs, (segments, output))) in

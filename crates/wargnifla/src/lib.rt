@@ -1,4 +1,4 @@
-// The C functions, on numbers and byte slices: what a host in another language links. include/wargnifla.h declares them and says what each table and number
+// The C functions, on numbers and byte slices, the table of segments alone a slice of structs: what a host in another language links. include/wargnifla.h declares them and says what each table and number
 // means. A recording's counts cross the boundary as 48 lent bytes, twelve words in the order of `CodeBuffer`; what finish reports as 24, six words in
 // the order of `CodeBufferFinalized`. Fewer bytes than that are refused by number 1, and nothing but a record of zeros is written; bytes past them are not touched.
 ghost use mathlib.Core.Path.{_≡_};
@@ -10,6 +10,7 @@ ghost use Rattle.finish.specs.Finish.{bytesOfAll, overWords};
 ghost use Rattle.wargnifla.specs.Boundary.{countsAt, countsOf, recordOf, start, putBytes, addConstant, addReloc, lentOf, runSheet, finish};
 use buffer::CodeBuffer;
 use finish::CodeBufferFinalized;
+use relax::Segment;
 
 // The counts that are lent.
 fn counts_at(counts: &[u8]) -> CodeBuffer
@@ -199,7 +200,7 @@ pub extern "C" fn wargnifla_finish(
     constants: &[u8],
     asked: &[u8],
     relocs: &mut [u8],
-    segments: &mut [[u32; 4]],
+    segments: &mut [Segment],
     output: &mut [u8],
     finalized: &mut [u8],
 ) -> u32

@@ -1,6 +1,7 @@
 // Cases A to D of document 01, run through the recording calls and finish: each letter, then the finished length, layouts and long jumps, in decimal.
 use buffer::CodeBuffer;
 use finish::Finished;
+use relax::Segment;
 
 const ZEROS: [u8; 128] = [0; 128];
 
@@ -100,42 +101,21 @@ fn record(
     }
 }
 
-// No uses, refs, constants or relocations are recorded.
-fn finish_recording(
-    recording: CodeBuffer,
-    code: &[u8; 256],
-    labels: &mut [u8; 8],
-    events: &[u8; 40],
-    segments: &mut [[u32; 4]; 2],
-    output: &mut [u8; 256],
-) -> Finished {
-    let mut relocs = [0u8; 24];
-    finish::finish(
-        recording,
-        code,
-        labels,
-        events,
-        b"",
-        b"",
-        b"",
-        b"",
-        &mut relocs,
-        segments,
-        output,
-    )
+// A finish, and the segments that it left.
+struct Laid {
+    finished: Finished,
+    first: Segment,
+    second: Segment,
 }
 
-// Records and finishes; the events, segments and output stay with the caller.
-fn run_recipe(
-    recipe: Recipe,
-    events: &mut [u8; 40],
-    segments: &mut [[u32; 4]; 2],
-    output: &mut [u8; 256],
-) -> Finished {
-    let mut code = [0u8; 256];
-    let mut labels = [0u8; 8];
-    let recording = record(recipe, &mut code, &mut labels, events);
-    finish_recording(recording, &code, &mut labels, events, segments, output)
+fn table() -> [Segment; 2] {
+    let zero = Segment {
+        old_start: 0,
+        old_end: 0,
+        new_start: 0,
+        new_end: 0,
+    };
+    [zero; 2]
 }
 
 // A short jump has 2 bytes.
@@ -144,18 +124,77 @@ fn is_short(start: u32, end: u32) -> bool {
 }
 
 // 1 for event `i`, where it is a jump and its segment says that it is long.
-fn long(events: &[u8; 40], segments: &[[u32; 4]; 2], i: usize) -> u64 {
+fn long(events: &[u8; 40], segment: Segment, i: usize) -> u64 {
     if i > 1 {
         return 0;
     }
     if words::word_at(events, i * 5) != 1 {
         return 0;
     }
-    let row = segments[i];
-    if is_short(row[2], row[3]) {
+    if is_short(segment.new_start, segment.new_end) {
         return 0;
     }
     1
+}
+
+// Finishes with a table of two segments. No uses, refs, constants or relocations are recorded: `none` stands for their tables.
+fn finish_recording(
+    recording: CodeBuffer,
+    code: &[u8],
+    labels: &mut [u8],
+    events: &[u8],
+    none: &[u8],
+    relocs: &mut [u8],
+    output: &mut [u8],
+) -> Laid {
+    let mut segments = table();
+    let finished = finish::finish(
+        recording,
+        code,
+        labels,
+        events,
+        none,
+        none,
+        none,
+        none,
+        relocs,
+        &mut segments,
+        output,
+    );
+    let first = layout::segment_at(&segments, 0);
+    let second = layout::segment_at(&segments, 1);
+    Laid {
+        finished,
+        first,
+        second,
+    }
+}
+
+fn finish_recipe(
+    recording: CodeBuffer,
+    code: &[u8; 256],
+    labels: &mut [u8; 8],
+    events: &[u8; 40],
+) -> Laid {
+    let mut relocs = [0u8; 24];
+    let mut output = [0u8; 256];
+    finish_recording(
+        recording,
+        code,
+        labels,
+        events,
+        b"",
+        &mut relocs,
+        &mut output,
+    )
+}
+
+// Records and finishes; the events stay with the caller.
+fn run_recipe(recipe: Recipe, events: &mut [u8; 40]) -> Laid {
+    let mut code = [0u8; 256];
+    let mut labels = [0u8; 8];
+    let recording = record(recipe, &mut code, &mut labels, events);
+    finish_recipe(recording, &code, &mut labels, events)
 }
 
 fn print_number(n: u64) {
@@ -171,15 +210,14 @@ fn print_refusal(refusal: u32) {
 // The finished length, layouts and long jumps.
 fn run_layout(name: &[u8], recipe: Recipe) {
     let mut events = [0u8; 40];
-    let mut segments = [[0u32; 4]; 2];
-    let mut output = [0u8; 256];
-    let finished = run_recipe(recipe, &mut events, &mut segments, &mut output);
+    let laid = run_recipe(recipe, &mut events);
+    let finished = laid.finished;
     io::write_all(1, name);
     if finished.refusal == 0 {
         print_number(finished.code.len as u64);
         print_number(finished.code.layouts as u64);
-        let first = long(&events, &segments, 0);
-        let second = long(&events, &segments, 1);
+        let first = long(&events, laid.first, 0);
+        let second = long(&events, laid.second, 1);
         print_number(std::num::wrapping_add_u64(first, second));
     } else {
         print_refusal(finished.refusal);

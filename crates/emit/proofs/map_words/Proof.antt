@@ -1,19 +1,19 @@
 -- `map_words` meets its contract: after i turns the first i of the words are mapped.
+mod Tie
 use mathlib.Core.Path.{_≡_, refl, _∙_}
 use Prim.Native.Nat.{_-_, _≤_}
 use native.Mathlib.Omega.{arith}
-use lib.ListN.{length}
+use lib.ListN.{length, take}
 use Rattle.words.proofs.Laws.{length-setWord}
 use Rattle.fresh.specs.Segments.{mapOffset}
-use Rattle.layout.specs.Layout.{tableOf}
 use Rattle.emit.specs.Emit.{mappedWords}
 use Rattle.emit.proofs.Turns.{mapped-next, mapped-turn}
 use borrow.Author.Needs.{needs}
 use Rattle.emit.proofs.map_words.Statement.{statement}
-use Rattle.emit.proofs.map_words.Tie as tie
+use Rattle.emit.proofs.map_words.Proof.Tie as tie
 
 abbrev Inv-loop : tie.InvT-loop
-Inv-loop table₀ segments stride count n i₀ table i = (i ≤ count) × (length table ≡ length table₀) × (table ≡ mappedWords (mapOffset (tableOf segments n)) table₀ stride i)
+Inv-loop table₀ segments stride count n i₀ table i = (i ≤ count) × (length table ≡ length table₀) × (table ≡ mappedWords (mapOffset (take n segments)) table₀ stride i)
 
 abbrev μ-loop : tie.MeasureT-loop
 μ-loop table₀ segments stride count n i₀ table i = count - i

@@ -1,33 +1,28 @@
 -- `patch_jump` meets its contract: a jump's displacement is written, an alignment is passed over.
 use mathlib.Core.Path.{sym, _∙_}
-use native.Mathlib.Omega.{arith}
 use Rattle.emit.proofs.Turns.{jump-fits, jump-filled, align-filled}
 use borrow.Author.Needs.{needs}
 use Rattle.emit.proofs.patch_jump.Statement.{statement}
 use Rattle.emit.proofs.patch_jump.Tie as tie
 
-event-at-requires : tie.Need-event-at-requires
-event-at-requires c κs = omega (arith, c .before .before .before .before .pre .entry)
-
 word-at-requires : tie.Need-word-at-requires
-word-at-requires c κs = omega (arith, jump-fits _ _ _ _ _ _ (sym (c .before .before .before .before .before .before .event-at .ensures) ∙ c .before .before .event .given .1) (c .before .before .before .before .before .before .before .before .before .before .before .pre .within))
+word-at-requires c κs = (jump-fits _ _ _ _ _ _ (sym (c .before .before .before .before .event-at .ensures) ∙ c .before .before .event .given .1) (c .before .before .before .before .before .before .before .before .pre .within)) .0
 
 put-displacement-requires : tie.Need-put-displacement-requires
-put-displacement-requires c κs = let w = jump-fits _ _ _ _ _ _ (sym (c .before .before .before .before .before .before .before .before .event-at .ensures) ∙ c .before .before .before .before .event .given .1) (c .before .before .before .before .before .before .before .before .before .before .before .before .before .pre .within) in rw (c .before .before .before .before .before .before .before .segment-at .ensures) (w .1, w .2)
+put-displacement-requires c κs =
+    let w = jump-fits _ _ _ _ _ _ (sym (c .before .before .before .before .before .before .event-at .ensures) ∙ c .before .before .before .before .event .given .1) (c .before .before .before .before .before .before .before .before .before .before .pre .within) in (w .1, w .2)
 
 returns : tie.Need-returns
-returns c = c .before .before .put-displacement .ensures ∙ rw (c .before .before .before .before .before .before .before .before .before .before .segment-at .ensures, c .before .before .before .before .word-at .ensures) (jump-filled _ _ _ _ _ _ (sym (c .before .before .before .before .before .before .before .before .before .before .before .event-at .ensures) ∙ c .before .before .before .before .before .before .before .event .given .1))
+returns c = c .before .before .put-displacement .ensures ∙ rw (c .before .before .before .before .word-at .ensures) (jump-filled _ _ _ _ _ _ (sym (c .before .before .before .before .before .before .before .before .before .event-at .ensures) ∙ c .before .before .before .before .before .before .before .event .given .1))
 
 returns-2 : tie.Need-returns-2
-returns-2 c = align-filled _ _ _ _ _ _ _ _ (sym (c .before .before .before .before .event-at .ensures) ∙ c .enum-told .given .1)
+returns-2 c = align-filled _ _ _ _ _ _ _ _ (sym (c .before .before .event-at .ensures) ∙ c .enum-told .given .1)
 
 pub patch-jump-spec : {M : Type 1} → statement M
 patch-jump-spec =
     tie.close
     (tie.spec
-    event-at-requires
     (λ c κs. search needs)
-    (λ c. search needs)
     (λ c. search needs)
     (λ c. search needs)
     word-at-requires

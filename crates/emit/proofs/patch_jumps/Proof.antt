@@ -1,4 +1,5 @@
 -- `patch_jumps` meets its contract: after i turns the displacements of the first i jumps are written.
+mod Tie
 use mathlib.Core.Path.{_≡_, refl, _∙_}
 use Prim.Native.Nat.{_-_, _≤_}
 use native.Mathlib.Omega.{arith}
@@ -7,7 +8,7 @@ use Rattle.emit.specs.Emit.{jumpsFilled}
 use Rattle.emit.proofs.Turns.{jumps-turn, length-jumpFilled}
 use borrow.Author.Needs.{needs}
 use Rattle.emit.proofs.patch_jumps.Statement.{statement}
-use Rattle.emit.proofs.patch_jumps.Tie as tie
+use Rattle.emit.proofs.patch_jumps.Proof.Tie as tie
 
 abbrev Inv-loop : tie.InvT-loop
 Inv-loop output₀ events labels long segments n i₀ output i = (i ≤ n) × (length output ≡ length output₀) × (output ≡ jumpsFilled output₀ events labels long segments i)
@@ -19,11 +20,19 @@ loop-holds : tie.Need-loop-holds Inv-loop μ-loop
 unfolding jumpsFilled
 loop-holds c = (omega arith, refl, refl)
 
+segment-at-requires : tie.Need-segment-at-requires Inv-loop μ-loop
+segment-at-requires c κs = omega (arith, c .before .before .before .before .before .before .pre .laid)
+
+shared-slice-read-patch-jump : tie.Need-shared-slice-read-patch-jump Inv-loop μ-loop
+shared-slice-read-patch-jump c = omega (arith, c .before .before .before .before .before .before .before .before .before .pre .chosen)
+
 patch-jump-requires : tie.Need-patch-jump-requires Inv-loop μ-loop
-patch-jump-requires c κs = rw (c .before .before .loop .inv .1) (c .before .before .before .before .before .before .before .pre .each _ (c .before .loop-test .taken))
+patch-jump-requires c κs = rw (c .before .before .before .before .loop .inv .1, c .before .before .segment-at .ensures) (c .before .before .before .before .before .before .before .before .before .pre .each _ (c .before .before .before .loop-test .taken))
 
 loop-again : tie.Need-loop-again Inv-loop μ-loop
-loop-again c = (omega arith, rw (c .before .before .patch-jump .ensures) (length-jumpFilled _ _ _ _ _ ∙ c .before .before .before .before .before .loop .inv .1), jumps-turn _ _ _ _ _ _ _ _ (c .before .before .before .before .before .loop .inv .2) (c .before .before .patch-jump .ensures))
+loop-again c =
+    let filled = rw (c .before .before .before .before .before .segment-at .ensures) at (c .before .before .patch-jump .ensures) in
+    (omega arith, rw filled (length-jumpFilled _ _ _ _ _ ∙ c .before .before .before .before .before .before .before .loop .inv .1), jumps-turn _ _ _ _ _ _ _ _ (c .before .before .before .before .before .before .before .loop .inv .2) filled)
 
 returns : tie.Need-returns Inv-loop μ-loop
 returns c = let all : c .before .loop .i ≡ c .before .before .before .before .before .before .args .n = omega arith in rw all at (c .before .loop .inv .2)
@@ -35,6 +44,8 @@ patch-jumps-spec =
     Inv-loop
     μ-loop
     loop-holds
+    segment-at-requires
+    shared-slice-read-patch-jump
     patch-jump-requires
     (λ c. search needs)
     (λ c. search needs)

@@ -1,4 +1,5 @@
 -- `patch_refs` meets its contract: after i turns the first i refs are filled.
+mod Tie
 use mathlib.Core.Path.{_≡_, refl, _∙_}
 use Prim.Native.Nat.{_-_, _≤_}
 use native.Mathlib.Omega.{arith}
@@ -8,7 +9,7 @@ use Rattle.emit.proofs.Fields.{length-fillField}
 use Rattle.emit.proofs.Turns.{refs-turn}
 use borrow.Author.Needs.{needs}
 use Rattle.emit.proofs.patch_refs.Statement.{statement}
-use Rattle.emit.proofs.patch_refs.Tie as tie
+use Rattle.emit.proofs.patch_refs.Proof.Tie as tie
 
 abbrev Inv-loop : tie.InvT-loop
 Inv-loop output₀ refs labels segments count n i₀ output i = (i ≤ count) × (length output ≡ length output₀) × (output ≡ refsFilled output₀ refs labels segments n i)
@@ -20,11 +21,22 @@ loop-holds : tie.Need-loop-holds Inv-loop μ-loop
 unfolding refsFilled
 loop-holds c = (omega arith, refl, refl)
 
+word-at-requires : tie.Need-word-at-requires Inv-loop μ-loop
+word-at-requires c κs = omega (arith, c .before .before .before .before .before .pre .1 .each _ (c .loop-test .taken) .entry)
+
+mul-word-at : tie.Need-mul-word-at Inv-loop μ-loop
+mul-word-at c = omega (arith, c .before .before .before .before .before .pre .1 .each _ (c .loop-test .taken) .entry)
+
+map-requires : tie.Need-map-requires Inv-loop μ-loop
+map-requires c κs = (c .before .before .before .before .before .before .pre .0, rw (c .word-at .ensures) (c .before .before .before .before .before .before .pre .1 .recorded _ (c .before .loop-test .taken)))
+
 patch-ref-requires : tie.Need-patch-ref-requires Inv-loop μ-loop
-patch-ref-requires c κs = (c .before .before .before .before .before .before .pre .0, rw (c .before .before .loop .inv .1) (c .before .before .before .before .before .before .pre .1 .each _ (c .before .loop-test .taken)))
+patch-ref-requires c κs = rw (c .before .before .before .before .loop .inv .1, c .before .map .ensures, c .before .before .word-at .ensures) (c .before .before .before .before .before .before .before .before .pre .1 .each _ (c .before .before .before .loop-test .taken))
 
 loop-again : tie.Need-loop-again Inv-loop μ-loop
-loop-again c = (omega arith, rw (c .before .before .patch-ref .ensures) (length-fillField _ _ _ _ _ ∙ c .before .before .before .before .before .loop .inv .1), refs-turn _ _ _ _ _ _ _ _ (c .before .before .before .before .before .loop .inv .2) (c .before .before .patch-ref .ensures))
+loop-again c =
+    let filled = rw (c .before .before .before .before .map .ensures, c .before .before .before .before .before .word-at .ensures) at (c .before .before .patch-ref .ensures) in
+    (omega arith, rw filled (length-fillField _ _ _ _ _ ∙ c .before .before .before .before .before .before .before .loop .inv .1), refs-turn _ _ _ _ _ _ _ _ (c .before .before .before .before .before .before .before .loop .inv .2) filled)
 
 returns : tie.Need-returns Inv-loop μ-loop
 returns c = let all : c .before .loop .i ≡ c .before .before .before .before .before .args .count = omega arith in rw all at (c .before .loop .inv .2)
@@ -36,6 +48,9 @@ patch-refs-spec =
     Inv-loop
     μ-loop
     loop-holds
+    mul-word-at
+    word-at-requires
+    map-requires
     patch-ref-requires
     (λ c. search needs)
     (λ c. search needs)

@@ -1,4 +1,5 @@
 -- `refs_reach` meets its contract: every ref passed reaches.
+mod Tie
 use mathlib.Core.Path.{_≡_, refl, sym, _∙_}
 use mathlib.Core.Bool.{true}
 use Prim.Native.Nat.{_-_, _≤_}
@@ -8,7 +9,7 @@ use Rattle.emit.specs.Emit.{refsReach}
 use Rattle.emit.proofs.Turns.{one-short, all-reach}
 use borrow.Author.Needs.{needs}
 use Rattle.emit.proofs.refs_reach.Statement.{statement}
-use Rattle.emit.proofs.refs_reach.Tie as tie
+use Rattle.emit.proofs.refs_reach.Proof.Tie as tie
 
 abbrev Inv-loop : tie.InvT-loop
 Inv-loop refs labels segments count n i₀ i = (i ≤ count) × (refsReach refs labels segments n i ≡ true)
@@ -20,14 +21,33 @@ loop-holds : tie.Need-loop-holds Inv-loop μ-loop
 unfolding refsReach
 loop-holds c = (omega arith, refl)
 
+mul-word-at : tie.Need-mul-word-at Inv-loop μ-loop
+mul-word-at c = omega (arith, c .before .before .before .before .pre .1 .each _ (c .loop-test .taken) .entry)
+
+word-at-requires : tie.Need-word-at-requires Inv-loop μ-loop
+word-at-requires c κs = omega (arith, c .before .before .before .before .pre .1 .each _ (c .loop-test .taken) .entry)
+
+map-requires : tie.Need-map-requires Inv-loop μ-loop
+map-requires c κs = (c .before .before .before .before .before .pre .0, rw (c .word-at .ensures) (c .before .before .before .before .before .pre .1 .each _ (c .before .loop-test .taken) .recorded))
+
+ref-label-requires : tie.Need-ref-label-requires Inv-loop μ-loop
+ref-label-requires c κs = let known = c .before .before .before .before .before .before .pre .1 .each _ (c .before .before .loop-test .taken) in (known .entry, known .known)
+
+map-requires-2 : tie.Need-map-requires-2 Inv-loop μ-loop
+map-requires-2 c κs = (c .before .before .before .before .before .before .before .pre .0, rw (c .ref-label .ensures) (c .before .before .before .before .before .before .before .pre .1 .each _ (c .before .before .before .loop-test .taken) .bound))
+
 ref-reaches-requires : tie.Need-ref-reaches-requires Inv-loop μ-loop
-ref-reaches-requires c κs = (c .before .before .before .before .pre .0, c .before .before .before .before .pre .1 .each _ (c .loop-test .taken))
+ref-reaches-requires c κs = c .before .before .before .before .before .before .before .before .pre .1 .each _ (c .before .before .before .before .loop-test .taken) .entry
 
 returns : tie.Need-returns Inv-loop μ-loop
-returns c = sym (one-short _ _ _ _ (c .before .before .before .loop .i) _ (omega arith) (sym (c .before .ref-reaches .ensures) ∙ not-true _ (c .if1 .taken)))
+returns c =
+    let said = rw (c .before .before .map2 .ensures, c .before .before .before .ref-label .ensures, c .before .before .before .before .map .ensures, c .before .before .before .before .before .word-at .ensures) at (c .before .ref-reaches .ensures) in
+    sym (one-short _ _ _ _ (c .before .before .before .before .before .before .before .loop .i) _ (omega arith) (sym said ∙ not-true _ (c .if1 .taken)))
 
 loop-again : tie.Need-loop-again Inv-loop μ-loop
-loop-again c = (omega arith, all-reach _ _ _ _ _ (c .before .before .before .loop .inv .1) (sym (c .before .ref-reaches .ensures) ∙ not-false _ (c .if1 .left)))
+loop-again c =
+    let said = rw (c .before .before .map2 .ensures, c .before .before .before .ref-label .ensures, c .before .before .before .before .map .ensures, c .before .before .before .before .before .word-at .ensures) at (c .before .ref-reaches .ensures) in
+    (omega arith, all-reach _ _ _ _ _ (c .before .before .before .before .before .before .before .loop .inv .1) (sym said ∙ not-false _ (c .if1 .left)))
 
 returns-2 : tie.Need-returns-2 Inv-loop μ-loop
 returns-2 c = let all : c .before .loop .i ≡ c .before .before .before .before .args .count = omega arith in sym (rw all at (c .before .loop .inv .1))
@@ -39,6 +59,11 @@ refs-reach-spec =
     Inv-loop
     μ-loop
     loop-holds
+    mul-word-at
+    word-at-requires
+    map-requires
+    ref-label-requires
+    map-requires-2
     ref-reaches-requires
     returns
     (λ c. search needs)

@@ -6,11 +6,11 @@ use Rattle.finish_answers.proofs.read_recordings.Statement.{statement}
 use Rattle.finish_answers.proofs.read_recordings.Tie as tie
 
 abbrev Inv-loop : tie.InvT-loop
-Inv-loop recordings stored₀ code₀ labels₀ entries₀ constants₀ relocs₀ segments₀ output₀ sum₀ left₀ stored code labels entries constants relocs segments output sum left =
-    (length stored ≡ length stored₀) × (length code ≡ length code₀) × (length labels ≡ length labels₀) × (length entries ≡ length entries₀) × (length constants ≡ length constants₀) × (length relocs ≡ length relocs₀) × (length segments ≡ length segments₀) × (length output ≡ length output₀)
+Inv-loop recordings stored₀ code₀ labels₀ entries₀ constants₀ relocs₀ output₀ sum₀ left₀ stored code labels entries constants relocs output sum left =
+    (length stored ≡ length stored₀) × (length code ≡ length code₀) × (length labels ≡ length labels₀) × (length entries ≡ length entries₀) × (length constants ≡ length constants₀) × (length relocs ≡ length relocs₀) × (length output ≡ length output₀)
 
 abbrev μ-loop : tie.MeasureT-loop
-μ-loop recordings stored₀ code₀ labels₀ entries₀ constants₀ relocs₀ segments₀ output₀ sum₀ left₀ stored code labels entries constants relocs segments output sum left =
+μ-loop recordings stored₀ code₀ labels₀ entries₀ constants₀ relocs₀ output₀ sum₀ left₀ stored code labels entries constants relocs output sum left =
     left
 
 pub read-recordings-spec : {M : Type 1} → statement M
@@ -22,7 +22,6 @@ read-recordings-spec =
     (λ c. search needs)
     (λ c κs. search needs)
     (λ c κs. search needs)
-    (λ c. search needs)
     (λ c. search needs)
     (λ c. search needs)
     (λ c. search needs)

@@ -1,4 +1,5 @@
 -- `find` meets its contract: the search narrows to where the starts pass the offset.
+mod Tie
 use mathlib.Core.Path.{_≡_, ap}
 use Prim.Native.Nat.{_-_}
 use native.Mathlib.Omega.{arith}
@@ -7,7 +8,7 @@ use Rattle.relax.specs.declared.Segment.{Segment}
 use Rattle.layout.specs.Layout.{Between}
 use Rattle.layout.proofs.Search.{between-all, between-right, between-left}
 use Rattle.layout.proofs.find.Statement.{statement}
-use Rattle.layout.proofs.find.Tie as tie
+use Rattle.layout.proofs.find.Proof.Tie as tie
 
 abbrev Inv-loop : tie.InvT-loop
 Inv-loop segments n offset low₀ high₀ low high = Between segments n offset low high

@@ -1,12 +1,13 @@
 -- `layout` meets its contract: the pool's alignments follow the recorded events.
+mod Tie
 use mathlib.Core.Path.{refl, _∙_}
 use native.Mathlib.Omega.{arith}
 use borrow.Author.Needs.{needs}
 use Rattle.layout.proofs.Turns.{recorded-more, events-end}
-use Rattle.layout.proofs.Pooling.{rows-join, ends-join}
+use Rattle.layout.proofs.Pooling.{segments-join, ends-join}
 use borrow.Author.Needs.{needs}
 use Rattle.layout.proofs.layout.Statement.{statement}
-use Rattle.layout.proofs.layout.Tie as tie
+use Rattle.layout.proofs.layout.Proof.Tie as tie
 
 layout-events-requires : tie.Need-layout-events-requires
 layout-events-requires c κs = (recorded-more _ _ _ (c .before .before .before .before .before .pre .0), (omega arith, omega arith, omega arith))
@@ -34,7 +35,7 @@ returns c =
     let laid = c .before .before .before .before .before .before .layout-events .ensures in
     let made = c .before .layout-pool .ensures in
     let low = (events-end _ _ _ _ _ _ _ _ p (omega arith) laid) .0 in (
-      rows-join (a .events .now) (a .n) (a .code) (a .constants .now) (a .asked .now) (a .long .now) _ _ _ (laid .here) low refl
+      segments-join (a .events .now) (a .n) (a .code) (a .constants .now) (a .asked .now) (a .long .now) _ _ _ (laid .here) low refl
           _ _ _ (a .m) (laid .table) (made .0),
       made .1
           ∙ ends-join (a .events .now) (a .n) (a .code) (a .constants .now) (a .asked .now) (a .long .now) _ _ _ (laid .here) low refl (a .m),

@@ -1,4 +1,5 @@
 -- `layout_events` meets its contract: a turn lays out one event more.
+mod Tie
 use mathlib.Core.Path.{_≡_, refl, _∙_}
 use Prim.Native.Nat.{_-_, _≤_}
 use native.Mathlib.Numerals.{add-one}
@@ -10,7 +11,7 @@ use Rattle.recording.specs.View.{entries}
 use Rattle.layout.specs.Layout.{Laid}
 use Rattle.layout.proofs.Turns.{laid-none, event-follows, event-laid}
 use Rattle.layout.proofs.layout_events.Statement.{statement}
-use Rattle.layout.proofs.layout_events.Tie as tie
+use Rattle.layout.proofs.layout_events.Proof.Tie as tie
 
 abbrev Inv-loop : tie.InvT-loop
 Inv-loop segments₀ events long n last₀ i₀ segments last i =

@@ -1,4 +1,5 @@
 -- `layout_pool` meets its contract: a turn lays out one alignment more.
+mod Tie
 use mathlib.Core.Path.{_≡_, refl, _∙_}
 use Prim.Native.Nat.{_-_, _≤_}
 use native.Mathlib.Numerals.{add-one}
@@ -7,7 +8,7 @@ use lib.ListN.{length}
 use borrow.Author.Needs.{needs}
 use Rattle.layout.proofs.Pooling.{PoolLaid, pool-none, pool-more, pool-padding}
 use Rattle.layout.proofs.layout_pool.Statement.{statement}
-use Rattle.layout.proofs.layout_pool.Tie as tie
+use Rattle.layout.proofs.layout_pool.Proof.Tie as tie
 
 abbrev Inv-loop : tie.InvT-loop
 Inv-loop segments₀ constants asked n m old new from₀ to₀ j₀ segments from to j =

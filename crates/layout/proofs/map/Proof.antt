@@ -1,11 +1,12 @@
 -- `map` meets its contract: the last segment that starts at or before the offset decides.
+mod Tie
 use mathlib.Core.Path.{_∙_}
 use Prim.Native.Nat.{_-_, _<_}
 use native.Mathlib.Omega.{arith}
 use Rattle.layout.proofs.Search.{map-none, found-none, found-last}
 use borrow.Author.Needs.{needs}
 use Rattle.layout.proofs.map.Statement.{statement}
-use Rattle.layout.proofs.map.Tie as tie
+use Rattle.layout.proofs.map.Proof.Tie as tie
 
 returns : tie.Need-returns
 returns c = map-none _ _ (c .if1 .taken)

@@ -1,4 +1,5 @@
 -- `relax_jumps` meets its contract: a round that lengthens a jump leaves fewer short ones, and one that lengthens none is the last.
+mod Tie
 use mathlib.Core.Path.{_≡_, refl, _∙_}
 use Prim.Native.Nat.{_-_}
 use native.Mathlib.Omega.{arith}
@@ -11,7 +12,7 @@ use Rattle.layout.specs.Layout.{allEvents}
 use Rattle.layout.proofs.Pooling.{length-all}
 use Rattle.layout.proofs.Standing.{Standing, standing-none, layouts-few, round-less, round-more, round-done, rising-all}
 use Rattle.layout.proofs.relax_jumps.Statement.{statement}
-use Rattle.layout.proofs.relax_jumps.Tie as tie
+use Rattle.layout.proofs.relax_jumps.Proof.Tie as tie
 
 abbrev Inv-loop : tie.InvT-loop
 Inv-loop segments₀ events labels constants asked long₀ n m code layouts₀ segments long layouts =

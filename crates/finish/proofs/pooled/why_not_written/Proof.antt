@@ -1,19 +1,18 @@
 -- `why_not_written` meets its contract.
 use mathlib.Core.Path.{sym, _∙_}
-use borrow.Author.Needs.{needs}
 use borrow.Author.Tests.{not-true, not-false}
 use Rattle.seqs.proofs.Picking.{yes-not, no-not, yes-lt, no-lt}
 use Rattle.finish.proofs.pooled.why_not_written.Statement.{statement}
 use Rattle.finish.proofs.pooled.why_not_written.Tie as tie
 
 returns : tie.Need-returns
-returns c = sym (yes-not _ 18 _ (sym (c .before .refs-reach .ensures) ∙ not-true _ (c .if1 .taken)))
+returns c = sym (yes-not (c .before .args .reach) 18 _ (not-true (c .before .args .reach) (c .if1 .taken)))
 
 returns-2 : tie.Need-returns-2
-returns-2 c = sym (no-not _ 18 _ (sym (c .before .before .refs-reach .ensures) ∙ not-false _ (c .before .if1 .left)) ∙ yes-lt _ _ 23 0 (c .if2 .taken))
+returns-2 c = sym (no-not (c .before .before .args .reach) 18 _ (not-false (c .before .before .args .reach) (c .before .if1 .left)) ∙ yes-lt _ _ 23 0 (c .if2 .taken))
 
 returns-3 : tie.Need-returns-3
-returns-3 c = sym (no-not _ 18 _ (sym (c .before .before .refs-reach .ensures) ∙ not-false _ (c .before .if1 .left)) ∙ no-lt _ _ 23 0 (c .if2 .left))
+returns-3 c = sym (no-not (c .before .before .args .reach) 18 _ (not-false (c .before .before .args .reach) (c .before .if1 .left)) ∙ no-lt _ _ 23 0 (c .if2 .left))
 
 pub why-not-written-spec : {M : Type 1} → statement M
-why-not-written-spec = tie.close (tie.spec (λ c κs. search needs) returns returns-2 returns-3)
+why-not-written-spec = tie.close (tie.spec returns returns-2 returns-3)

@@ -1,9 +1,10 @@
 -- `write_relaxed` meets its contract: the calls in their order.
+mod Tie
 use mathlib.Core.Path.{_∙_}
 use native.Mathlib.Omega.{arith}
 use borrow.Author.Needs.{needs}
 use Rattle.finish.proofs.pooled.write_relaxed.Statement.{statement}
-use Rattle.finish.proofs.pooled.write_relaxed.Tie as tie
+use Rattle.finish.proofs.pooled.write_relaxed.Proof.Tie as tie
 
 emit-requires : tie.Need-emit-requires
 emit-requires c κs =

@@ -1,0 +1,28 @@
+-- `emit_segment` meets its contract: the event is written over what the run left.
+use mathlib.Core.Path.{refl, ap, _∙_}
+use native.Mathlib.Omega.{arith}
+use lib.ListN.{length}
+use Rattle.seqs.proofs.Overwrites.{length-over}
+use borrow.Author.Needs.{needs}
+use Rattle.emit.proofs.emit_segment.Statement.{statement}
+use Rattle.emit.proofs.emit_segment.Tie as tie
+
+emit-event-requires : tie.Need-emit-event-requires
+emit-event-requires c κs =
+    let p = c .before .before .before .before .before .before .before .before .before .before .pre in
+    let kept = ap length (c .before .before .before .copy-run .ensures) ∙ length-over _ _ _ in
+    rw (c .before .before .before .before .before .before .event-at .ensures) (p .0 .1, (p .1 .1 .0, omega (arith, kept)))
+
+returns : tie.Need-returns
+returns c = c .before .before .emit-event .ensures ∙ rw (c .before .before .before .before .before .before .copy-run .ensures, c .before .before .before .before .before .before .before .before .before .event-at .ensures) refl
+
+pub emit-segment-spec : {M : Type 1} → statement M
+emit-segment-spec =
+    tie.close
+    (tie.spec
+    (λ c κs. search needs)
+    (λ c. search needs)
+    (λ c κs. search needs)
+    emit-event-requires
+    (λ c. search needs)
+    returns)

@@ -1,0 +1,98 @@
+-- `begin` meets its contract: each return is one case of proofs/Finishing.
+use mathlib.Core.Path.{sym, _∙_}
+use native.Mathlib.Omega.{arith}
+use borrow.Author.Needs.{needs}
+use Rattle.seqs.proofs.Booleans.{true-is-not-false}
+use Rattle.checks.specs.Lent.{recordingOf}
+use Rattle.finish.proofs.Sounds.{pool-fits, pool-labels}
+use Rattle.finish.proofs.Fit.{asked-few, sound, passed-unfit}
+use Rattle.finish.proofs.Finishing.{placeable, finish-unfit, finish-concluded}
+use Rattle.finish.proofs.begin.Statement.{statement}
+use Rattle.finish.proofs.begin.Tie as tie
+
+returns : tie.Need-returns
+returns c =
+    let a = c .before .before .before .before .before .before .before .before .before .before .before .before .before .args in
+    let r = recordingOf (a .b) (a .code .now) (a .labels .now) (a .events .now) (a .uses .now) (a .refs .now) (a .constants .now) (a .asked .now) (a .relocs .now) in (
+      λ e ss l. finish-unfit r ss (a .output .now) _ _ (rw l (c .before .before .why-unfit .ensures)) (c .before .if1 .taken) (c .unfinished .ensures),
+      λ e. absurd (true-is-not-false (sym e)),
+    )
+
+bind-requires : tie.Need-bind-requires
+bind-requires c κs =
+    let a = c .before .before .before .before .before .before .before .before .before .before .before .before .before .before .args in
+    let r = recordingOf (a .b) (a .code .now) (a .labels .now) (a .events .now) (a .uses .now) (a .refs .now) (a .constants .now) (a .asked .now) (a .relocs .now) in
+    let unfit = sym (c .before .before .before .why-unfit .ensures) ∙ c .before .before .if1 .left in
+    let pass = passed-unfit r _ _ unfit in
+    let s = sound r _ _ (pass .stood) (pass .fit) in
+    let few = asked-few r _ _ (pass .stood) in
+    (pool-fits r s few, (pool-labels r s few, omega (arith, s .code .limit)))
+
+start-requires : tie.Need-start-requires
+start-requires c κs =
+    let a = c .before .before .before .before .before .before .before .before .before .before .before .before .before .before .before .before .before .before .before .args in
+    let r = recordingOf (a .b) (a .code .now) (a .labels .now) (a .events .now) (a .uses .now) (a .refs .now) (a .constants .now) (a .asked .now) (a .relocs .now) in
+    let unfit = sym (c .before .before .before .before .before .before .before .before .why-unfit .ensures) ∙ c .before .before .before .before .before .before .before .if1 .left in
+    let pass = passed-unfit r _ _ unfit in
+    rw (c .before .before .before .before .bind .ensures) (placeable r _ (a .output .now) pass)
+
+returns-2 : tie.Need-returns-2
+returns-2 c =
+    let a = c .before .before .before .before .before .before .before .before .before .before .before .before .before .before .before .before .before .before .before .before .before .before .before .before .args in
+    let r = recordingOf (a .b) (a .code .now) (a .labels .now) (a .events .now) (a .uses .now) (a .refs .now) (a .constants .now) (a .asked .now) (a .relocs .now) in
+    let unfit = sym (c .before .before .before .before .before .before .before .before .before .before .before .before .before .why-unfit .ensures) ∙ c .before .before .before .before .before .before .before .before .before .before .before .before .if1 .left in
+    let pass = passed-unfit r _ _ unfit in
+    let starts = rw (c .before .before .before .before .before .before .before .before .before .bind .ensures) at (c .before .before .before .before .start .ensures .1 (c .before .if2 .taken)) in (
+      λ e. absurd (true-is-not-false e),
+      λ e.
+          rw (c .before .before .before .before .before .before .before .before .before .bind .ensures)
+          (record {
+            kept = starts .kept;
+            relaxable = starts .relaxable;
+            laid = starts .laid;
+            concludes = λ ss l placed x is f back end. finish-concluded r _ (a .output .now) pass (λ i. c .before .before .before .before .before .before .before .before .before .before .before .before .before .before .before .before .before .before .before .before .before .before .slice-known .given i .fits) unfit ss l placed x (starts .placed ss (placed, x) is) f back end;
+          }),
+    )
+
+conclude-requires : tie.Need-conclude-requires
+conclude-requires c κs =
+    let a = c .before .before .before .before .before .before .before .before .before .before .before .before .before .before .before .before .before .before .before .before .before .before .before .before .before .args in
+    let r = recordingOf (a .b) (a .code .now) (a .labels .now) (a .events .now) (a .uses .now) (a .refs .now) (a .constants .now) (a .asked .now) (a .relocs .now) in
+    let unfit = sym (c .before .before .before .before .before .before .before .before .before .before .before .before .before .before .why-unfit .ensures) ∙ c .before .before .before .before .before .before .before .before .before .before .before .before .before .if1 .left in
+    let pass = passed-unfit r _ _ unfit in
+    let s = sound r _ _ (pass .stood) (pass .fit) in
+    let few = asked-few r _ _ (pass .stood) in
+    (pool-fits r s few, record { known = λ j h. omega (arith, pool-labels r s few .known j h, c .before .before .before .before .before .before .before .before .before .before .bind .kept .1 .0) })
+
+returns-3 : tie.Need-returns-3
+returns-3 c =
+    let a = c .before .before .before .before .before .before .before .before .before .before .before .before .before .before .before .before .before .before .before .before .before .before .before .before .before .before .before .before .args in
+    let r = recordingOf (a .b) (a .code .now) (a .labels .now) (a .events .now) (a .uses .now) (a .refs .now) (a .constants .now) (a .asked .now) (a .relocs .now) in
+    let unfit = sym (c .before .before .before .before .before .before .before .before .before .before .before .before .before .before .before .before .before .why-unfit .ensures) ∙ c .before .before .before .before .before .before .before .before .before .before .before .before .before .before .before .before .if1 .left in
+    let pass = passed-unfit r _ _ unfit in (
+      λ e ss l.
+          finish-concluded r _ (a .output .now) pass (λ i. c .before .before .before .before .before .before .before .before .before .before .before .before .before .before .before .before .before .before .before .before .before .before .before .before .before .before .slice-known .given i .fits) unfit ss l _ _
+          (rw (c .before .before .before .before .before .before .before .before .before .before .before .before .before .bind .ensures) at (c .before .before .before .before .before .before .before .before .start .ensures .0 (c .before .before .before .before .before .if2 .left) ss l)) _ _
+          (rw (c .before .before .before .before .before .before .before .before .before .before .before .before .before .bind .ensures) at (c .before .before .conclude .ensures)),
+      λ e. absurd (true-is-not-false (sym e)),
+    )
+
+pub begin-spec : {M : Type 1} → statement M
+begin-spec =
+    tie.close
+    (tie.spec
+    (λ c κs. search needs)
+    (λ c κs. search needs)
+    (λ c. search needs)
+    returns
+    (λ c. search needs)
+    bind-requires
+    start-requires
+    (λ c κs. search needs)
+    (λ c. search needs)
+    (λ c. search needs)
+    returns-2
+    conclude-requires
+    (λ c. search needs)
+    (λ c. search needs)
+    returns-3)

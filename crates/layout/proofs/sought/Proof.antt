@@ -1,0 +1,33 @@
+-- `sought` meets its contract, by cases of the event.
+use mathlib.Core.Path.{refl}
+use borrow.Author.Needs.{needs}
+use Rattle.layout.specs.Layout.{soughtBy}
+use Rattle.layout.proofs.sought.Statement.{statement}
+use Rattle.layout.proofs.sought.Tie as tie
+
+returns : tie.Need-returns
+unfolding soughtBy
+returns c = rw (c .before .before .event .given .1, c .if1 .taken) refl
+
+word-at-requires : tie.Need-word-at-requires
+word-at-requires c κs = c .before .before .before .before .before .before .pre .room _ (c .before .before .before .event .given .1)
+
+returns-2 : tie.Need-returns-2
+unfolding soughtBy
+returns-2 c = rw (c .before .before .before .before .event .given .1, c .before .before .if1 .left, ← c .word-at .ensures) refl
+
+returns-3 : tie.Need-returns-3
+unfolding soughtBy
+returns-3 c = rw (c .enum-told .given .1) refl
+
+pub sought-spec : {M : Type 1} → statement M
+sought-spec =
+    tie.close
+    (tie.spec
+    (λ c. search needs)
+    returns
+    (λ c. search needs)
+    word-at-requires
+    (λ c. search needs)
+    returns-2
+    returns-3)
