@@ -1,7 +1,6 @@
 -- The recordings whose entries fit are the sound ones, of those whose counts fit.
 use mathlib.Core.Path.{_≡_, refl}
 use mathlib.Core.Bool.{true}
-use native.Mathlib.Omega.{arith}
 use Rattle.seqs.proofs.Booleans.{both-true}
 use Rattle.recording.specs.Calls.{Recording}
 use Rattle.recording.specs.Sound.{CodeSound, Sound}
@@ -65,18 +64,3 @@ module _ (r : Recording) where
         order-fits (r .asked) (b .asked) (r .constants) (b .constants) (s .asked),
         relocs-fit b (r .relocs) (s .relocs),
       )
-
-  -- the counts of a sound recording fit
-  pub sound-counts : Sound r → CountsFit (r .buffer) (r .labels) (r .events) (r .uses) (r .refs) (r .constants) (r .asked) (r .relocs)
-  sound-counts s =
-      record {
-        labels-room = omega (arith, s .labels .room);
-        labels-limit = s .labels .limit;
-        events-room = omega (arith, s .events .room);
-        uses-room = omega (arith, s .uses .room);
-        refs-room = omega (arith, s .refs .room);
-        constants-room = omega (arith, s .constants .room);
-        constants-limit = s .constants .limit;
-        asked-room = omega (arith, s .asked .room);
-        relocs-room = omega (arith, s .relocs .room);
-      }

@@ -36,23 +36,23 @@ pub four-over : (t : List ℕ) (k a b c d : ℕ)
     → setWord (setWord (setWord (setWord t k a) (k + 1) b) (k + 2) c) (k + 3) d ≡ over t (k * 4) (bytesOfAll (a ∷ b ∷ c ∷ d ∷ []))
 four-over t k a b c d = four-words t k a b c d ∙ words-over t k (a ∷ b ∷ c ∷ d ∷ [])
 
-pub twelve-words : (t : List ℕ) (b : CodeBuffer)
+pub counts-over : (t : List ℕ) (b : CodeBuffer)
     → over
     (over (over t 0 (bytesOfAll (b .arch ∷ b .symbols ∷ b .finished ∷ b .refusal ∷ []))) 16 (bytesOfAll (b .code ∷ b .labels ∷ b .events ∷ b .uses ∷ [])))
     32
     (bytesOfAll (b .refs ∷ b .constants ∷ b .asked ∷ b .relocs ∷ []))
     ≡ overWords t (countsOf b)
-twelve-words t b =
+counts-over t b =
     let first = bytesOfAll (b .arch ∷ b .symbols ∷ b .finished ∷ b .refusal ∷ []) in
     let second = bytesOfAll (b .code ∷ b .labels ∷ b .events ∷ b .uses ∷ []) in
     let third = bytesOfAll (b .refs ∷ b .constants ∷ b .asked ∷ b .relocs ∷ []) in
     ap (λ l. over l 32 third) (over-append t 0 first second)
     ∙ over-append t 0 (bytesOfAll (b .arch ∷ b .symbols ∷ b .finished ∷ b .refusal ∷ b .code ∷ b .labels ∷ b .events ∷ b .uses ∷ [])) third
 
-pub six-words : (t : List ℕ) (f : CodeBufferFinalized)
+pub record-over : (t : List ℕ) (f : CodeBufferFinalized)
     → setWord (setWord (over t 0 (bytesOfAll (f .arch ∷ f .len ∷ f .alignment ∷ f .layouts ∷ []))) 4 (f .labels)) 5 (f .relocs) ≡ overWords t (recordOf f)
 unfolding setWord
-six-words t f =
+record-over t f =
     let first = bytesOfAll (f .arch ∷ f .len ∷ f .alignment ∷ f .layouts ∷ []) in
     ap (λ l. over l 20 (bytesOf (f .relocs))) (over-append t 0 first (bytesOf (f .labels)))
     ∙ over-append t 0 (bytesOfAll (f .arch ∷ f .len ∷ f .alignment ∷ f .layouts ∷ f .labels ∷ [])) (bytesOf (f .relocs))

@@ -1,6 +1,7 @@
-// The C functions, on numbers and byte slices, the table of segments alone a slice of structs: what a host in another language links. include/wargnifla.h declares them and says what each table and number
-// means. A recording's counts cross the boundary as 48 lent bytes, twelve words in the order of `CodeBuffer`; what finish reports as 24, six words in
-// the order of `CodeBufferFinalized`. Fewer bytes than that are refused by number 1, and nothing but a record of zeros is written; bytes past them are not touched.
+// The C functions, on numbers and byte slices, the table of segments alone a slice of structs: what a host in another language links.
+// include/wargnifla.h declares them and says what each table and number means. A recording's counts cross the boundary as 48 lent bytes, twelve words in
+// the order of `CodeBuffer`; what finish reports as 24, six words in the order of `CodeBufferFinalized`. Fewer bytes than that answer 1, and of all that is
+// lent only a record of zeros is written; bytes past them are not touched.
 ghost use mathlib.Core.Path.{_≡_};
 ghost use mathlib.Core.List.{[], _∷_};
 ghost use Prim.Native.Nat.{_+_, _*_, _≤_};
