@@ -47,8 +47,8 @@ use Rattle.finish.proofs.Written.{any·ref, end-segment}
 use Rattle.finish.proofs.Emission.{PoolRuns, pool-runs}
 
 -- the events as a layout is handed them
-pub recorded : (code labels events constants asked : List ℕ) (arch len count n m : ℕ) → Ready code labels events constants asked arch len count n m → Recorded events n len
-recorded code labels events constants asked arch len count n m ready =
+pub recorded : {code labels events constants asked : List ℕ} {arch len count n m : ℕ} → Ready code labels events constants asked arch len count n m → Recorded events n len
+recorded {events} {arch} {len} {count} {n} ready =
     record {
       room = omega (arith, ready .recorded .room);
       ordered = recorded-ordered events n count len arch (ready .recorded);
@@ -62,7 +62,7 @@ unfolding segments
 take-segments [] ys o n c = refl
 take-segments (x ∷ xs) ys o n c = ap (λ l. segment o n x (isLong c) ∷ l) (take-segments xs ys (endOf x) ((segment o n x (isLong c)) .«new_end») (others c))
 
-module _ (code labels events constants asked : List ℕ) (len count n m : ℕ) (ready : Ready code labels events constants asked 2 len count n m)
+module _ {code labels events constants asked : List ℕ} {len count n m : ℕ} (ready : Ready code labels events constants asked 2 len count n m)
     (before ss : List Segment) (c : Choice) (laid : ss ≡ over before 0 (segments 0 0 (allEvents events n len constants asked m) c))
     (few : n + m ≤ 65536) (room : n + m ≤ length before) where
   abbrev es : List LayoutEvent
@@ -72,7 +72,7 @@ module _ (code labels events constants asked : List ℕ) (len count n m : ℕ) (
   long-es = length-all events n len constants asked m
 
   rec : Recorded events n len
-  rec = recorded code labels events constants asked 2 len count n m ready
+  rec = recorded ready
 
   pub rising-all : Rising ss (n + m)
   rising-all =
@@ -145,7 +145,7 @@ landed-small code labels events constants asked arch len count n m ready l h bou
       poolStart-bound len constants asked m (ready .pool) m (omega arith),
     )
 
-module _ (code labels events constants asked : List ℕ) (arch len count n m : ℕ) (ready : Ready code labels events constants asked arch len count n m) where
+module _ {code labels events constants asked : List ℕ} {arch len count n m : ℕ} (ready : Ready code labels events constants asked arch len count n m) where
   abbrev ends : ℕ
   ends = poolStart len constants asked m
 
@@ -203,7 +203,7 @@ jump-within : (e : LayoutEvent) (long : Bool) (end : ℕ) (labels : List ℕ) (r
 jump-within (Jump j) long end labels room h = h j refl
 jump-within (Align start len align) long end labels room h = tt
 
-module _ (code labels events constants asked refs : List ℕ) (len count n m f : ℕ) (ready : Ready code labels events constants asked 2 len count n m)
+module _ {code labels events constants asked refs : List ℕ} {len count n m f : ℕ} (ready : Ready code labels events constants asked 2 len count n m)
     (referred : RefsSound refs f 2 count) (clear : refsClear refs f events n len constants asked m ≡ true) where
   abbrev pooled·of : List tables.Use → Pooled
   pooled·of us =
@@ -232,7 +232,7 @@ module _ (code labels events constants asked refs : List ℕ) (len count n m f :
         arith,
         ref-beside [] i h .0,
         pooled-length code labels events constants asked len count n m ready [] (tables.entries (tables.refAt refs) f),
-        end-small code labels events constants asked 2 len count n m ready,
+        end-small ready,
       )
 
   -- the refs, for 18
@@ -264,7 +264,7 @@ module _ (code labels events constants asked refs : List ℕ) (len count n m f :
         )
 
     table : take (n + m) ss ≡ segmentsOf p c
-    table = table-all code labels events constants asked len count n m ready before ss c laid few room
+    table = table-all ready before ss c laid few room
 
     refs-fit : RefsFit (length output) refs final ss (n + m) f
     refs-fit = record {
@@ -286,7 +286,7 @@ module _ (code labels events constants asked refs : List ℕ) (len count n m f :
     jumps-fit : JumpsFit (length output) events final c ss n
     jumps-fit = record {
       chosen = omega (arith, chosen);
-      laid = omega (arith, rising-all code labels events constants asked len count n m ready before ss c laid few room .fits);
+      laid = omega (arith, rising-all ready before ss c laid few room .fits);
       each = λ i h. record {
         entry = omega (arith, ready .recorded .room);
         within =
@@ -322,7 +322,7 @@ module _ (code labels events constants asked refs : List ℕ) (len count n m f :
         omega (
           arith,
           from-poolStart (endOfRuns code events c len n) constants asked m,
-          pool-ends code labels events constants asked len count n m ready before ss c laid few room,
+          pool-ends ready before ss c laid few room,
           fits,
         )
 
@@ -330,21 +330,21 @@ module _ (code labels events constants asked refs : List ℕ) (len count n m f :
     pub writing : Writing output code final events refs constants asked c ss len n m f (endOfRuns code events c len n)
     writing = record {
       small = ready .bytes .limit;
-      rising = rising code labels events constants asked len count n m ready before ss c laid few room;
-      rising-all = rising-all code labels events constants asked len count n m ready before ss c laid few room;
+      rising = rising ready before ss c laid few room;
+      rising-all = rising-all ready before ss c laid few room;
       emits = record {
         recorded = omega (arith, ready .recorded .room);
         chosen = omega (arith, chosen);
-        laid = table-first code labels events constants asked len count n m ready before ss c laid few room;
+        laid = table-first ready before ss c laid few room;
         ordered = recorded-ordered events n count len 2 (ready .recorded);
         coded = ready .bytes .room;
         writes = recorded-writes events n count len 2 (ready .recorded);
         room = to-fits;
       };
-      ends = end-mapped code labels events constants asked len count n m ready before ss c laid few room;
+      ends = end-mapped ready before ss c laid few room;
       near = omega (arith, to-fits, limit);
       pool = ready .pool;
-      pooled = rw (pool-ends code labels events constants asked len count n m ready before ss c laid few room) fits;
+      pooled = rw (pool-ends ready before ss c laid few room) fits;
       filled = refs-fit;
       jumped = jumps-fit;
       named = record { known = λ j h. omega (arith, same, ready .named .known j h) };

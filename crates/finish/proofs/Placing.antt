@@ -146,8 +146,8 @@ module _ (b : CodeBuffer) (code labels events uses refs constants asked relocs o
         started-refused ne r er ss l =
             placed-relaxed jumps ss _
             (λ us.
-            refused-early code labels events refs constants asked relocs output ss (b .code) (b .labels) (b .events) (b .asked) (b .refs) (b .relocs)
-            (rw l relaxes) us why (rw l why·answer) r ne er)
+            let x : Relaxable code labels events refs constants asked relocs output (length ss) (b .code) (b .labels) (b .events) (b .asked) (b .refs) (b .relocs) = rw l relaxes in
+            refused-early ss x us (rw l why·answer) ne er)
 
         pub starts : why ≡ 0 → Starts b code labels events uses refs constants asked relocs output output segments
         starts z = record { kept = refl; relaxable = relaxes; laid = sym z ∙ why·answer; placed = placed-relaxed jumps }

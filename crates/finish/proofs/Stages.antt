@@ -39,7 +39,7 @@ use Rattle.pool.proofs.Pool.{from-poolStart, poolStart-suc, poolStart-grows}
 use Rattle.checks.specs.Fields.{sizeOf, refsClear, whyUnreached, whyUses}
 use Rattle.emit.specs.Emit as emit
 use Rattle.emit.specs.Emit.{mappedWords}
-use Rattle.layout.specs.Layout.{allEvents, finishedLength, relaxedBy, Relaxed}
+use Rattle.layout.specs.Layout.{allEvents, finishedLength, relaxedBy, Relaxed, Rising}
 use Rattle.layout.proofs.Pooling.{length-all}
 use Rattle.layout.proofs.Settled.{relaxed-entries, relaxed-settled, finished-placed}
 use Rattle.checks.specs.Entries.{all}
@@ -47,9 +47,9 @@ use Rattle.finish.specs.declared.Outcome.{Outcome}
 use Rattle.finish.specs.Refusals.{every, reachesBy, refReaches, whyNotLaid, whyNotWritten, whyNotInPlace}
 use Rattle.finish.specs.Finish.{refusedWith, overWords, relocated, settledSegments, relaxed}
 use Rattle.finish.specs.Tables.{tablesPooled}
-use Rattle.finish.specs.Ready.{Relaxable, codeWritten, endOfRuns, Writing, codeCopied, Copying, Keepable, kept}
+use Rattle.finish.specs.Ready.{Relaxable, Layable, codeWritten, endOfRuns, Writing, codeCopied, Copying, Keepable, kept}
 use Rattle.finish.proofs.Checked.{refs-clear, every-entries, uses-refused}
-use Rattle.finish.proofs.Handed.{within-size, ref-beside, clear-all, formed, table-all, writing, landed-small}
+use Rattle.finish.proofs.Handed.{rising-all, within-size, ref-beside, clear-all, formed, table-all, writing, landed-small}
 use Rattle.finish.proofs.Mapped.{word-over, labels-mapped, relocs-mapped, map-entries}
 use Rattle.finish.proofs.Formed.{pooled-length, jump-label}
 use Rattle.finish.proofs.Written.{code-written, kept-length, code-kept}
@@ -133,7 +133,32 @@ unfolding all emit.refsReach
 reach-all refs labels ss k zero = refl
 reach-all refs labels ss k (suc f) = rw (reach-all refs labels ss k f)
 
-module _ (code labels events refs constants asked relocs output : List ℕ) (ss : List Segment) (len count n m f l : ℕ)
+-- what nothing refused before the layout says
+module _ {code labels events refs constants asked relocs output : List ℕ} {cap len count n m f l : ℕ}
+    (x : Layable code labels events refs constants asked relocs output cap len count n m f l) where
+  early·passed : (ltb cap (n + m) ≡ false) × (first ((not (refsClear refs f events n len constants asked m), 17) ∷ []) ≡ 0)
+  early·passed = passed (ltb cap (n + m)) 16 _ (λ e. omega arith) (sym (x .unrefused))
+
+  pub room : n + m ≤ cap
+  room = ltb-false cap (n + m) (early·passed .0)
+
+  pub few : n + m ≤ 65536
+  few = omega (arith, room, x .relaxable .segments-limit)
+
+  pub clear : refsClear refs f events n len constants asked m ≡ true
+  clear = not-false _ (passed (not (refsClear refs f events n len constants asked m)) 17 0 (λ e. omega arith) (early·passed .1) .0)
+
+pub segments-are : {es : List LayoutEvent} {labels : ℕ → ℕ} {from layouts len : ℕ} {ss ss′ : List Segment} {c : Choice}
+    → Relaxed es labels from ss ss′ c layouts len → ss′ ≡ over ss 0 (segments 0 0 es c)
+segments-are {es} {ss} laid = laid .table ∙ ap (λ (d : Choice). over ss 0 (segments 0 0 es d)) (sym (laid .choice))
+
+-- the segments that the rounds leave rise
+pub segments-rise : {code labels events refs constants asked relocs output : List ℕ} {len count n m f l layouts len′ total : ℕ} {at : ℕ → ℕ} {ss ss′ : List Segment} {c : Choice}
+    → Layable code labels events refs constants asked relocs output (length ss) len count n m f l
+    → Relaxed (allEvents events n len constants asked m) at total ss ss′ c layouts len′ → Rising ss′ (n + m)
+segments-rise x laid = rising-all (x .relaxable .ready) _ _ _ (segments-are laid) (few x) (room x)
+
+module _ {code labels events refs constants asked relocs output : List ℕ} {len count n m f l : ℕ} (ss : List Segment)
     (x : Relaxable code labels events refs constants asked relocs output (length ss) len count n m f l) (us : List tables.Use) where
   abbrev p : Pooled
   p = tablesPooled 2 len (take len code) (tables.entries (wordAt labels) count) (tables.entries (eventAt events) n) us (tables.entries (tables.refAt refs) f) constants asked m
@@ -145,29 +170,20 @@ module _ (code labels events refs constants asked relocs output : List ℕ) (ss 
   unfolding whyNotLaid
   early-is = rw (length-all events n len constants asked m, refs-clear p refs events constants asked f n m len refl refl p-length)
 
-  module _ (early : ℕ) (early·answer : early ≡ first ((ltb (length ss) (n + m), 16) ∷ (not (refsClear refs f events n len constants asked m), 17) ∷ [])) where
-    pub refused-early : (r : Outcome) → early ≢ 0 → r ≡ refusedWith early
+  module _ {early : ℕ} (early·answer : early ≡ first ((ltb (length ss) (n + m), 16) ∷ (not (refsClear refs f events n len constants asked m), 17) ∷ [])) where
+    pub refused-early : {r : Outcome} → early ≢ 0 → r ≡ refusedWith early
         → (r, (labels, (relocs, (ss, output)))) ≡ relaxed p l labels relocs ss output
     unfolding relaxed
-    refused-early r ne e = rw (e, early-is ∙ sym early·answer) (sym (no-eq early 0 _ _ ne))
+    refused-early ne e = rw (e, early-is ∙ sym early·answer) (sym (no-eq early 0 _ _ ne))
 
     module _ (none·early : early ≡ 0) where
-      early·passed : (ltb (length ss) (n + m) ≡ false) × (first ((not (refsClear refs f events n len constants asked m), 17) ∷ []) ≡ 0)
-      early·passed = passed (ltb (length ss) (n + m)) 16 _ (λ e. omega arith) (sym early·answer ∙ none·early)
-
-      pub room : n + m ≤ length ss
-      room = ltb-false (length ss) (n + m) (early·passed .0)
-
-      pub few : n + m ≤ 65536
-      few = omega (arith, room, x .segments-limit)
-
-      pub clear : refsClear refs f events n len constants asked m ≡ true
-      clear = not-false _ (passed (not (refsClear refs f events n len constants asked m)) 17 0 (λ e. omega arith) (early·passed .1) .0)
+      y : Layable code labels events refs constants asked relocs output (length ss) len count n m f l
+      y = record { relaxable = x; unrefused = sym none·early ∙ early·answer }
 
       wf : WellFormed p
-      wf = formed code labels events constants asked refs len count n m f (x .ready) (x .referred) clear us
+      wf = formed (x .ready) (x .referred) (clear y) us
 
-      module _ (ss′ : List Segment) (c : Choice) (layouts len′ : ℕ)
+      module _ {ss′ : List Segment} {c : Choice} {layouts len′ : ℕ}
           (laid : Relaxed (allEvents events n len constants asked m) (wordAt labels) (poolStart len constants asked m) ss ss′ c layouts len′) where
         settled-is : relaxedBy (allEvents events n len constants asked m) (wordAt labels) ≡ settled p
         settled-is =
@@ -176,9 +192,6 @@ module _ (code labels events refs constants asked relocs output : List ℕ) (ss 
 
         choice-is : c ≡ settled p .choice
         choice-is = laid .choice ∙ ap (λ (s : Settled). s .choice) settled-is
-
-        pub segments-are : ss′ ≡ over ss 0 (segments 0 0 (allEvents events n len constants asked m) c)
-        segments-are = laid .table ∙ ap (λ (d : Choice). over ss 0 (segments 0 0 (allEvents events n len constants asked m) d)) (sym (laid .choice))
 
         len-is : len′ ≡ length (assembled p c)
         len-is =
@@ -189,7 +202,7 @@ module _ (code labels events refs constants asked relocs output : List ℕ) (ss 
             ∙ sym (length-assembled p c)
 
         table-is : take (n + m) ss′ ≡ segmentsOf p c
-        table-is = table-all code labels events constants asked len count n m (x .ready) ss ss′ c segments-are few room
+        table-is = table-all (x .ready) ss ss′ c (segments-are laid) (few y) (room y)
 
         -- 18, as the segments say it
         reach-is : every (refReaches p c) (p .refs) ≡ emit.refsReach refs labels ss′ (n + m) f
@@ -200,7 +213,7 @@ module _ (code labels events refs constants asked relocs output : List ℕ) (ss 
             rw (
               target-map p c wf (wordAt refs (i * 4 + 1)),
               getD-entries (wordAt labels) count (wordAt refs (i * 4 + 1)) none (x .referred .entry i h .label),
-              moved-map p c wf (wordAt refs (i * 4)) (apart-lies p (wordAt refs (i * 4)) _ (ref-beside code labels events constants asked refs len count n m f (x .ready) (x .referred) clear us i h)),
+              moved-map p c wf (wordAt refs (i * 4)) (apart-lies p (wordAt refs (i * 4)) _ (ref-beside (x .ready) (x .referred) (clear y) us i h)),
               table-is,
             )
             (field-reaches (decoded (wordAt refs (i * 4 + 2))) _ _ _))
@@ -211,17 +224,17 @@ module _ (code labels events refs constants asked relocs output : List ℕ) (ss 
         late-is = rw (← choice-is, reach-is, ← len-is)
 
         segments-settled : ss′ ≡ settledSegments p ss
-        segments-settled = rw (← choice-is) segments-are
+        segments-settled = rw (← choice-is) (segments-are laid)
 
-        module _ (late : ℕ) (late·answer : late ≡ first ((not (emit.refsReach refs labels ss′ (n + m) f), 18) ∷ (ltb (length output) len′, 23) ∷ [])) where
-          pub refused-late : (r : Outcome) → late ≢ 0 → r ≡ refusedWith late
+        module _ {late : ℕ} (late·answer : late ≡ first ((not (emit.refsReach refs labels ss′ (n + m) f), 18) ∷ (ltb (length output) len′, 23) ∷ [])) where
+          pub refused-late : {r : Outcome} → late ≢ 0 → r ≡ refusedWith late
               → (r, (labels, (relocs, (ss′, output)))) ≡ relaxed p l labels relocs ss output
           unfolding relaxed
-          refused-late r ne e =
+          refused-late ne e =
               rw (e, segments-settled, early-is ∙ sym early·answer, late-is ∙ sym late·answer)
               (sym (yes-eq early 0 _ _ none·early ∙ no-eq late 0 _ _ ne))
 
-          module _ (none·late : late ≡ 0) (chosen : length c ≡ n + m) (final relocs′ left : List ℕ)
+          module _ (none·late : late ≡ 0) (chosen : length c ≡ n + m) {final : List ℕ}
               (final-is : final ≡ mappedWords (mapOffset (take (n + m) ss′)) labels 1 count) where
             code-fits : length (assembled p c) ≤ length output
             code-fits =
@@ -259,7 +272,7 @@ module _ (code labels events refs constants asked relocs output : List ℕ) (ss 
             -- what the code is written from
             pub writing-is : Writing output code final events refs constants asked c ss′ len n m f (endOfRuns code events c len n)
             writing-is =
-                writing code labels events constants asked refs len count n m f (x .ready) (x .referred) clear ss ss′ c segments-are few room chosen final output label-moved final-long
+                writing (x .ready) (x .referred) (clear y) ss ss′ c (segments-are laid) (few y) (room y) chosen final output label-moved final-long
                 (omega (arith, ap (λ (d : Choice). finishedLength (allEvents events n len constants asked m) d (poolStart len constants asked m)) (laid .choice), laid .finished, len-is, code-fits))
                 (x .output-limit)
 
@@ -277,7 +290,7 @@ module _ (code labels events refs constants asked relocs output : List ℕ) (ss 
                 code-written code labels final events refs constants asked len count n m f us c ss′
                 (record {
                   ready = x .ready;
-                  clear = clear-all code labels events constants asked refs len count n m f (x .ready) (x .referred) clear us;
+                  clear = clear-all (x .ready) (x .referred) (clear y) us;
                   laid = table-is;
                   known = λ i h. x .referred .entry i h .label;
                   named = λ i j h e. jump-label events n count len 2 (x .ready .recorded) i j h e;
@@ -285,12 +298,12 @@ module _ (code labels events refs constants asked relocs output : List ℕ) (ss 
                 })
                 output _ _ _ refl refl refl code-fits
 
-            pub done : (r : Outcome) → r ≡ record { refusal = 0; len = len′; layouts = layouts }
+            pub done : {r : Outcome} {relocs′ left : List ℕ} → r ≡ record { refusal = 0; len = len′; layouts = layouts }
                 → relocs′ ≡ mappedWords (mapOffset (take (n + m) ss′)) relocs 6 l
                 → left ≡ codeWritten output code final events refs constants asked c ss′ len n m f
                 → (r, (final, (relocs′, (ss′, left)))) ≡ relaxed p l labels relocs ss output
             unfolding relaxed
-            done r er em el =
+            done er em el =
                 rw (
                   er,
                   el ∙ code-is,

@@ -117,6 +117,11 @@ pub record Relaxable (code labels events refs constants asked relocs output : Li
   pub segments-limit : segments ≤ 65536
   pub output-limit : length output ≤ 16777216
 
+-- what a layout is handed: nothing refused it
+pub record Layable (code labels events refs constants asked relocs output : List ℕ) (segments len count n m f l : ℕ) : Type 0 where
+  pub relaxable : Relaxable code labels events refs constants asked relocs output segments len count n m f l
+  pub unrefused : 0 ≡ first ((ltb segments (n + m), 16) ∷ (not (refsClear refs f events n len constants asked m), 17) ∷ [])
+
 -- what one without a jump is handed
 pub record Keepable (code labels uses constants asked : List ℕ) (len count u m : ℕ) : Type 0 where
   pub bytes : CodeSound code len

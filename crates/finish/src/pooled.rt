@@ -15,7 +15,7 @@ ghost use Rattle.checks.specs.Fields.{usesBound, refsBound, jumpsBound, relocsB
 ghost use Rattle.checks.specs.Handed.{useLabel, Named};
 ghost use Rattle.finish.specs.Finish.{relaxed};
 ghost use Rattle.finish.specs.Tables.{tablesPooled};
-ghost use Rattle.finish.specs.Ready.{Entered, Clearing, endOfRuns, codeWritten, Writing, Relaxable, codeCopied, Copying, Keepable, kept, Placeable, pooledOf, placedAs, Starts};
+ghost use Rattle.finish.specs.Ready.{Entered, Clearing, endOfRuns, codeWritten, Writing, Layable, codeCopied, Copying, Keepable, kept, Placeable, pooledOf, placedAs, Starts};
 use crate::Outcome;
 use crate::Started;
 use buffer::CodeBuffer;
@@ -142,7 +142,7 @@ pub(crate) fn lay_out(
     f: usize,
     l: usize,
 ) -> Outcome
-    requires { ⌜ Relaxable (now code) (now labels) (now events) (now refs) (now constants) (now asked) (now relocs) (now output) (length (now segments)) len count n m f l ⌝ ∗ ⌜ 0 ≡ first ((ltb (length (now segments)) (n + m), 16) ∷ (not (refsClear (now refs) f (now events) n len (now constants) (now asked) m), 17) ∷ []) ⌝ ∗ ⌜ now long ≡ replicate (n + m) false ⌝ }
+    requires { ⌜ Layable (now code) (now labels) (now events) (now refs) (now constants) (now asked) (now relocs) (now output) (length (now segments)) len count n m f l ⌝ ∗ ⌜ now long ≡ replicate (n + m) false ⌝ }
     ensures { λ r. ⌜ ((us : List tables.Use) → (r, (now (labels .exit), (now (relocs .exit), (now (segments .exit), now (output .exit))))) ≡ relaxed (tablesPooled 2 len (take len (now (code .entry))) (tables.entries (wordAt (now (labels .entry))) count) (tables.entries (eventAt (now (events .entry))) n) us (tables.entries (tables.refAt (now (refs .entry))) f) (now (constants .entry)) (now (asked .entry)) m) l (now (labels .entry)) (now (relocs .entry)) (now (segments .entry)) (now (output .entry))) ⌝ }
 {
     let laid = layout::relax_jumps(segments, events, labels, constants, asked, long, n, m, len);
@@ -194,7 +194,7 @@ pub(crate) fn relaxed(
     f: usize,
     l: usize,
 ) -> Outcome
-    requires { ⌜ Relaxable (now code) (now labels) (now events) (now refs) (now constants) (now asked) (now relocs) (now output) (length (now segments)) len count n m f l ⌝ ∗ ⌜ 0 ≡ first ((ltb (length (now segments)) (n + m), 16) ∷ (not (refsClear (now refs) f (now events) n len (now constants) (now asked) m), 17) ∷ []) ⌝ }
+    requires { ⌜ Layable (now code) (now labels) (now events) (now refs) (now constants) (now asked) (now relocs) (now output) (length (now segments)) len count n m f l ⌝ }
     ensures { λ r. ⌜ ((us : List tables.Use) → (r, (now (labels .exit), (now (relocs .exit), (now (segments .exit), now (output .exit))))) ≡ relaxed (tablesPooled 2 len (take len (now (code .entry))) (tables.entries (wordAt (now (labels .entry))) count) (tables.entries (eventAt (now (events .entry))) n) us (tables.entries (tables.refAt (now (refs .entry))) f) (now (constants .entry)) (now (asked .entry)) m) l (now (labels .entry)) (now (relocs .entry)) (now (segments .entry)) (now (output .entry))) ⌝ }
 {
     let all = n + m;

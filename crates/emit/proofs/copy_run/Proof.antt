@@ -5,7 +5,10 @@ use Rattle.emit.proofs.copy_run.Statement.{statement}
 use Rattle.emit.proofs.copy_run.Tie as tie
 
 returns : tie.Need-returns
-returns c = run-copied _ _ _ _ _ _ (c .before .before .before .before .before .before .before .pre .0) (c .before .before .before .before .before .before .before .pre .1) (c .before .before .before .before .before .before .before .pre .2) (c .before .before .copy .ensures)
+returns c =
+    let after-copy : tie.After-copy = search in
+    let start : tie.Start = search in
+    run-copied _ _ _ _ _ _ (start .pre .0) (start .pre .1) (start .pre .2) (after-copy .copy .ensures)
 
 pub copy-run-spec : {M : Type 1} → statement M
 copy-run-spec =

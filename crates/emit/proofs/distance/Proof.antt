@@ -5,7 +5,10 @@ use Rattle.emit.proofs.distance.Statement.{statement}
 use Rattle.emit.proofs.distance.Tie as tie
 
 returns : tie.Need-returns
-returns c = rw (← c .before .before .sign-extend-32 .ensures, ← c .before .wrapping-add-u64 .ensures) (omega arith)
+returns c =
+    let after-wrapping-add-u64 : tie.After-wrapping-add-u64 = search in
+    let after-sign-extend-32 : tie.After-sign-extend-32 = search in
+    rw (← after-sign-extend-32 .sign-extend-32 .ensures, ← after-wrapping-add-u64 .wrapping-add-u64 .ensures) (omega arith)
 
 pub distance-spec : {M : Type 1} → statement M
 distance-spec =

@@ -5,10 +5,15 @@ use Rattle.emit.proofs.emit_event.Statement.{statement}
 use Rattle.emit.proofs.emit_event.Tie as tie
 
 put-event-requires : tie.Need-put-event-requires
-put-event-requires c κs = (c .before .before .pre .0, form-room _ _ _ _ _ (c .before .before .pre .1 .0) (c .before .before .pre .1 .1))
+put-event-requires c κs =
+    let start : tie.Start = search in
+    (start .pre .0, form-room _ _ _ _ _ (start .pre .1 .0) (start .pre .1 .1))
 
 returns : tie.Need-returns
-returns c = form-back _ _ _ _ _ _ (c .before .before .before .before .before .pre .1 .0) (c .before .before .before .before .before .pre .1 .1) (c .before .before .put-event .ensures)
+returns c =
+    let after-put-event : tie.After-put-event = search in
+    let start : tie.Start = search in
+    form-back _ _ _ _ _ _ (start .pre .1 .0) (start .pre .1 .1) (after-put-event .put-event .ensures)
 
 pub emit-event-spec : {M : Type 1} → statement M
 emit-event-spec =

@@ -25,23 +25,31 @@ unfolding after runsTo
 loop-holds c = (omega arith, refl, refl, sym (over-nil _ 0))
 
 segment-at-requires : tie.Need-segment-at-requires Inv-loop μ-loop
-segment-at-requires c κs = omega (arith, segments-size _ _ _ _ _ _ _ (c .before .before .before .before .before .before .pre))
+segment-at-requires c κs =
+    let start : tie.Start Inv-loop μ-loop = search in
+    omega (arith, segments-size _ _ _ _ _ _ _ (start .pre))
 
 shared-slice-read-emit-segment : tie.Need-shared-slice-read-emit-segment Inv-loop μ-loop
-shared-slice-read-emit-segment c = omega (arith, c .before .before .before .before .before .before .before .before .before .pre .chosen)
+shared-slice-read-emit-segment c =
+    let start : tie.Start Inv-loop μ-loop = search in
+    omega (arith, start .pre .chosen)
 
 emit-segment-requires : tie.Need-emit-segment-requires Inv-loop μ-loop
 emit-segment-requires c κs =
-    let p = c .before .before .before .before .before .before .before .before .before .pre in
-    let begins = begins _ _ _ _ _ _ _ (c .before .before .before .before .before .before .before .before .before .pre) _ _ _ (c .before .before .before .before .loop .inv .1) (c .before .before .before .loop-test .taken) _ (c .before .before .segment-at .ensures) in
-    let ends = ends _ _ _ _ _ _ _ (c .before .before .before .before .before .before .before .before .before .pre) _ _ _ (c .before .before .before .before .loop .inv .1) (c .before .before .before .loop-test .taken) _ (c .before .before .segment-at .ensures) in
-    let inside = inside _ _ _ _ _ _ _ (c .before .before .before .before .before .before .before .before .before .pre) _ _ _ (c .before .before .before .before .loop .inv .1) (c .before .before .before .loop-test .taken) _ (c .before .before .segment-at .ensures) in
-    let starts = starts _ _ _ _ _ _ _ (c .before .before .before .before .before .before .before .before .before .pre) _ _ _ (c .before .before .before .before .loop .inv .1) (c .before .before .before .loop-test .taken) _ (c .before .before .segment-at .ensures) in
-    let kept = c .before .before .before .before .loop .inv .2 in (
-      (omega (arith, p .recorded), p .writes _ (c .before .before .before .loop-test .taken)),
+    let after-segment-at : tie.After-segment-at Inv-loop μ-loop = search in
+    let in-loop : tie.In-loop Inv-loop μ-loop = search in
+    let at-loop : tie.At-loop Inv-loop μ-loop = search in
+    let start : tie.Start Inv-loop μ-loop = search in
+    let p = start .pre in
+    let begins = begins _ _ _ _ _ _ _ (start .pre) _ _ _ (at-loop .loop .inv .1) (in-loop .loop-test .taken) _ (after-segment-at .segment-at .ensures) in
+    let ends = ends _ _ _ _ _ _ _ (start .pre) _ _ _ (at-loop .loop .inv .1) (in-loop .loop-test .taken) _ (after-segment-at .segment-at .ensures) in
+    let inside = inside _ _ _ _ _ _ _ (start .pre) _ _ _ (at-loop .loop .inv .1) (in-loop .loop-test .taken) _ (after-segment-at .segment-at .ensures) in
+    let starts = starts _ _ _ _ _ _ _ (start .pre) _ _ _ (at-loop .loop .inv .1) (in-loop .loop-test .taken) _ (after-segment-at .segment-at .ensures) in
+    let kept = at-loop .loop .inv .2 in (
+      (omega (arith, p .recorded), p .writes _ (in-loop .loop-test .taken)),
       (
         (
-          order _ _ _ _ _ _ _ (c .before .before .before .before .before .before .before .before .before .pre) _ _ _ (c .before .before .before .before .loop .inv .1) (c .before .before .before .loop-test .taken) _ (c .before .before .segment-at .ensures),
+          order _ _ _ _ _ _ _ (start .pre) _ _ _ (at-loop .loop .inv .1) (in-loop .loop-test .taken) _ (after-segment-at .segment-at .ensures),
           omega (arith, starts, p .coded),
           omega (arith, begins, ends, inside, kept),
         ),
@@ -50,33 +58,48 @@ emit-segment-requires c κs =
     )
 
 add-i : tie.Need-add-i Inv-loop μ-loop
-add-i c = omega (arith, c .before .before .before .before .before .before .before .before .loop-test .taken, c .before .before .before .before .before .before .before .before .before .before .before .before .before .before .fits .n .fits)
+add-i c =
+    let in-loop : tie.In-loop Inv-loop μ-loop = search in
+    let start : tie.Start Inv-loop μ-loop = search in
+    omega (arith, in-loop .loop-test .taken, start .fits .n .fits)
 
 loop-less : tie.Need-loop-less Inv-loop μ-loop
-loop-less c = omega (arith, c .before .before .before .before .before .before .before .before .loop-test .taken)
+loop-less c =
+    let in-loop : tie.In-loop Inv-loop μ-loop = search in
+    omega (arith, in-loop .loop-test .taken)
 
 loop-again : tie.Need-loop-again Inv-loop μ-loop
 loop-again c =
-    let l = c .before .before .before .before .before .before .before .before .before .loop in
-    let kept = ap length (c .before .before .before .before .emit-segment .ensures) ∙ (length-over _ _ _ ∙ length-over _ _ _) in (
+    let after-emit-segment : tie.After-emit-segment Inv-loop μ-loop = search in
+    let after-segment-at : tie.After-segment-at Inv-loop μ-loop = search in
+    let in-loop : tie.In-loop Inv-loop μ-loop = search in
+    let at-loop : tie.At-loop Inv-loop μ-loop = search in
+    let start : tie.Start Inv-loop μ-loop = search in
+    let l = at-loop .loop in
+    let kept = ap length (after-emit-segment .emit-segment .ensures) ∙ (length-over _ _ _ ∙ length-over _ _ _) in (
       omega arith,
-      arrived _ _ _ _ _ _ _ (c .before .before .before .before .before .before .before .before .before .before .before .before .before .before .pre) _ _ _ (c .before .before .before .before .before .before .before .before .before .loop .inv .1) (c .before .before .before .before .before .before .before .before .loop-test .taken) _ (c .before .before .before .before .before .before .before .segment-at .ensures),
+      arrived _ _ _ _ _ _ _ (start .pre) _ _ _ (at-loop .loop .inv .1) (in-loop .loop-test .taken) _ (after-segment-at .segment-at .ensures),
       omega (arith, kept, l .inv .2),
-      turn _ _ _ _ _ _ _ (c .before .before .before .before .before .before .before .before .before .before .before .before .before .before .pre) _ _ _ (c .before .before .before .before .before .before .before .before .before .loop .inv .1) (c .before .before .before .before .before .before .before .before .loop-test .taken) _ (c .before .before .before .before .before .before .before .segment-at .ensures) _ _ _ (l .inv .3) refl (c .before .before .before .before .emit-segment .ensures),
+      turn _ _ _ _ _ _ _ (start .pre) _ _ _ (at-loop .loop .inv .1) (in-loop .loop-test .taken) _ (after-segment-at .segment-at .ensures) _ _ _ (l .inv .3) refl (after-emit-segment .emit-segment .ensures),
     )
 
 copy-run-requires : tie.Need-copy-run-requires Inv-loop μ-loop
 copy-run-requires c κs =
-    let l = c .before .before .loop in
-    let p = c .before .before .before .before .before .before .before .pre in
-    let all : l .i ≡ c .before .before .before .before .before .before .before .args .n = omega arith in
+    let at-loop : tie.At-loop Inv-loop μ-loop = search in
+    let start : tie.Start Inv-loop μ-loop = search in
+    let l = at-loop .loop in
+    let p = start .pre in
+    let all : l .i ≡ start .args .n = omega arith in
     (last-old _ _ _ _ _ _ _ p _ _ _ (l .inv .1) all, p .coded, omega (arith, last-room _ _ _ _ _ _ _ p _ _ _ (l .inv .1) all, l .inv .2))
 
 returns : tie.Need-returns Inv-loop μ-loop
 returns c =
-    let l = c .before .before .before .before .before .loop in
-    let all : l .i ≡ c .before .before .before .before .before .before .before .before .before .before .args .n = omega arith in
-    finished _ _ _ _ _ _ _ (c .before .before .before .before .before .before .before .before .before .before .pre) _ _ _ (l .inv .1) all _ _ (l .inv .3) (c .before .before .copy-run .ensures)
+    let after-copy-run : tie.After-copy-run Inv-loop μ-loop = search in
+    let at-loop : tie.At-loop Inv-loop μ-loop = search in
+    let start : tie.Start Inv-loop μ-loop = search in
+    let l = at-loop .loop in
+    let all : l .i ≡ start .args .n = omega arith in
+    finished _ _ _ _ _ _ _ (start .pre) _ _ _ (l .inv .1) all _ _ (l .inv .3) (after-copy-run .copy-run .ensures)
 
 pub emit-events-spec : {M : Type 1} → statement M
 emit-events-spec =

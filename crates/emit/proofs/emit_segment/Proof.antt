@@ -9,12 +9,19 @@ use Rattle.emit.proofs.emit_segment.Tie as tie
 
 emit-event-requires : tie.Need-emit-event-requires
 emit-event-requires c κs =
-    let p = c .before .before .before .before .before .before .before .before .before .before .pre in
-    let kept = ap length (c .before .before .before .copy-run .ensures) ∙ length-over _ _ _ in
-    rw (c .before .before .before .before .before .before .event-at .ensures) (p .0 .1, (p .1 .1 .0, omega (arith, kept)))
+    let after-copy-run : tie.After-copy-run = search in
+    let after-event-at : tie.After-event-at = search in
+    let start : tie.Start = search in
+    let p = start .pre in
+    let kept = ap length (after-copy-run .copy-run .ensures) ∙ length-over _ _ _ in
+    rw (after-event-at .event-at .ensures) (p .0 .1, (p .1 .1 .0, omega (arith, kept)))
 
 returns : tie.Need-returns
-returns c = c .before .before .emit-event .ensures ∙ rw (c .before .before .before .before .before .before .copy-run .ensures, c .before .before .before .before .before .before .before .before .before .event-at .ensures) refl
+returns c =
+    let after-emit-event : tie.After-emit-event = search in
+    let after-copy-run : tie.After-copy-run = search in
+    let after-event-at : tie.After-event-at = search in
+    after-emit-event .emit-event .ensures ∙ rw (after-copy-run .copy-run .ensures, after-event-at .event-at .ensures) refl
 
 pub emit-segment-spec : {M : Type 1} → statement M
 emit-segment-spec =

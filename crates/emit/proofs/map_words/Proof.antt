@@ -23,22 +23,44 @@ unfolding mappedWords
 loop-holds c = (omega arith, refl, refl)
 
 mul-k : tie.Need-mul-k Inv-loop μ-loop
-mul-k c = omega (arith, c .before .before .before .pre .1 .entry _ (c .loop-test .taken))
+mul-k c =
+    let start : tie.Start Inv-loop μ-loop = search in
+    omega (arith, start .pre .1 .entry _ (c .loop-test .taken))
 
 word-at-requires : tie.Need-word-at-requires Inv-loop μ-loop
-word-at-requires c κs = omega (arith, c .before .before .before .before .pre .1 .entry _ (c .before .loop-test .taken))
+word-at-requires c κs =
+    let in-loop : tie.In-loop Inv-loop μ-loop = search in
+    let start : tie.Start Inv-loop μ-loop = search in
+    omega (arith, start .pre .1 .entry _ (in-loop .loop-test .taken))
 
 map-requires : tie.Need-map-requires Inv-loop μ-loop
-map-requires c κs = (c .before .before .before .before .before .before .pre .0, rw (c .before .word-at .ensures, mapped-next _ _ _ _ _ (c .before .before .before .before .loop .inv .2) (c .before .before .before .before .before .before .pre .1 .some)) (c .before .before .before .before .before .before .pre .1 .recorded _ (c .before .before .before .loop-test .taken)))
+map-requires c κs =
+    let after-word-at : tie.After-word-at Inv-loop μ-loop = search in
+    let in-loop : tie.In-loop Inv-loop μ-loop = search in
+    let at-loop : tie.At-loop Inv-loop μ-loop = search in
+    let start : tie.Start Inv-loop μ-loop = search in
+    (start .pre .0, rw (after-word-at .word-at .ensures, mapped-next _ _ _ _ _ (at-loop .loop .inv .2) (start .pre .1 .some)) (start .pre .1 .recorded _ (in-loop .loop-test .taken)))
 
 put-word-requires : tie.Need-put-word-requires Inv-loop μ-loop
-put-word-requires c κs = omega (arith, c .before .before .before .before .before .before .before .pre .1 .entry _ (c .before .before .before .before .loop-test .taken))
+put-word-requires c κs =
+    let in-loop : tie.In-loop Inv-loop μ-loop = search in
+    let start : tie.Start Inv-loop μ-loop = search in
+    omega (arith, start .pre .1 .entry _ (in-loop .loop-test .taken))
 
 loop-again : tie.Need-loop-again Inv-loop μ-loop
-loop-again c = (omega arith, rw (c .before .before .put-word .ensures) (length-setWord _ _ _ ∙ c .before .before .before .before .before .before .before .before .loop .inv .1), mapped-turn _ _ _ _ _ _ _ _ (c .before .before .before .before .before .before .before .before .loop .inv .2) (c .before .before .before .before .before .before .before .before .before .before .pre .1 .some) (c .before .before .before .before .before .word-at .ensures) (c .before .before .before .map .ensures) (c .before .before .put-word .ensures))
+loop-again c =
+    let after-put-word : tie.After-put-word Inv-loop μ-loop = search in
+    let after-map : tie.After-map Inv-loop μ-loop = search in
+    let after-word-at : tie.After-word-at Inv-loop μ-loop = search in
+    let at-loop : tie.At-loop Inv-loop μ-loop = search in
+    let start : tie.Start Inv-loop μ-loop = search in
+    (omega arith, rw (after-put-word .put-word .ensures) (length-setWord _ _ _ ∙ at-loop .loop .inv .1), mapped-turn _ _ _ _ _ _ _ _ (at-loop .loop .inv .2) (start .pre .1 .some) (after-word-at .word-at .ensures) (after-map .map .ensures) (after-put-word .put-word .ensures))
 
 returns : tie.Need-returns Inv-loop μ-loop
-returns c = let all : c .before .loop .i ≡ c .before .before .before .args .count = omega arith in rw all at (c .before .loop .inv .2)
+returns c =
+    let at-loop : tie.At-loop Inv-loop μ-loop = search in
+    let start : tie.Start Inv-loop μ-loop = search in
+    let all : at-loop .loop .i ≡ start .args .count = omega arith in rw all at (at-loop .loop .inv .2)
 
 pub map-words-spec : {M : Type 1} → statement M
 map-words-spec =

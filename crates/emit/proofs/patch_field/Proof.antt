@@ -5,7 +5,12 @@ use Rattle.emit.proofs.patch_field.Statement.{statement}
 use Rattle.emit.proofs.patch_field.Tie as tie
 
 returns : tie.Need-returns
-returns c = field-back _ _ (c .before .before .before .before .before .before .before .args .kind) _ _ _ (c .before .before .before .before .before .patch-size .ensures) (c .before .before .before .before .before .before .before .pre) (rw (c .before .before .before .before .sign-extend-32 .ensures) at (c .before .before .patch-with-addend .ensures))
+returns c =
+    let after-patch-with-addend : tie.After-patch-with-addend = search in
+    let after-sign-extend-32 : tie.After-sign-extend-32 = search in
+    let after-patch-size : tie.After-patch-size = search in
+    let start : tie.Start = search in
+    field-back _ _ (start .args .kind) _ _ _ (after-patch-size .patch-size .ensures) (start .pre) (rw (after-sign-extend-32 .sign-extend-32 .ensures) at (after-patch-with-addend .patch-with-addend .ensures))
 
 pub patch-field-spec : {M : Type 1} → statement M
 patch-field-spec =

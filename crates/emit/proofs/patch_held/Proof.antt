@@ -5,7 +5,11 @@ use Rattle.emit.proofs.patch_held.Statement.{statement}
 use Rattle.emit.proofs.patch_held.Tie as tie
 
 returns : tie.Need-returns
-returns c = use-back _ _ (c .before .before .before .before .before .before .args .kind) _ _ _ (c .before .before .before .before .patch-size .ensures) (c .before .before .before .before .before .before .pre) (c .before .before .patch .ensures)
+returns c =
+    let after-patch : tie.After-patch = search in
+    let after-patch-size : tie.After-patch-size = search in
+    let start : tie.Start = search in
+    use-back _ _ (start .args .kind) _ _ _ (after-patch-size .patch-size .ensures) (start .pre) (after-patch .patch .ensures)
 
 pub patch-held-spec : {M : Type 1} → statement M
 patch-held-spec =

@@ -6,17 +6,31 @@ use Rattle.emit.proofs.patch_jump.Statement.{statement}
 use Rattle.emit.proofs.patch_jump.Tie as tie
 
 word-at-requires : tie.Need-word-at-requires
-word-at-requires c κs = (jump-fits _ _ _ _ _ _ (sym (c .before .before .before .before .event-at .ensures) ∙ c .before .before .event .given .1) (c .before .before .before .before .before .before .before .before .pre .within)) .0
+word-at-requires c κs =
+    let after-event : tie.After-event = search in
+    let after-event-at : tie.After-event-at = search in
+    let start : tie.Start = search in
+    (jump-fits _ _ _ _ _ _ (sym (after-event-at .event-at .ensures) ∙ after-event .event .given .1) (start .pre .within)) .0
 
 put-displacement-requires : tie.Need-put-displacement-requires
 put-displacement-requires c κs =
-    let w = jump-fits _ _ _ _ _ _ (sym (c .before .before .before .before .before .before .event-at .ensures) ∙ c .before .before .before .before .event .given .1) (c .before .before .before .before .before .before .before .before .before .before .pre .within) in (w .1, w .2)
+    let after-event : tie.After-event = search in
+    let after-event-at : tie.After-event-at = search in
+    let start : tie.Start = search in
+    let w = jump-fits _ _ _ _ _ _ (sym (after-event-at .event-at .ensures) ∙ after-event .event .given .1) (start .pre .within) in (w .1, w .2)
 
 returns : tie.Need-returns
-returns c = c .before .before .put-displacement .ensures ∙ rw (c .before .before .before .before .word-at .ensures) (jump-filled _ _ _ _ _ _ (sym (c .before .before .before .before .before .before .before .before .before .event-at .ensures) ∙ c .before .before .before .before .before .before .before .event .given .1))
+returns c =
+    let after-put-displacement : tie.After-put-displacement = search in
+    let after-word-at : tie.After-word-at = search in
+    let after-event : tie.After-event = search in
+    let after-event-at : tie.After-event-at = search in
+    after-put-displacement .put-displacement .ensures ∙ rw (after-word-at .word-at .ensures) (jump-filled _ _ _ _ _ _ (sym (after-event-at .event-at .ensures) ∙ after-event .event .given .1))
 
 returns-2 : tie.Need-returns-2
-returns-2 c = align-filled _ _ _ _ _ _ _ _ (sym (c .before .before .event-at .ensures) ∙ c .enum-told .given .1)
+returns-2 c =
+    let after-event-at : tie.After-event-at = search in
+    align-filled _ _ _ _ _ _ _ _ (sym (after-event-at .event-at .ensures) ∙ c .enum-told .given .1)
 
 pub patch-jump-spec : {M : Type 1} → statement M
 patch-jump-spec =

@@ -21,21 +21,36 @@ unfolding jumpsFilled
 loop-holds c = (omega arith, refl, refl)
 
 segment-at-requires : tie.Need-segment-at-requires Inv-loop μ-loop
-segment-at-requires c κs = omega (arith, c .before .before .before .before .before .before .pre .laid)
+segment-at-requires c κs =
+    let start : tie.Start Inv-loop μ-loop = search in
+    omega (arith, start .pre .laid)
 
 shared-slice-read-patch-jump : tie.Need-shared-slice-read-patch-jump Inv-loop μ-loop
-shared-slice-read-patch-jump c = omega (arith, c .before .before .before .before .before .before .before .before .before .pre .chosen)
+shared-slice-read-patch-jump c =
+    let start : tie.Start Inv-loop μ-loop = search in
+    omega (arith, start .pre .chosen)
 
 patch-jump-requires : tie.Need-patch-jump-requires Inv-loop μ-loop
-patch-jump-requires c κs = rw (c .before .before .before .before .loop .inv .1, c .before .before .segment-at .ensures) (c .before .before .before .before .before .before .before .before .before .pre .each _ (c .before .before .before .loop-test .taken))
+patch-jump-requires c κs =
+    let after-segment-at : tie.After-segment-at Inv-loop μ-loop = search in
+    let in-loop : tie.In-loop Inv-loop μ-loop = search in
+    let at-loop : tie.At-loop Inv-loop μ-loop = search in
+    let start : tie.Start Inv-loop μ-loop = search in
+    rw (at-loop .loop .inv .1, after-segment-at .segment-at .ensures) (start .pre .each _ (in-loop .loop-test .taken))
 
 loop-again : tie.Need-loop-again Inv-loop μ-loop
 loop-again c =
-    let filled = rw (c .before .before .before .before .before .segment-at .ensures) at (c .before .before .patch-jump .ensures) in
-    (omega arith, rw filled (length-jumpFilled _ _ _ _ _ ∙ c .before .before .before .before .before .before .before .loop .inv .1), jumps-turn _ _ _ _ _ _ _ _ (c .before .before .before .before .before .before .before .loop .inv .2) filled)
+    let after-patch-jump : tie.After-patch-jump Inv-loop μ-loop = search in
+    let after-segment-at : tie.After-segment-at Inv-loop μ-loop = search in
+    let at-loop : tie.At-loop Inv-loop μ-loop = search in
+    let filled = rw (after-segment-at .segment-at .ensures) at (after-patch-jump .patch-jump .ensures) in
+    (omega arith, rw filled (length-jumpFilled _ _ _ _ _ ∙ at-loop .loop .inv .1), jumps-turn _ _ _ _ _ _ _ _ (at-loop .loop .inv .2) filled)
 
 returns : tie.Need-returns Inv-loop μ-loop
-returns c = let all : c .before .loop .i ≡ c .before .before .before .before .before .before .args .n = omega arith in rw all at (c .before .loop .inv .2)
+returns c =
+    let at-loop : tie.At-loop Inv-loop μ-loop = search in
+    let start : tie.Start Inv-loop μ-loop = search in
+    let all : at-loop .loop .i ≡ start .args .n = omega arith in rw all at (at-loop .loop .inv .2)
 
 pub patch-jumps-spec : {M : Type 1} → statement M
 patch-jumps-spec =

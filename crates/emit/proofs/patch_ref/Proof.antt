@@ -6,16 +6,34 @@ use Rattle.emit.proofs.patch_ref.Statement.{statement}
 use Rattle.emit.proofs.patch_ref.Tie as tie
 
 patch-field-requires : tie.Need-patch-field-requires
-patch-field-requires c κs = within-of _ _ _ _ (sym (c .before .before .before .before .before .from-code .ensures) ∙ c .before .before .kind .given .1) (rw (c .before .before .before .before .before .before .word-at .ensures) (c .before .before .before .before .before .before .before .before .before .before .before .pre .within))
+patch-field-requires c κs =
+    let after-kind : tie.After-kind = search in
+    let after-from-code : tie.After-from-code = search in
+    let after-word-at : tie.After-word-at = search in
+    let start : tie.Start = search in
+    within-of _ _ _ _ (sym (after-from-code .from-code .ensures) ∙ after-kind .kind .given .1) (rw (after-word-at .word-at .ensures) (start .pre .within))
 
 returns : tie.Need-returns
-returns c = c .before .before .patch-field .ensures ∙ rw (c .before .before .before .before .before .before .before .before .before .before .ref-label .ensures, c .before .before .before .before .before .before .before .word-at2 .ensures) (filled _ _ _ _ _ _ (rw (← c .before .before .before .before .before .before .before .before .before .word-at .ensures) (sym (c .before .before .before .before .before .before .before .before .from-code .ensures) ∙ c .before .before .before .before .before .kind .given .1)))
+returns c =
+    let after-patch-field : tie.After-patch-field = search in
+    let after-kind : tie.After-kind = search in
+    let after-word-at2 : tie.After-word-at2 = search in
+    let after-from-code : tie.After-from-code = search in
+    let after-word-at : tie.After-word-at = search in
+    let after-ref-label : tie.After-ref-label = search in
+    after-patch-field .patch-field .ensures ∙ rw (after-ref-label .ref-label .ensures, after-word-at2 .word-at2 .ensures) (filled _ _ _ _ _ _ (rw (← after-word-at .word-at .ensures) (sym (after-from-code .from-code .ensures) ∙ after-kind .kind .given .1)))
 
 returns-2 : tie.Need-returns-2
-returns-2 c = filled-unsupported _ _ _ _ _ (rw (← c .before .before .before .before .word-at .ensures) (sym (c .before .before .before .from-code .ensures) ∙ c .enum-told .given .1))
+returns-2 c =
+    let after-from-code : tie.After-from-code = search in
+    let after-word-at : tie.After-word-at = search in
+    filled-unsupported _ _ _ _ _ (rw (← after-word-at .word-at .ensures) (sym (after-from-code .from-code .ensures) ∙ c .enum-told .given .1))
 
 returns-3 : tie.Need-returns-3
-returns-3 c = filled-unknown _ _ _ _ _ (rw (← c .before .before .before .before .word-at .ensures) (sym (c .before .before .before .from-code .ensures) ∙ c .enum-told2 .given .1))
+returns-3 c =
+    let after-from-code : tie.After-from-code = search in
+    let after-word-at : tie.After-word-at = search in
+    filled-unknown _ _ _ _ _ (rw (← after-word-at .word-at .ensures) (sym (after-from-code .from-code .ensures) ∙ c .enum-told2 .given .1))
 
 pub patch-ref-spec : {M : Type 1} → statement M
 patch-ref-spec =

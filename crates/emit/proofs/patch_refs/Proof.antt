@@ -22,24 +22,44 @@ unfolding refsFilled
 loop-holds c = (omega arith, refl, refl)
 
 word-at-requires : tie.Need-word-at-requires Inv-loop μ-loop
-word-at-requires c κs = omega (arith, c .before .before .before .before .before .pre .1 .each _ (c .loop-test .taken) .entry)
+word-at-requires c κs =
+    let start : tie.Start Inv-loop μ-loop = search in
+    omega (arith, start .pre .1 .each _ (c .loop-test .taken) .entry)
 
 mul-word-at : tie.Need-mul-word-at Inv-loop μ-loop
-mul-word-at c = omega (arith, c .before .before .before .before .before .pre .1 .each _ (c .loop-test .taken) .entry)
+mul-word-at c =
+    let start : tie.Start Inv-loop μ-loop = search in
+    omega (arith, start .pre .1 .each _ (c .loop-test .taken) .entry)
 
 map-requires : tie.Need-map-requires Inv-loop μ-loop
-map-requires c κs = (c .before .before .before .before .before .before .pre .0, rw (c .word-at .ensures) (c .before .before .before .before .before .before .pre .1 .recorded _ (c .before .loop-test .taken)))
+map-requires c κs =
+    let in-loop : tie.In-loop Inv-loop μ-loop = search in
+    let start : tie.Start Inv-loop μ-loop = search in
+    (start .pre .0, rw (c .word-at .ensures) (start .pre .1 .recorded _ (in-loop .loop-test .taken)))
 
 patch-ref-requires : tie.Need-patch-ref-requires Inv-loop μ-loop
-patch-ref-requires c κs = rw (c .before .before .before .before .loop .inv .1, c .before .map .ensures, c .before .before .word-at .ensures) (c .before .before .before .before .before .before .before .before .pre .1 .each _ (c .before .before .before .loop-test .taken))
+patch-ref-requires c κs =
+    let after-map : tie.After-map Inv-loop μ-loop = search in
+    let after-word-at : tie.After-word-at Inv-loop μ-loop = search in
+    let in-loop : tie.In-loop Inv-loop μ-loop = search in
+    let at-loop : tie.At-loop Inv-loop μ-loop = search in
+    let start : tie.Start Inv-loop μ-loop = search in
+    rw (at-loop .loop .inv .1, after-map .map .ensures, after-word-at .word-at .ensures) (start .pre .1 .each _ (in-loop .loop-test .taken))
 
 loop-again : tie.Need-loop-again Inv-loop μ-loop
 loop-again c =
-    let filled = rw (c .before .before .before .before .map .ensures, c .before .before .before .before .before .word-at .ensures) at (c .before .before .patch-ref .ensures) in
-    (omega arith, rw filled (length-fillField _ _ _ _ _ ∙ c .before .before .before .before .before .before .before .loop .inv .1), refs-turn _ _ _ _ _ _ _ _ (c .before .before .before .before .before .before .before .loop .inv .2) filled)
+    let after-patch-ref : tie.After-patch-ref Inv-loop μ-loop = search in
+    let after-map : tie.After-map Inv-loop μ-loop = search in
+    let after-word-at : tie.After-word-at Inv-loop μ-loop = search in
+    let at-loop : tie.At-loop Inv-loop μ-loop = search in
+    let filled = rw (after-map .map .ensures, after-word-at .word-at .ensures) at (after-patch-ref .patch-ref .ensures) in
+    (omega arith, rw filled (length-fillField _ _ _ _ _ ∙ at-loop .loop .inv .1), refs-turn _ _ _ _ _ _ _ _ (at-loop .loop .inv .2) filled)
 
 returns : tie.Need-returns Inv-loop μ-loop
-returns c = let all : c .before .loop .i ≡ c .before .before .before .before .before .args .count = omega arith in rw all at (c .before .loop .inv .2)
+returns c =
+    let at-loop : tie.At-loop Inv-loop μ-loop = search in
+    let start : tie.Start Inv-loop μ-loop = search in
+    let all : at-loop .loop .i ≡ start .args .count = omega arith in rw all at (at-loop .loop .inv .2)
 
 pub patch-refs-spec : {M : Type 1} → statement M
 patch-refs-spec =

@@ -21,13 +21,23 @@ unfolding usesFilled
 loop-holds c = (omega arith, refl, refl)
 
 patch-use-requires : tie.Need-patch-use-requires Inv-loop μ-loop
-patch-use-requires c κs = rw (c .before .before .loop .inv .1) (c .before .before .before .before .before .before .pre .each _ (c .before .loop-test .taken))
+patch-use-requires c κs =
+    let in-loop : tie.In-loop Inv-loop μ-loop = search in
+    let at-loop : tie.At-loop Inv-loop μ-loop = search in
+    let start : tie.Start Inv-loop μ-loop = search in
+    rw (at-loop .loop .inv .1) (start .pre .each _ (in-loop .loop-test .taken))
 
 loop-again : tie.Need-loop-again Inv-loop μ-loop
-loop-again c = (omega arith, rw (c .before .before .patch-use .ensures) (length-fillUse _ _ _ _ ∙ c .before .before .before .before .before .loop .inv .1), uses-turn _ _ _ _ _ _ (c .before .before .before .before .before .loop .inv .2) (c .before .before .patch-use .ensures))
+loop-again c =
+    let after-patch-use : tie.After-patch-use Inv-loop μ-loop = search in
+    let at-loop : tie.At-loop Inv-loop μ-loop = search in
+    (omega arith, rw (after-patch-use .patch-use .ensures) (length-fillUse _ _ _ _ ∙ at-loop .loop .inv .1), uses-turn _ _ _ _ _ _ (at-loop .loop .inv .2) (after-patch-use .patch-use .ensures))
 
 returns : tie.Need-returns Inv-loop μ-loop
-returns c = let all : c .before .loop .i ≡ c .before .before .before .before .before .args .count = omega arith in rw all at (c .before .loop .inv .2)
+returns c =
+    let at-loop : tie.At-loop Inv-loop μ-loop = search in
+    let start : tie.Start Inv-loop μ-loop = search in
+    let all : at-loop .loop .i ≡ start .args .count = omega arith in rw all at (at-loop .loop .inv .2)
 
 pub patch-uses-spec : {M : Type 1} → statement M
 patch-uses-spec =

@@ -6,13 +6,23 @@ use Rattle.emit.proofs.put_event.Statement.{statement}
 use Rattle.emit.proofs.put_event.Tie as tie
 
 put-jump-requires : tie.Need-put-jump-requires
-put-jump-requires c κs = (jump-writes _ _ (c .before .before .event .given .1) (c .before .before .before .before .before .pre .0), jump-width _ _ _ _ _ (c .before .before .event .given .1) (c .before .before .before .before .before .pre .1))
+put-jump-requires c κs =
+    let after-event : tie.After-event = search in
+    let start : tie.Start = search in
+    (jump-writes _ _ (after-event .event .given .1) (start .pre .0), jump-width _ _ _ _ _ (after-event .event .given .1) (start .pre .1))
 
 returns : tie.Need-returns
-returns c = c .before .before .put-jump .ensures ∙ jump-form _ _ _ _ (c .before .before .before .before .before .event .given .1)
+returns c =
+    let after-put-jump : tie.After-put-jump = search in
+    let after-event : tie.After-event = search in
+    after-put-jump .put-jump .ensures ∙ jump-form _ _ _ _ (after-event .event .given .1)
 
 returns-2 : tie.Need-returns-2
-returns-2 c = c .before .before .push-nops .ensures ∙ align-form _ _ _ _ _ _ (c .before .before .before .before .before .before .before .args .part .now) (c .before .before .before .before .enum-told .given .1) (c .before .before .before .before .before .before .before .pre .1)
+returns-2 c =
+    let after-push-nops : tie.After-push-nops = search in
+    let after-enum-told : tie.After-enum-told = search in
+    let start : tie.Start = search in
+    after-push-nops .push-nops .ensures ∙ align-form _ _ _ _ _ _ (start .args .part .now) (after-enum-told .enum-told .given .1) (start .pre .1)
 
 pub put-event-spec : {M : Type 1} → statement M
 put-event-spec =

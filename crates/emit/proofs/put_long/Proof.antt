@@ -7,22 +7,41 @@ use Rattle.emit.proofs.put_long.Statement.{statement}
 use Rattle.emit.proofs.put_long.Tie as tie
 
 slice-write-part : tie.Need-slice-write-part
-slice-write-part c = omega (arith, long-size (c .before .before .before .before .before .before .before .args .cc), cleared-length (c .before .before .before .before .before .before .before .args .part .now) _ (c .before .before .before .before .clear .ensures), c .before .before .before .before .before .before .before .pre .1)
+slice-write-part c =
+    let after-clear : tie.After-clear = search in
+    let start : tie.Start = search in
+    omega (arith, long-size (start .args .cc), cleared-length (start .args .part .now) _ (after-clear .clear .ensures), start .pre .1)
 
 array-copy-out-row : tie.Need-array-copy-out-row
-array-copy-out-row c = omega (arith, on-encodes _ _ (c .before .cc .given .1) (c .before .before .before .before .before .before .before .before .pre .0))
+array-copy-out-row c =
+    let after-cc : tie.After-cc = search in
+    let start : tie.Start = search in
+    omega (arith, on-encodes _ _ (after-cc .cc .given .1) (start .pre .0))
 
 slice-write-part-2 : tie.Need-slice-write-part-2
-slice-write-part-2 c = omega (arith, long-size (c .before .before .before .before .before .before .before .before .before .args .cc), cleared-length (c .before .before .before .before .before .before .before .before .before .args .part .now) _ (c .before .before .before .before .before .before .clear .ensures), c .before .before .before .before .before .before .before .before .before .pre .1)
+slice-write-part-2 c =
+    let after-clear : tie.After-clear = search in
+    let start : tie.Start = search in
+    omega (arith, long-size (start .args .cc), cleared-length (start .args .part .now) _ (after-clear .clear .ensures), start .pre .1)
 
 slice-write-part-3 : tie.Need-slice-write-part-3
-slice-write-part-3 c = simp length-set (omega (arith, long-size (c .before .before .before .before .before .before .before .before .before .args .cc), cleared-length (c .before .before .before .before .before .before .before .before .before .args .part .now) _ (c .before .before .before .before .before .before .clear .ensures), c .before .before .before .before .before .before .before .before .before .pre .1))
+slice-write-part-3 c =
+    let after-clear : tie.After-clear = search in
+    let start : tie.Start = search in
+    simp length-set (omega (arith, long-size (start .args .cc), cleared-length (start .args .part .now) _ (after-clear .clear .ensures), start .pre .1))
 
 returns : tie.Need-returns
-returns c = put-always (c .before .before .before .before .before .before .before .args .cc) (c .before .before .before .before .before .before .before .args .part .now) _ (c .enum-told .given .1) (c .before .before .before .before .clear .ensures) (c .before .before .before .before .before .before .before .pre .1)
+returns c =
+    let after-clear : tie.After-clear = search in
+    let start : tie.Start = search in
+    put-always (start .args .cc) (start .args .part .now) _ (c .enum-told .given .1) (after-clear .clear .ensures) (start .pre .1)
 
 returns-2 : tie.Need-returns-2
-returns-2 c = put-on (c .before .before .before .before .before .before .before .before .before .args .cc) _ (c .before .before .before .before .before .before .before .before .before .args .part .now) _ (c .before .before .cc .given .1) (c .before .before .before .before .before .before .before .before .before .pre .0) (c .before .before .before .before .before .before .clear .ensures) (c .before .before .before .before .before .before .before .before .before .pre .1)
+returns-2 c =
+    let after-cc : tie.After-cc = search in
+    let after-clear : tie.After-clear = search in
+    let start : tie.Start = search in
+    put-on (start .args .cc) _ (start .args .part .now) _ (after-cc .cc .given .1) (start .pre .0) (after-clear .clear .ensures) (start .pre .1)
 
 pub put-long-spec : {M : Type 1} → statement M
 put-long-spec =

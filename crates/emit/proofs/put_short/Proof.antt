@@ -6,10 +6,16 @@ use Rattle.emit.proofs.put_short.Statement.{statement}
 use Rattle.emit.proofs.put_short.Tie as tie
 
 slice-write-part : tie.Need-slice-write-part
-slice-write-part c = omega (arith, short-size (c .before .before .before .before .before .before .args .cc), cleared-length (c .before .before .before .before .before .before .args .part .now) _ (c .before .before .before .clear .ensures), c .before .before .before .before .before .before .pre .1)
+slice-write-part c =
+    let after-clear : tie.After-clear = search in
+    let start : tie.Start = search in
+    omega (arith, short-size (start .args .cc), cleared-length (start .args .part .now) _ (after-clear .clear .ensures), start .pre .1)
 
 returns : tie.Need-returns
-returns c = put-opcode (c .before .before .before .before .before .before .args .cc) _ (c .before .before .before .before .before .before .args .part .now) _ (c .short-opcode .ensures) (c .before .before .before .clear .ensures) (c .before .before .before .before .before .before .pre .1)
+returns c =
+    let after-clear : tie.After-clear = search in
+    let start : tie.Start = search in
+    put-opcode (start .args .cc) _ (start .args .part .now) _ (c .short-opcode .ensures) (after-clear .clear .ensures) (start .pre .1)
 
 pub put-short-spec : {M : Type 1} → statement M
 put-short-spec =

@@ -6,7 +6,10 @@ use Rattle.emit.proofs.ref_label.Statement.{statement}
 use Rattle.emit.proofs.ref_label.Tie as tie
 
 returns : tie.Need-returns
-returns c = c .word-at2 .ensures ∙ ap (wordAt (c .before .before .before .before .args .labels .now)) (c .before .word-at .ensures)
+returns c =
+    let after-word-at : tie.After-word-at = search in
+    let start : tie.Start = search in
+    c .word-at2 .ensures ∙ ap (wordAt (start .args .labels .now)) (after-word-at .word-at .ensures)
 
 pub ref-label-spec : {M : Type 1} → statement M
 ref-label-spec =

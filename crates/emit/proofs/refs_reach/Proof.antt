@@ -22,35 +22,66 @@ unfolding refsReach
 loop-holds c = (omega arith, refl)
 
 mul-word-at : tie.Need-mul-word-at Inv-loop μ-loop
-mul-word-at c = omega (arith, c .before .before .before .before .pre .1 .each _ (c .loop-test .taken) .entry)
+mul-word-at c =
+    let start : tie.Start Inv-loop μ-loop = search in
+    omega (arith, start .pre .1 .each _ (c .loop-test .taken) .entry)
 
 word-at-requires : tie.Need-word-at-requires Inv-loop μ-loop
-word-at-requires c κs = omega (arith, c .before .before .before .before .pre .1 .each _ (c .loop-test .taken) .entry)
+word-at-requires c κs =
+    let start : tie.Start Inv-loop μ-loop = search in
+    omega (arith, start .pre .1 .each _ (c .loop-test .taken) .entry)
 
 map-requires : tie.Need-map-requires Inv-loop μ-loop
-map-requires c κs = (c .before .before .before .before .before .pre .0, rw (c .word-at .ensures) (c .before .before .before .before .before .pre .1 .each _ (c .before .loop-test .taken) .recorded))
+map-requires c κs =
+    let in-loop : tie.In-loop Inv-loop μ-loop = search in
+    let start : tie.Start Inv-loop μ-loop = search in
+    (start .pre .0, rw (c .word-at .ensures) (start .pre .1 .each _ (in-loop .loop-test .taken) .recorded))
 
 ref-label-requires : tie.Need-ref-label-requires Inv-loop μ-loop
-ref-label-requires c κs = let known = c .before .before .before .before .before .before .pre .1 .each _ (c .before .before .loop-test .taken) in (known .entry, known .known)
+ref-label-requires c κs =
+    let in-loop : tie.In-loop Inv-loop μ-loop = search in
+    let start : tie.Start Inv-loop μ-loop = search in
+    let known = start .pre .1 .each _ (in-loop .loop-test .taken) in (known .entry, known .known)
 
 map-requires-2 : tie.Need-map-requires-2 Inv-loop μ-loop
-map-requires-2 c κs = (c .before .before .before .before .before .before .before .pre .0, rw (c .ref-label .ensures) (c .before .before .before .before .before .before .before .pre .1 .each _ (c .before .before .before .loop-test .taken) .bound))
+map-requires-2 c κs =
+    let in-loop : tie.In-loop Inv-loop μ-loop = search in
+    let start : tie.Start Inv-loop μ-loop = search in
+    (start .pre .0, rw (c .ref-label .ensures) (start .pre .1 .each _ (in-loop .loop-test .taken) .bound))
 
 ref-reaches-requires : tie.Need-ref-reaches-requires Inv-loop μ-loop
-ref-reaches-requires c κs = c .before .before .before .before .before .before .before .before .pre .1 .each _ (c .before .before .before .before .loop-test .taken) .entry
+ref-reaches-requires c κs =
+    let in-loop : tie.In-loop Inv-loop μ-loop = search in
+    let start : tie.Start Inv-loop μ-loop = search in
+    start .pre .1 .each _ (in-loop .loop-test .taken) .entry
 
 returns : tie.Need-returns Inv-loop μ-loop
 returns c =
-    let said = rw (c .before .before .map2 .ensures, c .before .before .before .ref-label .ensures, c .before .before .before .before .map .ensures, c .before .before .before .before .before .word-at .ensures) at (c .before .ref-reaches .ensures) in
-    sym (one-short _ _ _ _ (c .before .before .before .before .before .before .before .loop .i) _ (omega arith) (sym said ∙ not-true _ (c .if1 .taken)))
+    let after-ref-reaches : tie.After-ref-reaches Inv-loop μ-loop = search in
+    let after-map2 : tie.After-map2 Inv-loop μ-loop = search in
+    let after-ref-label : tie.After-ref-label Inv-loop μ-loop = search in
+    let after-map : tie.After-map Inv-loop μ-loop = search in
+    let after-word-at : tie.After-word-at Inv-loop μ-loop = search in
+    let at-loop : tie.At-loop Inv-loop μ-loop = search in
+    let said = rw (after-map2 .map2 .ensures, after-ref-label .ref-label .ensures, after-map .map .ensures, after-word-at .word-at .ensures) at (after-ref-reaches .ref-reaches .ensures) in
+    sym (one-short _ _ _ _ (at-loop .loop .i) _ (omega arith) (sym said ∙ not-true _ (c .if1 .taken)))
 
 loop-again : tie.Need-loop-again Inv-loop μ-loop
 loop-again c =
-    let said = rw (c .before .before .map2 .ensures, c .before .before .before .ref-label .ensures, c .before .before .before .before .map .ensures, c .before .before .before .before .before .word-at .ensures) at (c .before .ref-reaches .ensures) in
-    (omega arith, all-reach _ _ _ _ _ (c .before .before .before .before .before .before .before .loop .inv .1) (sym said ∙ not-false _ (c .if1 .left)))
+    let after-ref-reaches : tie.After-ref-reaches Inv-loop μ-loop = search in
+    let after-map2 : tie.After-map2 Inv-loop μ-loop = search in
+    let after-ref-label : tie.After-ref-label Inv-loop μ-loop = search in
+    let after-map : tie.After-map Inv-loop μ-loop = search in
+    let after-word-at : tie.After-word-at Inv-loop μ-loop = search in
+    let at-loop : tie.At-loop Inv-loop μ-loop = search in
+    let said = rw (after-map2 .map2 .ensures, after-ref-label .ref-label .ensures, after-map .map .ensures, after-word-at .word-at .ensures) at (after-ref-reaches .ref-reaches .ensures) in
+    (omega arith, all-reach _ _ _ _ _ (at-loop .loop .inv .1) (sym said ∙ not-false _ (c .if1 .left)))
 
 returns-2 : tie.Need-returns-2 Inv-loop μ-loop
-returns-2 c = let all : c .before .loop .i ≡ c .before .before .before .before .args .count = omega arith in sym (rw all at (c .before .loop .inv .1))
+returns-2 c =
+    let at-loop : tie.At-loop Inv-loop μ-loop = search in
+    let start : tie.Start Inv-loop μ-loop = search in
+    let all : at-loop .loop .i ≡ start .args .count = omega arith in sym (rw all at (at-loop .loop .inv .1))
 
 pub refs-reach-spec : {M : Type 1} → statement M
 refs-reach-spec =

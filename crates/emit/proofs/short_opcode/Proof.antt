@@ -7,13 +7,21 @@ use Rattle.emit.proofs.short_opcode.Statement.{statement}
 use Rattle.emit.proofs.short_opcode.Tie as tie
 
 add-result : tie.Need-add-result
-add-result c = omega (arith, on-encodes _ _ (c .before .cc .given .1) (c .before .before .before .pre))
+add-result c =
+    let after-cc : tie.After-cc = search in
+    let start : tie.Start = search in
+    omega (arith, on-encodes _ _ (after-cc .cc .given .1) (start .pre))
 
 cast-result : tie.Need-cast-result
-cast-result c = omega (arith, on-encodes _ _ (c .before .cc .given .1) (c .before .before .before .pre))
+cast-result c =
+    let after-cc : tie.After-cc = search in
+    let start : tie.Start = search in
+    omega (arith, on-encodes _ _ (after-cc .cc .given .1) (start .pre))
 
 returns-2 : tie.Need-returns-2
-returns-2 c = rw (c .before .cc .given .1) refl
+returns-2 c =
+    let after-cc : tie.After-cc = search in
+    rw (after-cc .cc .given .1) refl
 
 pub short-opcode-spec : {M : Type 1} → statement M
 short-opcode-spec =

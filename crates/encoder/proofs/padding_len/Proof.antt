@@ -14,15 +14,19 @@ returns c = rw (c .if1 .taken)
 
 returns-2 : tie.Need-returns-2
 returns-2 c =
-    let a = c .before .before .args in
+    let start : tie.Start = search in
+    let a = start .args in
     sym (padding-none (a .offset) (a .align-to) (omega arith) (c .if2 .taken))
 
 sub-result : tie.Need-sub-result
-sub-result c = omega (arith, mod-lt (c .before .before .args .offset) {m = c .before .before .args .align-to} (omega arith))
+sub-result c =
+    let start : tie.Start = search in
+    omega (arith, mod-lt (start .args .offset) {m = start .args .align-to} (omega arith))
 
 returns-3 : tie.Need-returns-3
 returns-3 c =
-    let a = c .before .before .args in
+    let start : tie.Start = search in
+    let a = start .args in
     sym (padding-some (a .offset) (a .align-to) (omega arith) (omega arith))
 
 pub padding-len-spec : {M : Type 1} → statement M

@@ -13,18 +13,23 @@ use Rattle.encoder.proofs.push_nop.Statement.{statement}
 use Rattle.encoder.proofs.push_nop.Tie as tie
 
 array-share-prefix-row : tie.Need-array-share-prefix-row
-array-share-prefix-row c = omega (arith, row-length (length (c .before .before .args .pad .now)) (omega arith))
+array-share-prefix-row c =
+    let start : tie.Start = search in
+    omega (arith, row-length (length (start .args .pad .now)) (omega arith))
 
 slice-aggregate-copy : tie.Need-slice-aggregate-copy
 slice-aggregate-copy c =
-    let n = length (c .before .before .before .args .pad .now) in
+    let start : tie.Start = search in
+    let n = length (start .args .pad .now) in
     sym (length-take-le _ (getD rows (n - 1) []) (omega (arith, row-length n (omega arith))))
 
 returns : tie.Need-returns
 returns c =
-    let pad = c .before .before .before .before .before .before .before .args .pad .now in
+    let after-copy : tie.After-copy = search in
+    let start : tie.Start = search in
+    let pad = start .args .pad .now in
     let n = length pad in
-    c .before .before .copy .ensures
+    after-copy .copy .ensures
     ∙ rw (row-form n (omega arith)) (over-all pad (form n) (form-length n (omega arith)))
 
 pub push-nop-spec : {M : Type 1} → statement M

@@ -20,24 +20,29 @@ abbrev μ-loop : tie.MeasureT-loop
 
 loop-holds : tie.Need-loop-holds Inv-loop μ-loop
 loop-holds c =
-    let pad = c .before .args .pad .now in
+    let start : tie.Start Inv-loop μ-loop = search in
+    let pad = start .args .pad .now in
     (omega arith, refl, rw (sub-zero (length pad)) (over-all pad (nops (length pad)) (nops-length (length pad))))
 
 loop-again : tie.Need-loop-again Inv-loop μ-loop
 loop-again c =
-    let at-loop = c .before .before .before .before .before .before in
+    let after-push-nop : tie.After-push-nop Inv-loop μ-loop = search in
+    let after-longest : tie.After-longest Inv-loop μ-loop = search in
+    let at-loop : tie.At-loop Inv-loop μ-loop = search in
     let pad = at-loop .loop .pad in
     let i = at-loop .loop .i in
-    let n = c .before .before .before .before .longest .result in
-    let e = over-form pad _ i n (omega arith) (omega arith) (c .before .before .push-nop .ensures) in
+    let n = after-longest .longest .result in
+    let e = over-form pad _ i n (omega arith) (omega arith) (after-push-nop .push-nop .ensures) in
     (omega arith, rw (e, length-over pad i (form n)) (omega arith), rw e (over-longest-first pad i n _ (omega arith) (omega arith) (omega arith) ∙ at-loop .loop .inv .2))
 
 returns : tie.Need-returns Inv-loop μ-loop
 returns c =
-    let pad = c .before .loop .pad in
-    let i = c .before .loop .i in
-    let z : length (c .before .before .before .args .pad .now) - i ≡ 0 = omega arith in
-    sym (over-nil pad i) ∙ (rw (z, nops-zero) at (c .before .loop .inv .2))
+    let at-loop' : tie.At-loop Inv-loop μ-loop = search in
+    let start : tie.Start Inv-loop μ-loop = search in
+    let pad = at-loop' .loop .pad in
+    let i = at-loop' .loop .i in
+    let z : length (start .args .pad .now) - i ≡ 0 = omega arith in
+    sym (over-nil pad i) ∙ (rw (z, nops-zero) at (at-loop' .loop .inv .2))
 
 pub push-nops-spec : {M : Type 1} → statement M
 push-nops-spec =

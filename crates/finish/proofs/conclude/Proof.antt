@@ -8,11 +8,16 @@ use Rattle.finish.proofs.conclude.Tie as tie
 
 returns : tie.Need-returns
 unfolding concluded
-returns c = rw (c .unfinished .ensures, c .before .before .before .unbind .ensures) (sym (no-eq _ 0 _ _ (c .before .before .before .before .before .before .if1 .taken)))
+returns c =
+    let after-unbind : tie.After-unbind = search in
+    let then1 : tie.Then1 = search in
+    rw (c .unfinished .ensures, after-unbind .unbind .ensures) (sym (no-eq _ 0 _ _ (then1 .if1 .taken)))
 
 returns-2 : tie.Need-returns-2
 unfolding concluded
-returns-2 c = rw (c .finished-with .ensures) (sym (yes-eq _ 0 _ _ (c .before .if1 .left)))
+returns-2 c =
+    let else1 : tie.Else1 = search in
+    rw (c .finished-with .ensures) (sym (yes-eq _ 0 _ _ (else1 .if1 .left)))
 
 pub conclude-spec : {M : Type 1} → statement M
 conclude-spec =

@@ -11,28 +11,59 @@ cast-relaxed-5 : tie.Need-cast-relaxed-5
 cast-relaxed-5 c = omega (arith, c .struct-known6 .given)
 
 returns : tie.Need-returns
-returns c = c .before .before .before .before .before .before .before .begin .ensures .0 (not-true _ (c .before .if1 .taken)) _ refl
+returns c =
+    let then1 : tie.Then1 = search in
+    let after-begin : tie.After-begin = search in
+    after-begin .begin .ensures .0 (not-true _ (then1 .if1 .taken)) _ refl
 
 relaxed-requires : tie.Need-relaxed-requires
 relaxed-requires c κs =
-    let begins = c .before .before .before .before .before .before .before .before .before .before .before .before .before .before .before .begin .ensures .1 (not-false _ (c .before .before .before .before .before .before .before .before .before .if1 .left)) in
-    rw (begins .kept) (begins .relaxable, begins .laid)
+    let else1 : tie.Else1 = search in
+    let after-begin : tie.After-begin = search in
+    let begins = after-begin .begin .ensures .1 (not-false _ (else1 .if1 .left)) in
+    rw (begins .kept) (record { relaxable = begins .relaxable; unrefused = begins .laid })
 
 conclude-requires : tie.Need-conclude-requires
 conclude-requires c κs =
-    let ready = c .before .before .before .before .before .before .before .before .before .before .before .before .before .before .before .before .before .before .before .before .before .before .before .before .begin .ensures .1 (not-false _ (c .before .before .before .before .before .before .before .before .before .before .before .before .before .before .before .before .before .before .if1 .left)) .relaxable .ready in
-    (ready .pool, record { known = λ j h. omega (arith, ready .named .known j h, c .before .before .before .before .before .before .before .before .relaxed .kept .1 .0) })
+    let after-relaxed : tie.After-relaxed = search in
+    let else1 : tie.Else1 = search in
+    let after-begin : tie.After-begin = search in
+    let ready = after-begin .begin .ensures .1 (not-false _ (else1 .if1 .left)) .relaxable .ready in
+    (ready .pool, record { known = λ j h. omega (arith, ready .named .known j h, after-relaxed .relaxed .kept .1 .0) })
+
+abbrev after-relaxed-arg2-from-after-relaxed : tie.After-relaxed → tie.After-relaxed-arg2
+after-relaxed-arg2-from-after-relaxed c = search
+
+abbrev after-begin-from-after-relaxed-arg2 : tie.After-relaxed-arg2 → tie.After-begin
+after-begin-from-after-relaxed-arg2 c = search
+
+abbrev after-begin-from-after-relaxed : tie.After-relaxed → tie.After-begin
+after-begin-from-after-relaxed c = after-begin-from-after-relaxed-arg2 (after-relaxed-arg2-from-after-relaxed c)
 
 same-length-4 : tie.Need-same-length-4
-same-length-4 c = c .before .before .conclude .kept .1 .0 ∙ c .before .before .before .before .before .before .before .before .before .before .before .relaxed .kept .1 .0 ∙ c .before .before .before .before .before .before .before .before .before .before .before .before .before .before .before .before .before .before .before .before .before .before .before .before .before .before .before .begin .kept .1 .1 .0
+same-length-4 c =
+    let after-conclude : tie.After-conclude = search in
+    let after-relaxed : tie.After-relaxed = search in
+    let after-begin = after-begin-from-after-relaxed after-relaxed in
+    after-conclude .conclude .kept .1 .0 ∙ after-relaxed .relaxed .kept .1 .0 ∙ after-begin .begin .kept .1 .1 .0
 
 same-length-7 : tie.Need-same-length-7
-same-length-7 c = c .before .before .before .before .before .before .before .before .before .before .before .relaxed .kept .1 .1 .1 .1 .1 .1 .1 .1 .0 ∙ c .before .before .before .before .before .before .before .before .before .before .before .before .before .before .before .before .before .before .before .before .before .before .before .before .before .before .before .begin .kept .1 .1 .1 .1 .1 .1 .1 .1 .1 .1 .0
+same-length-7 c =
+    let after-relaxed : tie.After-relaxed = search in
+    let after-begin = after-begin-from-after-relaxed after-relaxed in
+    after-relaxed .relaxed .kept .1 .1 .1 .1 .1 .1 .1 .1 .0 ∙ after-begin .begin .kept .1 .1 .1 .1 .1 .1 .1 .1 .1 .1 .0
+
+abbrev else1-from-after-relaxed : tie.After-relaxed → tie.Else1
+else1-from-after-relaxed c = search
 
 returns-2 : tie.Need-returns-2
 returns-2 c =
-    let begins = c .before .before .before .before .before .before .before .before .before .before .before .before .before .before .before .before .before .before .before .before .before .before .before .before .before .before .before .begin .ensures .1 (not-false _ (c .before .before .before .before .before .before .before .before .before .before .before .before .before .before .before .before .before .before .before .before .before .if1 .left)) in
-    begins .concludes _ refl _ _ (λ us. rw (begins .kept) at (c .before .before .before .before .before .before .before .before .before .before .before .relaxed .ensures us)) _ _ (c .before .before .conclude .ensures)
+    let after-conclude : tie.After-conclude = search in
+    let after-relaxed : tie.After-relaxed = search in
+    let else1 = else1-from-after-relaxed after-relaxed in
+    let after-begin : tie.After-begin = search in
+    let begins = after-begin .begin .ensures .1 (not-false _ (else1 .if1 .left)) in
+    begins .concludes _ refl _ _ (λ us. rw (begins .kept) at (after-relaxed .relaxed .ensures us)) _ _ (after-conclude .conclude .ensures)
 
 pub finish-spec : {M : Type 1} → statement M
 finish-spec =

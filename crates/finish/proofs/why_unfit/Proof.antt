@@ -11,34 +11,83 @@ use Rattle.finish.proofs.why_unfit.Statement.{statement}
 use Rattle.finish.proofs.why_unfit.Tie as tie
 
 returns : tie.Need-returns
-returns c = unfit-standing (recordingOf (c .before .before .before .before .before .before .before .before .before .before .args .b) (c .before .before .before .before .before .before .before .before .before .before .args .code .now) (c .before .before .before .before .before .before .before .before .before .before .args .labels .now) (c .before .before .before .before .before .before .before .before .before .before .args .events .now) (c .before .before .before .before .before .before .before .before .before .before .args .uses .now) (c .before .before .before .before .before .before .before .before .before .before .args .refs .now) (c .before .before .before .before .before .before .before .before .before .before .args .constants .now) (c .before .before .before .before .before .before .before .before .before .before .args .asked .now) (c .before .before .before .before .before .before .before .before .before .before .args .relocs .now)) _ _ _ (c .before .why-not-standing .ensures) (c .if1 .taken)
+returns c =
+    let after-why-not-standing : tie.After-why-not-standing = search in
+    let start : tie.Start = search in
+    unfit-standing (recordingOf (start .args .b) (start .args .code .now) (start .args .labels .now) (start .args .events .now) (start .args .uses .now) (start .args .refs .now) (start .args .constants .now) (start .args .asked .now) (start .args .relocs .now)) _ _ _ (after-why-not-standing .why-not-standing .ensures) (c .if1 .taken)
 
 entries-fit-requires : tie.Need-entries-fit-requires
-entries-fit-requires c κs = counts (recordingOf (c .before .before .before .before .before .before .before .before .before .before .args .b) (c .before .before .before .before .before .before .before .before .before .before .args .code .now) (c .before .before .before .before .before .before .before .before .before .before .args .labels .now) (c .before .before .before .before .before .before .before .before .before .before .args .events .now) (c .before .before .before .before .before .before .before .before .before .before .args .uses .now) (c .before .before .before .before .before .before .before .before .before .before .args .refs .now) (c .before .before .before .before .before .before .before .before .before .before .args .constants .now) (c .before .before .before .before .before .before .before .before .before .before .args .asked .now) (c .before .before .before .before .before .before .before .before .before .before .args .relocs .now)) _ _ (sym (c .before .why-not-standing .ensures) ∙ c .if1 .left)
+entries-fit-requires c κs =
+    let after-why-not-standing : tie.After-why-not-standing = search in
+    let start : tie.Start = search in
+    counts (recordingOf (start .args .b) (start .args .code .now) (start .args .labels .now) (start .args .events .now) (start .args .uses .now) (start .args .refs .now) (start .args .constants .now) (start .args .asked .now) (start .args .relocs .now)) _ _ (sym (after-why-not-standing .why-not-standing .ensures) ∙ c .if1 .left)
+
+abbrev start-from-after-why-not-standing : tie.After-why-not-standing → tie.Start
+start-from-after-why-not-standing c = search
 
 returns-2 : tie.Need-returns-2
-returns-2 c = let r = recordingOf (c .before .before .before .before .before .before .before .before .before .before .before .before .args .b) (c .before .before .before .before .before .before .before .before .before .before .before .before .args .code .now) (c .before .before .before .before .before .before .before .before .before .before .before .before .args .labels .now) (c .before .before .before .before .before .before .before .before .before .before .before .before .args .events .now) (c .before .before .before .before .before .before .before .before .before .before .before .before .args .uses .now) (c .before .before .before .before .before .before .before .before .before .before .before .before .args .refs .now) (c .before .before .before .before .before .before .before .before .before .before .before .before .args .constants .now) (c .before .before .before .before .before .before .before .before .before .before .before .before .args .asked .now) (c .before .before .before .before .before .before .before .before .before .before .before .before .args .relocs .now) in unfit-entries r _ _ (sym (c .before .before .before .why-not-standing .ensures) ∙ c .before .before .if1 .left) (entries-read r _ false (c .before .entries-fit .ensures) (not-true _ (c .if2 .taken)))
+returns-2 c =
+    let after-entries-fit : tie.After-entries-fit = search in
+    let else1 : tie.Else1 = search in
+    let after-why-not-standing : tie.After-why-not-standing = search in
+    let start = start-from-after-why-not-standing after-why-not-standing in
+    let r = recordingOf (start .args .b) (start .args .code .now) (start .args .labels .now) (start .args .events .now) (start .args .uses .now) (start .args .refs .now) (start .args .constants .now) (start .args .asked .now) (start .args .relocs .now) in unfit-entries r _ _ (sym (after-why-not-standing .why-not-standing .ensures) ∙ else1 .if1 .left) (entries-read r _ false (after-entries-fit .entries-fit .ensures) (not-true _ (c .if2 .taken)))
 
 is-bound-requires : tie.Need-is-bound-requires
 is-bound-requires c κs =
-    let r = recordingOf (c .before .before .before .before .before .before .before .before .before .before .before .before .before .args .b) (c .before .before .before .before .before .before .before .before .before .before .before .before .before .args .code .now) (c .before .before .before .before .before .before .before .before .before .before .before .before .before .args .labels .now) (c .before .before .before .before .before .before .before .before .before .before .before .before .before .args .events .now) (c .before .before .before .before .before .before .before .before .before .before .before .before .before .args .uses .now) (c .before .before .before .before .before .before .before .before .before .before .before .before .before .args .refs .now) (c .before .before .before .before .before .before .before .before .before .before .before .before .before .args .constants .now) (c .before .before .before .before .before .before .before .before .before .before .before .before .before .args .asked .now) (c .before .before .before .before .before .before .before .before .before .before .before .before .before .args .relocs .now) in
-    let s = sound r _ _ (sym (c .before .before .before .before .why-not-standing .ensures) ∙ c .before .before .before .if1 .left) (entries-read r _ true (c .before .before .entries-fit .ensures) (not-false _ (c .before .if2 .left))) in
-    let few = asked-few r _ _ (sym (c .before .before .before .before .why-not-standing .ensures) ∙ c .before .before .before .if1 .left) in
+    let else2 : tie.Else2 = search in
+    let after-entries-fit : tie.After-entries-fit = search in
+    let else1 : tie.Else1 = search in
+    let after-why-not-standing : tie.After-why-not-standing = search in
+    let start = start-from-after-why-not-standing after-why-not-standing in
+    let r = recordingOf (start .args .b) (start .args .code .now) (start .args .labels .now) (start .args .events .now) (start .args .uses .now) (start .args .refs .now) (start .args .constants .now) (start .args .asked .now) (start .args .relocs .now) in
+    let s = sound r _ _ (sym (after-why-not-standing .why-not-standing .ensures) ∙ else1 .if1 .left) (entries-read r _ true (after-entries-fit .entries-fit .ensures) (not-false _ (else2 .if2 .left))) in
+    let few = asked-few r _ _ (sym (after-why-not-standing .why-not-standing .ensures) ∙ else1 .if1 .left) in
     (pool-fits r s few, pool-labels r s few)
 
 returns-3 : tie.Need-returns-3
-returns-3 c = let r = recordingOf (c .before .before .before .before .before .before .before .before .before .before .before .before .before .before .before .args .b) (c .before .before .before .before .before .before .before .before .before .before .before .before .before .before .before .args .code .now) (c .before .before .before .before .before .before .before .before .before .before .before .before .before .before .before .args .labels .now) (c .before .before .before .before .before .before .before .before .before .before .before .before .before .before .before .args .events .now) (c .before .before .before .before .before .before .before .before .before .before .before .before .before .before .before .args .uses .now) (c .before .before .before .before .before .before .before .before .before .before .before .before .before .before .before .args .refs .now) (c .before .before .before .before .before .before .before .before .before .before .before .before .before .before .before .args .constants .now) (c .before .before .before .before .before .before .before .before .before .before .before .before .before .before .before .args .asked .now) (c .before .before .before .before .before .before .before .before .before .before .before .before .before .before .before .args .relocs .now) in unfit-bound r _ _ (sym (c .before .before .before .before .before .before .why-not-standing .ensures) ∙ c .before .before .before .before .before .if1 .left) (entries-read r _ true (c .before .before .before .before .entries-fit .ensures) (not-false _ (c .before .before .before .if2 .left))) (sym (c .before .is-bound .ensures) ∙ c .if3 .taken)
+returns-3 c =
+    let after-is-bound : tie.After-is-bound = search in
+    let else2 : tie.Else2 = search in
+    let after-entries-fit : tie.After-entries-fit = search in
+    let else1 : tie.Else1 = search in
+    let after-why-not-standing : tie.After-why-not-standing = search in
+    let start = start-from-after-why-not-standing after-why-not-standing in
+    let r = recordingOf (start .args .b) (start .args .code .now) (start .args .labels .now) (start .args .events .now) (start .args .uses .now) (start .args .refs .now) (start .args .constants .now) (start .args .asked .now) (start .args .relocs .now) in unfit-bound r _ _ (sym (after-why-not-standing .why-not-standing .ensures) ∙ else1 .if1 .left) (entries-read r _ true (after-entries-fit .entries-fit .ensures) (not-false _ (else2 .if2 .left))) (sym (after-is-bound .is-bound .ensures) ∙ c .if3 .taken)
 
 pool-end-requires : tie.Need-pool-end-requires
 pool-end-requires c κs =
-    let r = recordingOf (c .before .before .before .before .before .before .before .before .before .before .before .before .before .before .before .args .b) (c .before .before .before .before .before .before .before .before .before .before .before .before .before .before .before .args .code .now) (c .before .before .before .before .before .before .before .before .before .before .before .before .before .before .before .args .labels .now) (c .before .before .before .before .before .before .before .before .before .before .before .before .before .before .before .args .events .now) (c .before .before .before .before .before .before .before .before .before .before .before .before .before .before .before .args .uses .now) (c .before .before .before .before .before .before .before .before .before .before .before .before .before .before .before .args .refs .now) (c .before .before .before .before .before .before .before .before .before .before .before .before .before .before .before .args .constants .now) (c .before .before .before .before .before .before .before .before .before .before .before .before .before .before .before .args .asked .now) (c .before .before .before .before .before .before .before .before .before .before .before .before .before .before .before .args .relocs .now) in
-    (pool-fits r (sound r _ _ (sym (c .before .before .before .before .before .before .why-not-standing .ensures) ∙ c .before .before .before .before .before .if1 .left) (entries-read r _ true (c .before .before .before .before .entries-fit .ensures) (not-false _ (c .before .before .before .if2 .left)))) (asked-few r _ _ (sym (c .before .before .before .before .before .before .why-not-standing .ensures) ∙ c .before .before .before .before .before .if1 .left)), omega (arith, code-fits r _ _ (sym (c .before .before .before .before .before .before .why-not-standing .ensures) ∙ c .before .before .before .before .before .if1 .left) .limit))
+    let else2 : tie.Else2 = search in
+    let after-entries-fit : tie.After-entries-fit = search in
+    let else1 : tie.Else1 = search in
+    let after-why-not-standing : tie.After-why-not-standing = search in
+    let start = start-from-after-why-not-standing after-why-not-standing in
+    let r = recordingOf (start .args .b) (start .args .code .now) (start .args .labels .now) (start .args .events .now) (start .args .uses .now) (start .args .refs .now) (start .args .constants .now) (start .args .asked .now) (start .args .relocs .now) in
+    (pool-fits r (sound r _ _ (sym (after-why-not-standing .why-not-standing .ensures) ∙ else1 .if1 .left) (entries-read r _ true (after-entries-fit .entries-fit .ensures) (not-false _ (else2 .if2 .left)))) (asked-few r _ _ (sym (after-why-not-standing .why-not-standing .ensures) ∙ else1 .if1 .left)), omega (arith, code-fits r _ _ (sym (after-why-not-standing .why-not-standing .ensures) ∙ else1 .if1 .left) .limit))
 
 returns-4 : tie.Need-returns-4
-returns-4 c = let r = recordingOf (c .before .before .before .before .before .before .before .before .before .before .before .before .before .before .before .before .before .args .b) (c .before .before .before .before .before .before .before .before .before .before .before .before .before .before .before .before .before .args .code .now) (c .before .before .before .before .before .before .before .before .before .before .before .before .before .before .before .before .before .args .labels .now) (c .before .before .before .before .before .before .before .before .before .before .before .before .before .before .before .before .before .args .events .now) (c .before .before .before .before .before .before .before .before .before .before .before .before .before .before .before .before .before .args .uses .now) (c .before .before .before .before .before .before .before .before .before .before .before .before .before .before .before .before .before .args .refs .now) (c .before .before .before .before .before .before .before .before .before .before .before .before .before .before .before .before .before .args .constants .now) (c .before .before .before .before .before .before .before .before .before .before .before .before .before .before .before .before .before .args .asked .now) (c .before .before .before .before .before .before .before .before .before .before .before .before .before .before .before .before .before .args .relocs .now) in unfit-long r _ _ (sym (c .before .before .before .before .before .before .before .before .why-not-standing .ensures) ∙ c .before .before .before .before .before .before .before .if1 .left) (entries-read r _ true (c .before .before .before .before .before .before .entries-fit .ensures) (not-false _ (c .before .before .before .before .before .if2 .left))) (sym (c .before .before .before .is-bound .ensures) ∙ c .before .before .if3 .left) (omega (arith, c .if4 .taken, c .before .pool-end .ensures .0))
+returns-4 c =
+    let after-pool-end : tie.After-pool-end = search in
+    let else3 : tie.Else3 = search in
+    let after-is-bound : tie.After-is-bound = search in
+    let else2 : tie.Else2 = search in
+    let after-entries-fit : tie.After-entries-fit = search in
+    let else1 : tie.Else1 = search in
+    let after-why-not-standing : tie.After-why-not-standing = search in
+    let start = start-from-after-why-not-standing after-why-not-standing in
+    let r = recordingOf (start .args .b) (start .args .code .now) (start .args .labels .now) (start .args .events .now) (start .args .uses .now) (start .args .refs .now) (start .args .constants .now) (start .args .asked .now) (start .args .relocs .now) in unfit-long r _ _ (sym (after-why-not-standing .why-not-standing .ensures) ∙ else1 .if1 .left) (entries-read r _ true (after-entries-fit .entries-fit .ensures) (not-false _ (else2 .if2 .left))) (sym (after-is-bound .is-bound .ensures) ∙ else3 .if3 .left) (omega (arith, c .if4 .taken, after-pool-end .pool-end .ensures .0))
 
 returns-5 : tie.Need-returns-5
-returns-5 c = let r = recordingOf (c .before .before .before .before .before .before .before .before .before .before .before .before .before .before .before .before .before .args .b) (c .before .before .before .before .before .before .before .before .before .before .before .before .before .before .before .before .before .args .code .now) (c .before .before .before .before .before .before .before .before .before .before .before .before .before .before .before .before .before .args .labels .now) (c .before .before .before .before .before .before .before .before .before .before .before .before .before .before .before .before .before .args .events .now) (c .before .before .before .before .before .before .before .before .before .before .before .before .before .before .before .before .before .args .uses .now) (c .before .before .before .before .before .before .before .before .before .before .before .before .before .before .before .before .before .args .refs .now) (c .before .before .before .before .before .before .before .before .before .before .before .before .before .before .before .before .before .args .constants .now) (c .before .before .before .before .before .before .before .before .before .before .before .before .before .before .before .before .before .args .asked .now) (c .before .before .before .before .before .before .before .before .before .before .before .before .before .before .before .before .before .args .relocs .now) in unfit-none r _ _ (sym (c .before .before .before .before .before .before .before .before .why-not-standing .ensures) ∙ c .before .before .before .before .before .before .before .if1 .left) (entries-read r _ true (c .before .before .before .before .before .before .entries-fit .ensures) (not-false _ (c .before .before .before .before .before .if2 .left))) (sym (c .before .before .before .is-bound .ensures) ∙ c .before .before .if3 .left) (omega (arith, c .if4 .left, c .before .pool-end .ensures .0))
+returns-5 c =
+    let after-pool-end : tie.After-pool-end = search in
+    let else3 : tie.Else3 = search in
+    let after-is-bound : tie.After-is-bound = search in
+    let else2 : tie.Else2 = search in
+    let after-entries-fit : tie.After-entries-fit = search in
+    let else1 : tie.Else1 = search in
+    let after-why-not-standing : tie.After-why-not-standing = search in
+    let start = start-from-after-why-not-standing after-why-not-standing in
+    let r = recordingOf (start .args .b) (start .args .code .now) (start .args .labels .now) (start .args .events .now) (start .args .uses .now) (start .args .refs .now) (start .args .constants .now) (start .args .asked .now) (start .args .relocs .now) in unfit-none r _ _ (sym (after-why-not-standing .why-not-standing .ensures) ∙ else1 .if1 .left) (entries-read r _ true (after-entries-fit .entries-fit .ensures) (not-false _ (else2 .if2 .left))) (sym (after-is-bound .is-bound .ensures) ∙ else3 .if3 .left) (omega (arith, c .if4 .left, after-pool-end .pool-end .ensures .0))
 
 pub why-unfit-spec : {M : Type 1} → statement M
 why-unfit-spec =

@@ -20,23 +20,33 @@ loop-holds : tie.Need-loop-holds Inv-loop μ-loop
 loop-holds c = between-all _ _ _
 
 segment-at-requires : tie.Need-segment-at-requires Inv-loop μ-loop
-segment-at-requires c κs = omega (arith, c .before .before .pre .fits, c .before .loop .inv .within)
+segment-at-requires c κs =
+    let at-loop : tie.At-loop Inv-loop μ-loop = search in
+    let start' : tie.Start Inv-loop μ-loop = search in
+    omega (arith, start' .pre .fits, at-loop .loop .inv .within)
 
 loop-again : tie.Need-loop-again Inv-loop μ-loop
 loop-again c =
-    let l = c .before .before .before .before .loop in
-    let start = ap (λ (s : Segment). s .«old_start») (c .before .before .segment-at .ensures) in
-    between-right _ _ _ (c .before .before .before .before .before .pre) _ _ _ (l .inv) (omega arith) (omega arith) (omega (arith, start, c .if1 .taken))
+    let after-segment-at : tie.After-segment-at Inv-loop μ-loop = search in
+    let at-loop : tie.At-loop Inv-loop μ-loop = search in
+    let start' : tie.Start Inv-loop μ-loop = search in
+    let l = at-loop .loop in
+    let start = ap (λ (s : Segment). s .«old_start») (after-segment-at .segment-at .ensures) in
+    between-right _ _ _ (start' .pre) _ _ _ (l .inv) (omega arith) (omega arith) (omega (arith, start, c .if1 .taken))
 
 loop-again-2 : tie.Need-loop-again-2 Inv-loop μ-loop
 loop-again-2 c =
-    let l = c .before .before .before .before .loop in
-    let start = ap (λ (s : Segment). s .«old_start») (c .before .before .segment-at .ensures) in
-    between-left _ _ _ (c .before .before .before .before .before .pre) _ _ _ (l .inv) (omega arith) (omega arith) (omega (arith, start, c .if1 .left))
+    let after-segment-at : tie.After-segment-at Inv-loop μ-loop = search in
+    let at-loop : tie.At-loop Inv-loop μ-loop = search in
+    let start' : tie.Start Inv-loop μ-loop = search in
+    let l = at-loop .loop in
+    let start = ap (λ (s : Segment). s .«old_start») (after-segment-at .segment-at .ensures) in
+    between-left _ _ _ (start' .pre) _ _ _ (l .inv) (omega arith) (omega arith) (omega (arith, start, c .if1 .left))
 
 returns : tie.Need-returns Inv-loop μ-loop
 returns c =
-    let e : c .before .loop .high ≡ c .before .loop .low = omega (arith, c .before .loop .inv .order) in rw e at (c .before .loop .inv)
+    let at-loop : tie.At-loop Inv-loop μ-loop = search in
+    let e : at-loop .loop .high ≡ at-loop .loop .low = omega (arith, at-loop .loop .inv .order) in rw e at (at-loop .loop .inv)
 
 pub find-spec : {M : Type 1} → statement M
 find-spec =

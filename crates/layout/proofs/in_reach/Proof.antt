@@ -9,11 +9,15 @@ use Rattle.layout.proofs.in_reach.Tie as tie
 
 returns : tie.Need-returns
 unfolding reaches
-returns c = rw (le-leb (c .before .args .end) (c .before .args .label + 128) (c .if1 .taken), reaches) refl
+returns c =
+    let start : tie.Start = search in
+    rw (le-leb (start .args .end) (start .args .label + 128) (c .if1 .taken), reaches) refl
 
 returns-2 : tie.Need-returns-2
 unfolding reaches
-returns-2 c = rw (lt-leb (c .before .args .end) (c .before .args .label + 128) (c .if1 .left), reaches) refl
+returns-2 c =
+    let start : tie.Start = search in
+    rw (lt-leb (start .args .end) (start .args .label + 128) (c .if1 .left), reaches) refl
 
 pub in-reach-spec : {M : Type 1} → statement M
 in-reach-spec = tie.close (tie.spec (λ c. search needs) (λ c. search needs) returns returns-2)

@@ -7,11 +7,16 @@ use Rattle.layout.proofs.is_far.Tie as tie
 
 returns : tie.Need-returns
 unfolding isFar
-returns c = rw (c .before .enum-told .given .1, c .if1 .taken) refl
+returns c =
+    let after-enum-told : tie.After-enum-told = search in
+    rw (after-enum-told .enum-told .given .1, c .if1 .taken) refl
 
 returns-2 : tie.Need-returns-2
 unfolding isFar
-returns-2 c = rw (c .before .before .enum-told .given .1, c .before .if1 .left, ← c .in-reach .ensures) refl
+returns-2 c =
+    let else1 : tie.Else1 = search in
+    let after-enum-told : tie.After-enum-told = search in
+    rw (after-enum-told .enum-told .given .1, else1 .if1 .left, ← c .in-reach .ensures) refl
 
 returns-3 : tie.Need-returns-3
 unfolding isFar

@@ -10,30 +10,41 @@ use Rattle.layout.proofs.layout.Statement.{statement}
 use Rattle.layout.proofs.layout.Proof.Tie as tie
 
 layout-events-requires : tie.Need-layout-events-requires
-layout-events-requires c κs = (recorded-more _ _ _ (c .before .before .before .before .before .pre .0), (omega arith, omega arith, omega arith))
+layout-events-requires c κs =
+    let start : tie.Start = search in
+    (recorded-more _ _ _ (start .pre .0), (omega arith, omega arith, omega arith))
 
 sub-new : tie.Need-sub-new
 sub-new c =
-    let p = c .before .before .before .before .before .before .before .before .pre .0 in
-    (events-end _ _ _ _ _ _ _ _ p (omega arith) (c .before .before .layout-events .ensures)) .0
+    let after-layout-events : tie.After-layout-events = search in
+    let start : tie.Start = search in
+    let p = start .pre .0 in
+    (events-end _ _ _ _ _ _ _ _ p (omega arith) (after-layout-events .layout-events .ensures)) .0
 
 add-new : tie.Need-add-new
 add-new c =
-    let p = c .before .before .before .before .before .before .before .before .before .pre .0 in
-    omega (arith, (events-end _ _ _ _ _ _ _ _ p (omega arith) (c .before .before .before .layout-events .ensures)) .1)
+    let after-layout-events : tie.After-layout-events = search in
+    let start : tie.Start = search in
+    let p = start .pre .0 in
+    omega (arith, (events-end _ _ _ _ _ _ _ _ p (omega arith) (after-layout-events .layout-events .ensures)) .1)
 
 layout-pool-requires : tie.Need-layout-pool-requires
 layout-pool-requires c κs =
-    let p = c .before .before .before .before .before .before .before .before .before .before .pre in
-    let end = events-end _ _ _ _ _ _ _ _ (p .0) (omega arith) (c .before .before .before .before .layout-events .ensures) in
+    let after-layout-events : tie.After-layout-events = search in
+    let start : tie.Start = search in
+    let p = start .pre in
+    let end = events-end _ _ _ _ _ _ _ _ (p .0) (omega arith) (after-layout-events .layout-events .ensures) in
     (p .1 .0, (omega arith, omega arith, omega (arith, p .0 .small), end .1))
 
 returns : tie.Need-returns
 returns c =
-    let p = c .before .before .before .before .before .before .before .before .before .before .before .before .pre .0 in
-    let a = c .before .before .before .before .before .before .before .before .before .before .before .before .args in
-    let laid = c .before .before .before .before .before .before .layout-events .ensures in
-    let made = c .before .layout-pool .ensures in
+    let after-layout-pool : tie.After-layout-pool = search in
+    let after-layout-events : tie.After-layout-events = search in
+    let start : tie.Start = search in
+    let p = start .pre .0 in
+    let a = start .args in
+    let laid = after-layout-events .layout-events .ensures in
+    let made = after-layout-pool .layout-pool .ensures in
     let low = (events-end _ _ _ _ _ _ _ _ p (omega arith) laid) .0 in (
       segments-join (a .events .now) (a .n) (a .code) (a .constants .now) (a .asked .now) (a .long .now) _ _ _ (laid .here) low refl
           _ _ _ (a .m) (laid .table) (made .0),

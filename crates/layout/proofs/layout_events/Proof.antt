@@ -24,24 +24,38 @@ loop-holds : tie.Need-loop-holds Inv-loop μ-loop
 loop-holds c = (omega arith, refl, laid-none _ _)
 
 event-at-requires : tie.Need-event-at-requires Inv-loop μ-loop
-event-at-requires c κs = omega (arith, c .before .before .before .before .pre .0 .room)
+event-at-requires c κs =
+    let start : tie.Start Inv-loop μ-loop = search in
+    omega (arith, start .pre .0 .room)
 
 next-segment-requires : tie.Need-next-segment-requires Inv-loop μ-loop
 next-segment-requires c κs =
-    let p = c .before .before .before .before .before .before .pre in
-    rw (c .before .event-at .ensures) (event-follows _ _ _ _ _ _ _ _ _ (p .0) (p .1 .0) (c .before .before .before .loop .inv .2) (c .before .before .loop-test .taken))
+    let after-event-at : tie.After-event-at Inv-loop μ-loop = search in
+    let in-loop : tie.In-loop Inv-loop μ-loop = search in
+    let at-loop : tie.At-loop Inv-loop μ-loop = search in
+    let start : tie.Start Inv-loop μ-loop = search in
+    let p = start .pre in
+    rw (after-event-at .event-at .ensures) (event-follows _ _ _ _ _ _ _ _ _ (p .0) (p .1 .0) (at-loop .loop .inv .2) (in-loop .loop-test .taken))
 
 loop-again : tie.Need-loop-again Inv-loop μ-loop
 loop-again c =
-    let p = c .before .before .before .before .before .before .before .before .before .before .pre in
-    let l = c .before .before .before .before .before .before .before .loop in
-    let s = rw (c .before .before .before .before .before .event-at .ensures) at (c .before .before .before .next-segment .ensures) in
-    let next = event-laid _ _ _ _ _ _ _ _ _ (p .0) (p .1 .0) (l .inv .2) (c .before .before .before .before .before .before .loop-test .taken) _ s in
-    (omega arith, c .before .put-segment .kept .0 ∙ l .inv .1, rw (add-one (l .i), c .before .put-segment .ensures) next)
+    let after-put-segment : tie.After-put-segment Inv-loop μ-loop = search in
+    let after-next-segment : tie.After-next-segment Inv-loop μ-loop = search in
+    let after-event-at : tie.After-event-at Inv-loop μ-loop = search in
+    let in-loop : tie.In-loop Inv-loop μ-loop = search in
+    let at-loop : tie.At-loop Inv-loop μ-loop = search in
+    let start : tie.Start Inv-loop μ-loop = search in
+    let p = start .pre in
+    let l = at-loop .loop in
+    let s = rw (after-event-at .event-at .ensures) at (after-next-segment .next-segment .ensures) in
+    let next = event-laid _ _ _ _ _ _ _ _ _ (p .0) (p .1 .0) (l .inv .2) (in-loop .loop-test .taken) _ s in
+    (omega arith, after-put-segment .put-segment .kept .0 ∙ l .inv .1, rw (add-one (l .i), after-put-segment .put-segment .ensures) next)
 
 returns : tie.Need-returns Inv-loop μ-loop
 returns c =
-    let e : c .before .loop .i ≡ c .before .before .before .before .args .n = omega arith in rw e at (c .before .loop .inv .2)
+    let at-loop : tie.At-loop Inv-loop μ-loop = search in
+    let start : tie.Start Inv-loop μ-loop = search in
+    let e : at-loop .loop .i ≡ start .args .n = omega arith in rw e at (at-loop .loop .inv .2)
 
 pub layout-events-spec : {M : Type 1} → statement M
 layout-events-spec =

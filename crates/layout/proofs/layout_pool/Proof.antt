@@ -22,52 +22,86 @@ loop-holds c = (omega arith, refl, pool-none _ _ _ _ _ _)
 
 size-at-requires : tie.Need-size-at-requires Inv-loop μ-loop
 size-at-requires c κs =
-    let f = c .before .before .before .before .pre .0 in (omega (arith, f .room), f .listed (c .before .loop .j) (c .loop-test .taken))
+    let at-loop : tie.At-loop Inv-loop μ-loop = search in
+    let start' : tie.Start Inv-loop μ-loop = search in
+    let f = start' .pre .0 in (omega (arith, f .room), f .listed (at-loop .loop .j) (c .loop-test .taken))
 
 add-old-end : tie.Need-add-old-end Inv-loop μ-loop
 add-old-end c =
-    let l = c .before .before .before .before .loop in
-    let f = c .before .before .before .before .before .before .before .pre .0 in
-    omega (arith, l .inv .2 .near, f .few, pool-padding _ (c .before .before .size-at .result) _ _ (c .before .constant-alignment .ensures) (c .padding-len .ensures))
+    let after-constant-alignment : tie.After-constant-alignment Inv-loop μ-loop = search in
+    let after-size-at : tie.After-size-at Inv-loop μ-loop = search in
+    let at-loop : tie.At-loop Inv-loop μ-loop = search in
+    let start' : tie.Start Inv-loop μ-loop = search in
+    let l = at-loop .loop in
+    let f = start' .pre .0 in
+    omega (arith, l .inv .2 .near, f .few, pool-padding _ (after-size-at .size-at .result) _ _ (after-constant-alignment .constant-alignment .ensures) (c .padding-len .ensures))
 
 add-new-end : tie.Need-add-new-end Inv-loop μ-loop
 add-new-end c =
-    let l = c .before .before .before .before .before .loop in
-    let f = c .before .before .before .before .before .before .before .before .pre .0 in
-    omega (arith, l .inv .2 .small, f .few, pool-padding _ (c .before .before .before .size-at .result) _ _ (c .before .before .constant-alignment .ensures) (c .padding-len2 .ensures))
+    let after-constant-alignment : tie.After-constant-alignment Inv-loop μ-loop = search in
+    let after-size-at : tie.After-size-at Inv-loop μ-loop = search in
+    let at-loop : tie.At-loop Inv-loop μ-loop = search in
+    let start' : tie.Start Inv-loop μ-loop = search in
+    let l = at-loop .loop in
+    let f = start' .pre .0 in
+    omega (arith, l .inv .2 .small, f .few, pool-padding _ (after-size-at .size-at .result) _ _ (after-constant-alignment .constant-alignment .ensures) (c .padding-len2 .ensures))
 
 add-put-segment : tie.Need-add-put-segment Inv-loop μ-loop
-add-put-segment c = omega (arith, c .before .before .before .before .before .before .before .before .before .pre .0 .few)
+add-put-segment c =
+    let start' : tie.Start Inv-loop μ-loop = search in
+    omega (arith, start' .pre .0 .few)
 
 add-from : tie.Need-add-from Inv-loop μ-loop
 add-from c =
-    let l = c .before .before .before .before .before .before .before .before .loop in
-    let f = c .before .before .before .before .before .before .before .before .before .before .before .pre .0 in
-    let n = c .before .before .before .before .before .before .size-at in
-    let pad = pool-padding _ (n .result) _ _ (c .before .before .before .before .before .constant-alignment .ensures) (c .before .before .before .before .padding-len .ensures) in
-    omega (arith, l .inv .2 .near, f .few, pad, n .ensures, f .sized (l .j) (c .before .before .before .before .before .before .before .loop-test .taken))
+    let after-padding-len : tie.After-padding-len Inv-loop μ-loop = search in
+    let after-constant-alignment : tie.After-constant-alignment Inv-loop μ-loop = search in
+    let after-size-at : tie.After-size-at Inv-loop μ-loop = search in
+    let in-loop : tie.In-loop Inv-loop μ-loop = search in
+    let at-loop : tie.At-loop Inv-loop μ-loop = search in
+    let start' : tie.Start Inv-loop μ-loop = search in
+    let l = at-loop .loop in
+    let f = start' .pre .0 in
+    let n = after-size-at .size-at in
+    let pad = pool-padding _ (n .result) _ _ (after-constant-alignment .constant-alignment .ensures) (after-padding-len .padding-len .ensures) in
+    omega (arith, l .inv .2 .near, f .few, pad, n .ensures, f .sized (l .j) (in-loop .loop-test .taken))
 
 add-to : tie.Need-add-to Inv-loop μ-loop
 add-to c =
-    let l = c .before .before .before .before .before .before .before .before .loop in
-    let f = c .before .before .before .before .before .before .before .before .before .before .before .pre .0 in
-    let n = c .before .before .before .before .before .before .size-at in
-    let pad = pool-padding _ (n .result) _ _ (c .before .before .before .before .before .constant-alignment .ensures) (c .before .before .before .padding-len2 .ensures) in
-    omega (arith, l .inv .2 .small, f .few, pad, n .ensures, f .sized (l .j) (c .before .before .before .before .before .before .before .loop-test .taken))
+    let after-padding-len2 : tie.After-padding-len2 Inv-loop μ-loop = search in
+    let after-constant-alignment : tie.After-constant-alignment Inv-loop μ-loop = search in
+    let after-size-at : tie.After-size-at Inv-loop μ-loop = search in
+    let in-loop : tie.In-loop Inv-loop μ-loop = search in
+    let at-loop : tie.At-loop Inv-loop μ-loop = search in
+    let start' : tie.Start Inv-loop μ-loop = search in
+    let l = at-loop .loop in
+    let f = start' .pre .0 in
+    let n = after-size-at .size-at in
+    let pad = pool-padding _ (n .result) _ _ (after-constant-alignment .constant-alignment .ensures) (after-padding-len2 .padding-len2 .ensures) in
+    omega (arith, l .inv .2 .small, f .few, pad, n .ensures, f .sized (l .j) (in-loop .loop-test .taken))
 
 loop-again : tie.Need-loop-again Inv-loop μ-loop
 loop-again c =
-    let l = c .before .before .before .before .before .before .before .before .loop in
-    let multiple = c .before .before .before .before .before .constant-alignment .ensures in
-    let one = rw multiple at (c .before .before .before .before .padding-len .ensures) in
-    let two = rw multiple at (c .before .before .before .padding-len2 .ensures) in
-    let next = pool-more _ _ _ _ _ _ _ _ _ _ _ (l .inv .2) (c .before .before .before .before .before .before .before .before .before .before .before .pre .0) (c .before .before .before .before .before .before .before .loop-test .taken) _ _ _ (c .before .before .before .before .before .before .size-at .ensures) one two in
-    (omega arith, c .before .put-segment .kept .0 ∙ l .inv .1, rw (add-one (l .j), c .before .put-segment .ensures) next)
+    let after-put-segment : tie.After-put-segment Inv-loop μ-loop = search in
+    let after-padding-len2 : tie.After-padding-len2 Inv-loop μ-loop = search in
+    let after-padding-len : tie.After-padding-len Inv-loop μ-loop = search in
+    let after-constant-alignment : tie.After-constant-alignment Inv-loop μ-loop = search in
+    let after-size-at : tie.After-size-at Inv-loop μ-loop = search in
+    let in-loop : tie.In-loop Inv-loop μ-loop = search in
+    let at-loop : tie.At-loop Inv-loop μ-loop = search in
+    let start' : tie.Start Inv-loop μ-loop = search in
+    let l = at-loop .loop in
+    let multiple = after-constant-alignment .constant-alignment .ensures in
+    let one = rw multiple at (after-padding-len .padding-len .ensures) in
+    let two = rw multiple at (after-padding-len2 .padding-len2 .ensures) in
+    let next = pool-more _ _ _ _ _ _ _ _ _ _ _ (l .inv .2) (start' .pre .0) (in-loop .loop-test .taken) _ _ _ (after-size-at .size-at .ensures) one two in
+    (omega arith, after-put-segment .put-segment .kept .0 ∙ l .inv .1, rw (add-one (l .j), after-put-segment .put-segment .ensures) next)
 
 returns : tie.Need-returns Inv-loop μ-loop
 returns c =
-    let e : c .before .loop .j ≡ c .before .before .before .before .args .m = omega arith in
-    let q = c .before .loop .inv .2 in
+    let at-loop : tie.At-loop Inv-loop μ-loop = search in
+    let start' : tie.Start Inv-loop μ-loop = search in
+    let e : at-loop .loop .j ≡ start' .args .m = omega arith in
+    let q = at-loop .loop .inv .2 in
     rw (← e) (q .table, rw (← q .start) (q .sum))
 
 pub layout-pool-spec : {M : Type 1} → statement M

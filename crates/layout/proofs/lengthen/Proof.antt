@@ -26,31 +26,51 @@ loop-holds : tie.Need-loop-holds Inv-loop μ-loop
 loop-holds c = (omega arith, refl, scanned-none _ _)
 
 event-at-requires : tie.Need-event-at-requires Inv-loop μ-loop
-event-at-requires c κs = omega (arith, c .before .before .before .before .before .pre)
+event-at-requires c κs =
+    let start : tie.Start Inv-loop μ-loop = search in
+    omega (arith, start .pre)
 
 segment-at-requires : tie.Need-segment-at-requires Inv-loop μ-loop
-segment-at-requires c κs = omega (arith, c .before .before .before .before .before .before .pre .0 .fits)
+segment-at-requires c κs =
+    let start : tie.Start Inv-loop μ-loop = search in
+    omega (arith, start .pre .0 .fits)
 
 sought-requires : tie.Need-sought-requires Inv-loop μ-loop
 sought-requires c κs =
-    let known = c .before .before .before .before .before .before .before .before .pre .1 .0 .known (c .before .before .before .before .loop .i) (c .before .before .before .loop-test .taken) in
-    rw (c .before .before .event-at .ensures) known
+    let after-event-at : tie.After-event-at Inv-loop μ-loop = search in
+    let in-loop : tie.In-loop Inv-loop μ-loop = search in
+    let at-loop : tie.At-loop Inv-loop μ-loop = search in
+    let start : tie.Start Inv-loop μ-loop = search in
+    let known = start .pre .1 .0 .known (at-loop .loop .i) (in-loop .loop-test .taken) in
+    rw (after-event-at .event-at .ensures) known
 
 map-requires : tie.Need-map-requires Inv-loop μ-loop
 map-requires c κs =
-    let p = c .before .before .before .before .before .before .before .before .before .pre in
-    let known = p .1 .0 .known (c .before .before .before .before .before .loop .i) (c .before .before .before .before .loop-test .taken) in
-    (p .0, rw (c .sought .ensures, c .before .before .before .event-at .ensures) (sought-small _ _ _ known))
+    let after-event-at : tie.After-event-at Inv-loop μ-loop = search in
+    let in-loop : tie.In-loop Inv-loop μ-loop = search in
+    let at-loop : tie.At-loop Inv-loop μ-loop = search in
+    let start : tie.Start Inv-loop μ-loop = search in
+    let p = start .pre in
+    let known = p .1 .0 .known (at-loop .loop .i) (in-loop .loop-test .taken) in
+    (p .0, rw (c .sought .ensures, after-event-at .event-at .ensures) (sought-small _ _ _ known))
 
 loop-again : tie.Need-loop-again Inv-loop μ-loop
 loop-again c =
-    let a = c .before .before .before .before .before .before .before .before .before .before .before .before .args in
-    let l = c .before .before .before .before .before .before .before .before .loop in
-    let more = c .before .before .before .before .before .before .before .loop-test .taken in
+    let after-is-far : tie.After-is-far Inv-loop μ-loop = search in
+    let after-map : tie.After-map Inv-loop μ-loop = search in
+    let after-sought : tie.After-sought Inv-loop μ-loop = search in
+    let after-segment-at : tie.After-segment-at Inv-loop μ-loop = search in
+    let after-event-at : tie.After-event-at Inv-loop μ-loop = search in
+    let in-loop : tie.In-loop Inv-loop μ-loop = search in
+    let at-loop : tie.At-loop Inv-loop μ-loop = search in
+    let start : tie.Start Inv-loop μ-loop = search in
+    let a = start .args in
+    let l = at-loop .loop in
+    let more = in-loop .loop-test .taken in
     let at = wordAt (a .labels .now) in
-    let target = c .before .before .map .ensures ∙ ap (mapOffset (take (a .n + a .m) (a .segments .now))) (c .before .before .before .sought .ensures) in
-    let far = c .before .is-far .ensures ∙ far-sought (mapOffset (take (a .n + a .m) (a .segments .now))) at _ _ _ _ target in
-    let said = rw (c .before .before .before .before .before .before .event-at .ensures, c .before .before .before .before .before .segment-at .ensures) at far in
+    let target = after-map .map .ensures ∙ ap (mapOffset (take (a .n + a .m) (a .segments .now))) (after-sought .sought .ensures) in
+    let far = after-is-far .is-far .ensures ∙ far-sought (mapOffset (take (a .n + a .m) (a .segments .now))) at _ _ _ _ target in
+    let said = rw (after-event-at .event-at .ensures, after-segment-at .segment-at .ensures) at far in
     ⊎-elim
     (λ w.
     let next = scan-mark _ at _ (a .n) (a .n + a .m) _ (omega arith) (l .i) _ _ (l .inv .2) more _ said _ _ (w .0 .taken) (w .1) (w .2) in
@@ -62,9 +82,11 @@ loop-again c =
 
 returns : tie.Need-returns Inv-loop μ-loop
 returns c =
-    let a = c .before .before .before .before .before .args in
-    let e : c .before .loop .i ≡ a .n = omega arith in
-    scan-all _ (wordAt (a .labels .now)) _ (a .n) (a .n + a .m) _ (omega arith) _ _ (rw e at (c .before .loop .inv .2))
+    let at-loop : tie.At-loop Inv-loop μ-loop = search in
+    let start : tie.Start Inv-loop μ-loop = search in
+    let a = start .args in
+    let e : at-loop .loop .i ≡ a .n = omega arith in
+    scan-all _ (wordAt (a .labels .now)) _ (a .n) (a .n + a .m) _ (omega arith) _ _ (rw e at (at-loop .loop .inv .2))
 
 pub lengthen-spec : {M : Type 1} → statement M
 lengthen-spec =

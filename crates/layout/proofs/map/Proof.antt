@@ -12,23 +12,36 @@ returns : tie.Need-returns
 returns c = map-none _ _ (c .if1 .taken)
 
 returns-2 : tie.Need-returns-2
-returns-2 c = found-none _ _ _ (c .before .before .before .pre .0) _ (c .before .find .ensures) (c .before .before .if1 .left) (c .if2 .taken)
+returns-2 c =
+    let after-find : tie.After-find = search in
+    let else1 : tie.Else1 = search in
+    let start : tie.Start = search in
+    found-none _ _ _ (start .pre .0) _ (after-find .find .ensures) (else1 .if1 .left) (c .if2 .taken)
 
 place-requires : tie.Need-place-requires
 place-requires c κs =
-    let p = c .before .before .before .before .pre in
-    let b = c .before .before .find .ensures in
-    let k = c .before .before .find .result in
+    let else2 : tie.Else2 = search in
+    let after-find : tie.After-find = search in
+    let else1 : tie.Else1 = search in
+    let start : tie.Start = search in
+    let p = start .pre in
+    let b = after-find .find .ensures in
+    let k = after-find .find .result in
     let s = c .segment-at .ensures in
-    let w : k - 1 < c .before .before .before .before .args .n = omega (arith, b .within, c .before .if2 .left) in
+    let w : k - 1 < start .args .n = omega (arith, b .within, else2 .if2 .left) in
     let small = p .0 .small (k - 1) w in
-    rw s (b .under (k - 1) (omega (arith, c .before .if2 .left)), p .1 (c .before .before .before .if1 .left), small .0, small .1)
+    rw s (b .under (k - 1) (omega (arith, else2 .if2 .left)), p .1 (else1 .if1 .left), small .0, small .1)
 
 returns-3 : tie.Need-returns-3
 returns-3 c =
-    let p = c .before .before .before .before .before .pre .0 in
-    let found = found-last _ _ _ p _ (c .before .before .before .find .ensures) (c .before .before .before .before .if1 .left) (c .before .before .if2 .left) in
-    c .place .ensures ∙ rw (c .before .segment-at .ensures) found
+    let after-segment-at : tie.After-segment-at = search in
+    let else2 : tie.Else2 = search in
+    let after-find : tie.After-find = search in
+    let else1 : tie.Else1 = search in
+    let start : tie.Start = search in
+    let p = start .pre .0 in
+    let found = found-last _ _ _ p _ (after-find .find .ensures) (else1 .if1 .left) (else2 .if2 .left) in
+    c .place .ensures ∙ rw (after-segment-at .segment-at .ensures) found
 
 pub map-spec : {M : Type 1} → statement M
 map-spec =

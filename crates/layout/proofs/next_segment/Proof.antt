@@ -9,13 +9,18 @@ use Rattle.layout.proofs.next_segment.Tie as tie
 
 add-t10 : tie.Need-add-t10
 add-t10 c =
-    let a = c .before .before .before .args in
-    let p = c .before .before .before .pre in
-    let at = a .new + (c .before .before .start-of .result - a .old) in
-    omega (arith, p .small, c .before .before .start-of .ensures, c .width-of .ensures, width-le (a .event) (a .long) at (p .modest))
+    let after-start-of : tie.After-start-of = search in
+    let start : tie.Start = search in
+    let a = start .args in
+    let p = start .pre in
+    let at = a .new + (after-start-of .start-of .result - a .old) in
+    omega (arith, p .small, after-start-of .start-of .ensures, c .width-of .ensures, width-le (a .event) (a .long) at (p .modest))
 
 returns : tie.Need-returns
-returns c = rw (c .width-of .ensures, c .before .event-end .ensures, c .before .before .start-of .ensures) refl
+returns c =
+    let after-event-end : tie.After-event-end = search in
+    let after-start-of : tie.After-start-of = search in
+    rw (c .width-of .ensures, after-event-end .event-end .ensures, after-start-of .start-of .ensures) refl
 
 pub next-segment-spec : {M : Type 1} → statement M
 next-segment-spec =

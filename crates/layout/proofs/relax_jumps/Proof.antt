@@ -23,61 +23,81 @@ abbrev μ-loop : tie.MeasureT-loop
 
 loop-holds : tie.Need-loop-holds Inv-loop μ-loop
 loop-holds c =
-    let a = c .before .before .before .before .before .args in
-    (refl, refl, standing-none _ _ _ _ _ (length-all (a .events .now) (a .n) (a .code) (a .constants .now) (a .asked .now) (a .m)) (c .before .before .before .before .before .pre .1 .1 .1 .2))
+    let start : tie.Start Inv-loop μ-loop = search in
+    let a = start .args in
+    (refl, refl, standing-none _ _ _ _ _ (length-all (a .events .now) (a .n) (a .code) (a .constants .now) (a .asked .now) (a .m)) (start .pre .1 .1 .1 .2))
 
 layout-requires : tie.Need-layout-requires Inv-loop μ-loop
 layout-requires c κs =
-    let p = c .before .before .before .before .before .before .before .before .pre in
-    let a = c .before .before .before .before .before .before .before .before .args in
-    let l = c .before .before .loop in
+    let at-loop : tie.At-loop Inv-loop μ-loop = search in
+    let start : tie.Start Inv-loop μ-loop = search in
+    let p = start .pre in
+    let a = start .args in
+    let l = at-loop .loop in
     let size = length-all (a .events .now) (a .n) (a .code) (a .constants .now) (a .asked .now) (a .m) in
     (p .0, (p .1 .0, (omega arith, omega (arith, l .inv .0), omega (arith, l .inv .2 .sized, size))))
 
 add-layouts : tie.Need-add-layouts Inv-loop μ-loop
 add-layouts c =
-    let a = c .before .before .before .before .before .before .before .before .before .before .args in
+    let at-loop : tie.At-loop Inv-loop μ-loop = search in
+    let start : tie.Start Inv-loop μ-loop = search in
+    let a = start .args in
     let size = length-all (a .events .now) (a .n) (a .code) (a .constants .now) (a .asked .now) (a .m) in
-    omega (arith, layouts-few _ _ _ _ _ _ (c .before .before .before .before .loop .inv .2), size)
+    omega (arith, layouts-few _ _ _ _ _ _ (at-loop .loop .inv .2), size)
 
 lengthen-requires : tie.Need-lengthen-requires Inv-loop μ-loop
 lengthen-requires c κs =
-    let p = c .before .before .before .before .before .before .before .before .before .before .before .before .pre in
-    let a = c .before .before .before .before .before .before .before .before .before .before .before .before .args in
-    let l = c .before .before .before .before .before .before .loop in
+    let after-layout : tie.After-layout Inv-loop μ-loop = search in
+    let at-loop : tie.At-loop Inv-loop μ-loop = search in
+    let start : tie.Start Inv-loop μ-loop = search in
+    let p = start .pre in
+    let a = start .args in
+    let l = at-loop .loop in
     let size = length-all (a .events .now) (a .n) (a .code) (a .constants .now) (a .asked .now) (a .m) in
-    let laid = c .before .before .before .layout .ensures .0 in (
+    let laid = after-layout .layout .ensures .0 in (
       rising-all (a .events .now) (a .n) (a .code) (a .constants .now) (a .asked .now) (a .m) _ _ _ (p .0) (p .1 .0) (omega arith) (omega (arith, l .inv .0)) laid,
       (p .1 .1 .0, (omega arith, p .0 .room, omega (arith, l .inv .2 .sized, size))),
     )
 
 loop-less : tie.Need-loop-less Inv-loop μ-loop
 loop-less c =
-    let a = c .before .before .before .before .before .before .before .before .before .before .before .before .before .before .before .before .args in
-    let l = c .before .before .before .before .before .before .before .before .before .before .loop in
-    let scan = c .before .before .before .lengthen .ensures in
+    let after-lengthen : tie.After-lengthen Inv-loop μ-loop = search in
+    let after-layout : tie.After-layout Inv-loop μ-loop = search in
+    let at-loop : tie.At-loop Inv-loop μ-loop = search in
+    let start : tie.Start Inv-loop μ-loop = search in
+    let a = start .args in
+    let l = at-loop .loop in
+    let scan = after-lengthen .lengthen .ensures in
     let less =
     round-less (a .events .now) (a .n) (a .code) (a .constants .now) (a .asked .now) (a .m) _ _ _ _ _ (l .inv .2) (omega (arith, l .inv .0)) _ _ _
-    (c .before .before .before .before .before .before .before .layout .ensures .0) (scan .0) (scan .1) (not-false _ (c .if1 .left)) in
+    (after-layout .layout .ensures .0) (scan .0) (scan .1) (not-false _ (c .if1 .left)) in
     omega (arith, less)
 
 loop-again : tie.Need-loop-again Inv-loop μ-loop
 loop-again c =
-    let a = c .before .before .before .before .before .before .before .before .before .before .before .before .before .before .before .before .args in
-    let l = c .before .before .before .before .before .before .before .before .before .before .loop in
-    let scan = c .before .before .before .lengthen .ensures in
+    let after-lengthen : tie.After-lengthen Inv-loop μ-loop = search in
+    let after-layout : tie.After-layout Inv-loop μ-loop = search in
+    let at-loop : tie.At-loop Inv-loop μ-loop = search in
+    let start : tie.Start Inv-loop μ-loop = search in
+    let a = start .args in
+    let l = at-loop .loop in
+    let scan = after-lengthen .lengthen .ensures in
     let next =
     round-more (a .events .now) (a .n) (a .code) (a .constants .now) (a .asked .now) (a .m) _ _ _ _ _ (l .inv .2) (omega (arith, l .inv .0)) _ _ _
-    (c .before .before .before .before .before .before .before .layout .ensures .0) (scan .0) (scan .1) (not-false _ (c .if1 .left)) in
-    (c .before .before .before .before .before .before .before .layout .kept .0 ∙ l .inv .0, c .before .before .before .lengthen .kept .1 .1 .1 .0 ∙ l .inv .1, next)
+    (after-layout .layout .ensures .0) (scan .0) (scan .1) (not-false _ (c .if1 .left)) in
+    (after-layout .layout .kept .0 ∙ l .inv .0, after-lengthen .lengthen .kept .1 .1 .1 .0 ∙ l .inv .1, next)
 
 returns : tie.Need-returns Inv-loop μ-loop
 returns c =
-    let a = c .before .before .before .before .before .before .before .before .before .before .before .before .before .before .before .before .args in
-    let l = c .before .before .before .before .before .before .before .before .before .before .loop in
-    let scan = c .before .before .before .lengthen .ensures in
+    let after-lengthen : tie.After-lengthen Inv-loop μ-loop = search in
+    let after-layout : tie.After-layout Inv-loop μ-loop = search in
+    let at-loop : tie.At-loop Inv-loop μ-loop = search in
+    let start : tie.Start Inv-loop μ-loop = search in
+    let a = start .args in
+    let l = at-loop .loop in
+    let scan = after-lengthen .lengthen .ensures in
     round-done (a .events .now) (a .n) (a .code) (a .constants .now) (a .asked .now) (a .m) _ _ _ _ _ (l .inv .2) (omega (arith, l .inv .0)) _ _ _
-    (c .before .before .before .before .before .before .before .layout .ensures .0) (scan .0) (scan .1) (not-true _ (c .if1 .taken)) _ _ (c .before .before .before .before .before .before .before .layout .ensures .1)
+    (after-layout .layout .ensures .0) (scan .0) (scan .1) (not-true _ (c .if1 .taken)) _ _ (after-layout .layout .ensures .1)
 
 pub relax-jumps-spec : {M : Type 1} → statement M
 relax-jumps-spec =

@@ -7,14 +7,22 @@ use Rattle.layout.proofs.sought.Tie as tie
 
 returns : tie.Need-returns
 unfolding soughtBy
-returns c = rw (c .before .before .event .given .1, c .if1 .taken) refl
+returns c =
+    let after-event : tie.After-event = search in
+    rw (after-event .event .given .1, c .if1 .taken) refl
 
 word-at-requires : tie.Need-word-at-requires
-word-at-requires c κs = c .before .before .before .before .before .before .pre .room _ (c .before .before .before .event .given .1)
+word-at-requires c κs =
+    let after-event : tie.After-event = search in
+    let start : tie.Start = search in
+    start .pre .room _ (after-event .event .given .1)
 
 returns-2 : tie.Need-returns-2
 unfolding soughtBy
-returns-2 c = rw (c .before .before .before .before .event .given .1, c .before .before .if1 .left, ← c .word-at .ensures) refl
+returns-2 c =
+    let else1 : tie.Else1 = search in
+    let after-event : tie.After-event = search in
+    rw (after-event .event .given .1, else1 .if1 .left, ← c .word-at .ensures) refl
 
 returns-3 : tie.Need-returns-3
 unfolding soughtBy

@@ -8,15 +8,22 @@ use Rattle.layout.proofs.width_of.Tie as tie
 
 returns : tie.Need-returns
 unfolding size
-returns c = rw (c .before .before .before .event .given .1, c .before .if1 .taken, width-size) (c .long-size .ensures)
+returns c =
+    let then1 : tie.Then1 = search in
+    let after-event : tie.After-event = search in
+    rw (after-event .event .given .1, then1 .if1 .taken, width-size) (c .long-size .ensures)
 
 returns-2 : tie.Need-returns-2
 unfolding size
-returns-2 c = rw (c .before .before .event .given .1, c .if1 .left, width-size) refl
+returns-2 c =
+    let after-event : tie.After-event = search in
+    rw (after-event .event .given .1, c .if1 .left, width-size) refl
 
 returns-3 : tie.Need-returns-3
 unfolding size
-returns-3 c = rw (c .before .before .event2 .given .1, width-size) (c .padding-len .ensures)
+returns-3 c =
+    let after-event2 : tie.After-event2 = search in
+    rw (after-event2 .event2 .given .1, width-size) (c .padding-len .ensures)
 
 pub width-of-spec : {M : Type 1} → statement M
 width-of-spec =

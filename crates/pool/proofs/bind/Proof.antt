@@ -21,25 +21,56 @@ unfolding poolStart poolBound
 loop-holds c = (omega arith, refl, omega arith, refl, refl)
 
 size-at-requires : tie.Need-size-at-requires Inv-loop μ-loop
-size-at-requires c κs = omega (arith, c .before .before .before .before .before .pre .0 .listed _ (c .loop-test .taken))
+size-at-requires c κs =
+    let start : tie.Start Inv-loop μ-loop = search in
+    omega (arith, start .pre .0 .listed _ (c .loop-test .taken))
 
 label-at-requires : tie.Need-label-at-requires Inv-loop μ-loop
-label-at-requires c κs = omega (arith, c .before .before .before .before .before .before .pre .0 .listed _ (c .before .loop-test .taken))
+label-at-requires c κs =
+    let in-loop : tie.In-loop Inv-loop μ-loop = search in
+    let start : tie.Start Inv-loop μ-loop = search in
+    omega (arith, start .pre .0 .listed _ (in-loop .loop-test .taken))
 
 add-offset : tie.Need-add-offset Inv-loop μ-loop
-add-offset c = omega (arith, pad-small _ (c .before .before .before .size-at .result) _ _ (c .before .constant-alignment .ensures) (c .padding-len .ensures), c .before .before .before .before .before .before .before .before .before .pre .0 .few)
+add-offset c =
+    let after-constant-alignment : tie.After-constant-alignment Inv-loop μ-loop = search in
+    let after-size-at : tie.After-size-at Inv-loop μ-loop = search in
+    let start : tie.Start Inv-loop μ-loop = search in
+    omega (arith, pad-small _ (after-size-at .size-at .result) _ _ (after-constant-alignment .constant-alignment .ensures) (c .padding-len .ensures), start .pre .0 .few)
 
 put-word-requires : tie.Need-put-word-requires Inv-loop μ-loop
-put-word-requires c κs = omega (arith, c .before .before .before .before .before .before .before .before .before .before .pre .1 .0 .known _ (c .before .before .before .before .before .loop-test .taken), c .before .before .before .label-at .ensures)
+put-word-requires c κs =
+    let after-label-at : tie.After-label-at Inv-loop μ-loop = search in
+    let in-loop : tie.In-loop Inv-loop μ-loop = search in
+    let start : tie.Start Inv-loop μ-loop = search in
+    omega (arith, start .pre .1 .0 .known _ (in-loop .loop-test .taken), after-label-at .label-at .ensures)
 
 add-at : tie.Need-add-at Inv-loop μ-loop
-add-at c = omega (arith, pad-small _ (c .before .before .before .before .before .before .before .size-at .result) _ _ (c .before .before .before .before .before .constant-alignment .ensures) (c .before .before .before .before .padding-len .ensures), c .before .before .before .before .before .before .before .before .before .before .before .before .before .pre .0 .few, c .before .before .before .before .before .before .before .before .before .before .before .before .before .pre .0 .sized _ (c .before .before .before .before .before .before .before .before .loop-test .taken), c .before .before .before .before .before .before .before .size-at .ensures)
+add-at c =
+    let after-padding-len : tie.After-padding-len Inv-loop μ-loop = search in
+    let after-constant-alignment : tie.After-constant-alignment Inv-loop μ-loop = search in
+    let after-size-at : tie.After-size-at Inv-loop μ-loop = search in
+    let in-loop : tie.In-loop Inv-loop μ-loop = search in
+    let start : tie.Start Inv-loop μ-loop = search in
+    omega (arith, pad-small _ (after-size-at .size-at .result) _ _ (after-constant-alignment .constant-alignment .ensures) (after-padding-len .padding-len .ensures), start .pre .0 .few, start .pre .0 .sized _ (in-loop .loop-test .taken), after-size-at .size-at .ensures)
 
 loop-again : tie.Need-loop-again Inv-loop μ-loop
-loop-again c = let offset = offset-turn _ _ _ _ _ (c .before .before .before .before .before .before .before .size-at .result) _ _ (c .before .before .before .before .before .before .before .before .before .loop .inv .1) (c .before .before .before .before .before .before .before .size-at .ensures) (c .before .before .before .before .before .constant-alignment .ensures) (c .before .before .before .before .padding-len .ensures) in (omega arith, start-turn _ _ _ _ _ (c .before .before .before .before .before .before .before .size-at .result) _ _ (c .before .before .before .before .before .before .before .before .before .loop .inv .1) (c .before .before .before .before .before .before .before .size-at .ensures) (c .before .before .before .before .before .constant-alignment .ensures) (c .before .before .before .before .padding-len .ensures), omega (arith, pad-small _ (c .before .before .before .before .before .before .before .size-at .result) _ _ (c .before .before .before .before .before .constant-alignment .ensures) (c .before .before .before .before .padding-len .ensures), c .before .before .before .before .before .before .before .before .before .before .before .before .before .pre .0 .sized _ (c .before .before .before .before .before .before .before .before .loop-test .taken), c .before .before .before .before .before .before .before .size-at .ensures), rw (c .before .before .put-word .ensures) (length-setWord _ _ _ ∙ c .before .before .before .before .before .before .before .before .before .loop .inv .3), c .before .before .put-word .ensures ∙ bound-turn _ _ _ _ _ _ _ _ (c .before .before .before .before .before .before .before .before .before .loop .inv .4) (c .before .before .before .before .before .before .label-at .ensures) offset)
+loop-again c =
+    let after-put-word : tie.After-put-word Inv-loop μ-loop = search in
+    let after-padding-len : tie.After-padding-len Inv-loop μ-loop = search in
+    let after-constant-alignment : tie.After-constant-alignment Inv-loop μ-loop = search in
+    let after-label-at : tie.After-label-at Inv-loop μ-loop = search in
+    let after-size-at : tie.After-size-at Inv-loop μ-loop = search in
+    let in-loop : tie.In-loop Inv-loop μ-loop = search in
+    let at-loop : tie.At-loop Inv-loop μ-loop = search in
+    let start : tie.Start Inv-loop μ-loop = search in
+    let offset = offset-turn _ _ _ _ _ (after-size-at .size-at .result) _ _ (at-loop .loop .inv .1) (after-size-at .size-at .ensures) (after-constant-alignment .constant-alignment .ensures) (after-padding-len .padding-len .ensures) in (omega arith, start-turn _ _ _ _ _ (after-size-at .size-at .result) _ _ (at-loop .loop .inv .1) (after-size-at .size-at .ensures) (after-constant-alignment .constant-alignment .ensures) (after-padding-len .padding-len .ensures), omega (arith, pad-small _ (after-size-at .size-at .result) _ _ (after-constant-alignment .constant-alignment .ensures) (after-padding-len .padding-len .ensures), start .pre .0 .sized _ (in-loop .loop-test .taken), after-size-at .size-at .ensures), rw (after-put-word .put-word .ensures) (length-setWord _ _ _ ∙ at-loop .loop .inv .3), after-put-word .put-word .ensures ∙ bound-turn _ _ _ _ _ _ _ _ (at-loop .loop .inv .4) (after-label-at .label-at .ensures) offset)
 
 returns : tie.Need-returns Inv-loop μ-loop
-returns c = let all : c .before .loop .j ≡ c .before .before .before .before .before .args .n = omega arith in rw all at (c .before .loop .inv .4)
+returns c =
+    let at-loop : tie.At-loop Inv-loop μ-loop = search in
+    let start : tie.Start Inv-loop μ-loop = search in
+    let all : at-loop .loop .j ≡ start .args .n = omega arith in rw all at (at-loop .loop .inv .4)
 
 pub bind-spec : {M : Type 1} → statement M
 bind-spec =

@@ -4,10 +4,14 @@ use Rattle.pool.proofs.constant_alignment.Statement.{statement}
 use Rattle.pool.proofs.constant_alignment.Tie as tie
 
 returns : tie.Need-returns
-returns c = rw (le-leb (c .before .args .size) 8 (c .if1 .taken))
+returns c =
+    let start : tie.Start = search in
+    rw (le-leb (start .args .size) 8 (c .if1 .taken))
 
 returns-2 : tie.Need-returns-2
-returns-2 c = rw (lt-leb (c .before .args .size) 8 (c .if1 .left))
+returns-2 c =
+    let start : tie.Start = search in
+    rw (lt-leb (start .args .size) 8 (c .if1 .left))
 
 pub constant-alignment-spec : {M : Type 1} → statement M
 constant-alignment-spec = tie.close (tie.spec returns returns-2)

@@ -22,29 +22,64 @@ unfolding poolStart poolBytes
 loop-holds c = (omega arith, refl, omega arith, refl, sym (over-nil _ _))
 
 size-at-requires : tie.Need-size-at-requires Inv-loop μ-loop
-size-at-requires c κs = omega (arith, c .before .before .before .before .before .pre .0 .listed _ (c .loop-test .taken))
+size-at-requires c κs =
+    let start : tie.Start Inv-loop μ-loop = search in
+    omega (arith, start .pre .0 .listed _ (c .loop-test .taken))
 
 add-offset : tie.Need-add-offset Inv-loop μ-loop
-add-offset c = omega (arith, pad-small _ (c .before .before .size-at .result) _ _ (c .before .constant-alignment .ensures) (c .padding-len .ensures), c .before .before .before .before .before .before .before .before .pre .0 .few)
+add-offset c =
+    let after-constant-alignment : tie.After-constant-alignment Inv-loop μ-loop = search in
+    let after-size-at : tie.After-size-at Inv-loop μ-loop = search in
+    let start : tie.Start Inv-loop μ-loop = search in
+    omega (arith, pad-small _ (after-size-at .size-at .result) _ _ (after-constant-alignment .constant-alignment .ensures) (c .padding-len .ensures), start .pre .0 .few)
 
 add-end : tie.Need-add-end Inv-loop μ-loop
-add-end c = omega (arith, pad-small _ (c .before .before .size-at .result) _ _ (c .before .constant-alignment .ensures) (c .padding-len .ensures), c .before .before .before .before .before .before .before .before .pre .0 .few, c .before .before .before .before .before .before .before .before .pre .0 .sized _ (c .before .before .before .loop-test .taken), c .before .before .size-at .ensures)
+add-end c =
+    let after-constant-alignment : tie.After-constant-alignment Inv-loop μ-loop = search in
+    let after-size-at : tie.After-size-at Inv-loop μ-loop = search in
+    let in-loop : tie.In-loop Inv-loop μ-loop = search in
+    let start : tie.Start Inv-loop μ-loop = search in
+    omega (arith, pad-small _ (after-size-at .size-at .result) _ _ (after-constant-alignment .constant-alignment .ensures) (c .padding-len .ensures), start .pre .0 .few, start .pre .0 .sized _ (in-loop .loop-test .taken), after-size-at .size-at .ensures)
 
 part-pad-end : tie.Need-part-pad-end Inv-loop μ-loop
-part-pad-end c = omega (arith, within-turn _ _ _ _ _ _ (c .before .before .size-at .result) _ _ (c .before .before .before .before .loop .inv .1) (c .before .before .size-at .ensures) (c .before .constant-alignment .ensures) (c .padding-len .ensures) (c .before .before .before .loop-test .taken), c .before .before .before .before .before .before .before .before .pre .1 .1)
+part-pad-end c =
+    let after-constant-alignment : tie.After-constant-alignment Inv-loop μ-loop = search in
+    let after-size-at : tie.After-size-at Inv-loop μ-loop = search in
+    let in-loop : tie.In-loop Inv-loop μ-loop = search in
+    let at-loop : tie.At-loop Inv-loop μ-loop = search in
+    let start : tie.Start Inv-loop μ-loop = search in
+    omega (arith, within-turn _ _ _ _ _ _ (after-size-at .size-at .result) _ _ (at-loop .loop .inv .1) (after-size-at .size-at .ensures) (after-constant-alignment .constant-alignment .ensures) (c .padding-len .ensures) (in-loop .loop-test .taken), start .pre .1 .1)
 
 part-clear-end : tie.Need-part-clear-end Inv-loop μ-loop
-part-clear-end c = omega (arith, within-turn _ _ _ _ _ _ (c .before .before .before .before .before .before .size-at .result) _ _ (c .before .before .before .before .before .before .before .before .loop .inv .1) (c .before .before .before .before .before .before .size-at .ensures) (c .before .before .before .before .before .constant-alignment .ensures) (c .before .before .before .before .padding-len .ensures) (c .before .before .before .before .before .before .before .loop-test .taken), c .before .before .before .before .before .before .before .before .before .before .before .before .pre .1 .1)
+part-clear-end c =
+    let after-padding-len : tie.After-padding-len Inv-loop μ-loop = search in
+    let after-constant-alignment : tie.After-constant-alignment Inv-loop μ-loop = search in
+    let after-size-at : tie.After-size-at Inv-loop μ-loop = search in
+    let in-loop : tie.In-loop Inv-loop μ-loop = search in
+    let at-loop : tie.At-loop Inv-loop μ-loop = search in
+    let start : tie.Start Inv-loop μ-loop = search in
+    omega (arith, within-turn _ _ _ _ _ _ (after-size-at .size-at .result) _ _ (at-loop .loop .inv .1) (after-size-at .size-at .ensures) (after-constant-alignment .constant-alignment .ensures) (after-padding-len .padding-len .ensures) (in-loop .loop-test .taken), start .pre .1 .1)
 
 loop-again : tie.Need-loop-again Inv-loop μ-loop
 loop-again c =
-    let size = c .before .before .before .before .before .before .before .before .before .before .size-at .result in
-    let inside = within-turn _ _ _ _ _ _ size _ _ (c .before .before .before .before .before .before .before .before .before .before .before .before .loop .inv .1) (c .before .before .before .before .before .before .before .before .before .before .size-at .ensures) (c .before .before .before .before .before .before .before .before .before .constant-alignment .ensures) (c .before .before .before .before .before .before .before .before .padding-len .ensures) (c .before .before .before .before .before .before .before .before .before .before .before .loop-test .taken) in
-    let turn = emit-turn _ _ _ _ _ _ _ _ size _ _ _ _ (c .before .before .before .before .before .before .before .before .before .before .before .before .loop .inv .4) (c .before .before .before .before .before .before .before .before .before .before .before .before .loop .inv .1) (c .before .before .before .before .before .before .before .before .before .before .size-at .ensures) (c .before .before .before .before .before .before .before .before .before .constant-alignment .ensures) (c .before .before .before .before .before .before .before .before .padding-len .ensures) (omega (arith, inside, c .before .before .before .before .before .before .before .before .before .before .before .before .before .before .before .before .pre .1 .1)) (c .before .before .before .before .before .before .pad .ensures) (c .before .before .clear .ensures) in
-    (omega arith, start-turn _ _ _ _ _ size _ _ (c .before .before .before .before .before .before .before .before .before .before .before .before .loop .inv .1) (c .before .before .before .before .before .before .before .before .before .before .size-at .ensures) (c .before .before .before .before .before .before .before .before .before .constant-alignment .ensures) (c .before .before .before .before .before .before .before .before .padding-len .ensures), omega (arith, pad-small _ size _ _ (c .before .before .before .before .before .before .before .before .before .constant-alignment .ensures) (c .before .before .before .before .before .before .before .before .padding-len .ensures), c .before .before .before .before .before .before .before .before .before .before .before .before .before .before .before .before .pre .0 .sized _ (c .before .before .before .before .before .before .before .before .before .before .before .loop-test .taken), c .before .before .before .before .before .before .before .before .before .before .size-at .ensures), rw turn (length-over _ _ _), turn)
+    let after-clear : tie.After-clear Inv-loop μ-loop = search in
+    let after-pad : tie.After-pad Inv-loop μ-loop = search in
+    let after-padding-len : tie.After-padding-len Inv-loop μ-loop = search in
+    let after-constant-alignment : tie.After-constant-alignment Inv-loop μ-loop = search in
+    let after-size-at : tie.After-size-at Inv-loop μ-loop = search in
+    let in-loop : tie.In-loop Inv-loop μ-loop = search in
+    let at-loop : tie.At-loop Inv-loop μ-loop = search in
+    let start : tie.Start Inv-loop μ-loop = search in
+    let size = after-size-at .size-at .result in
+    let inside = within-turn _ _ _ _ _ _ size _ _ (at-loop .loop .inv .1) (after-size-at .size-at .ensures) (after-constant-alignment .constant-alignment .ensures) (after-padding-len .padding-len .ensures) (in-loop .loop-test .taken) in
+    let turn = emit-turn _ _ _ _ _ _ _ _ size _ _ _ _ (at-loop .loop .inv .4) (at-loop .loop .inv .1) (after-size-at .size-at .ensures) (after-constant-alignment .constant-alignment .ensures) (after-padding-len .padding-len .ensures) (omega (arith, inside, start .pre .1 .1)) (after-pad .pad .ensures) (after-clear .clear .ensures) in
+    (omega arith, start-turn _ _ _ _ _ size _ _ (at-loop .loop .inv .1) (after-size-at .size-at .ensures) (after-constant-alignment .constant-alignment .ensures) (after-padding-len .padding-len .ensures), omega (arith, pad-small _ size _ _ (after-constant-alignment .constant-alignment .ensures) (after-padding-len .padding-len .ensures), start .pre .0 .sized _ (in-loop .loop-test .taken), after-size-at .size-at .ensures), rw turn (length-over _ _ _), turn)
 
 returns : tie.Need-returns Inv-loop μ-loop
-returns c = let all : c .before .loop .j ≡ c .before .before .before .before .before .args .n = omega arith in rw all at (c .before .loop .inv .4)
+returns c =
+    let at-loop : tie.At-loop Inv-loop μ-loop = search in
+    let start : tie.Start Inv-loop μ-loop = search in
+    let all : at-loop .loop .j ≡ start .args .n = omega arith in rw all at (at-loop .loop .inv .4)
 
 pub emit-spec : {M : Type 1} → statement M
 emit-spec =

@@ -21,19 +21,35 @@ unfolding poolIsBound
 loop-holds c = (omega arith, refl)
 
 label-at-requires : tie.Need-label-at-requires Inv-loop μ-loop
-label-at-requires c κs = omega (arith, c .before .before .before .before .before .pre .0 .listed _ (c .loop-test .taken))
+label-at-requires c κs =
+    let start : tie.Start Inv-loop μ-loop = search in
+    omega (arith, start .pre .0 .listed _ (c .loop-test .taken))
 
 word-at-requires : tie.Need-word-at-requires Inv-loop μ-loop
-word-at-requires c κs = omega (arith, c .before .before .before .before .before .before .pre .1 .known _ (c .before .loop-test .taken), c .label-at .ensures)
+word-at-requires c κs =
+    let in-loop : tie.In-loop Inv-loop μ-loop = search in
+    let start : tie.Start Inv-loop μ-loop = search in
+    omega (arith, start .pre .1 .known _ (in-loop .loop-test .taken), c .label-at .ensures)
 
 returns : tie.Need-returns Inv-loop μ-loop
-returns c = sym (one-bound _ _ _ (c .before .before .before .before .loop .j) _ (omega arith) (rw (← c .before .before .label-at .ensures, ← c .before .word-at .ensures, ne-eqb _ _ (c .if1 .taken))))
+returns c =
+    let after-word-at : tie.After-word-at Inv-loop μ-loop = search in
+    let after-label-at : tie.After-label-at Inv-loop μ-loop = search in
+    let at-loop : tie.At-loop Inv-loop μ-loop = search in
+    sym (one-bound _ _ _ (at-loop .loop .j) _ (omega arith) (rw (← after-label-at .label-at .ensures, ← after-word-at .word-at .ensures, ne-eqb _ _ (c .if1 .taken))))
 
 loop-again : tie.Need-loop-again Inv-loop μ-loop
-loop-again c = (omega arith, none-bound _ _ _ _ (c .before .before .before .before .loop .inv .1) (rw (← c .before .before .label-at .ensures, ← c .before .word-at .ensures, eq-eqb _ _ (c .if1 .left))))
+loop-again c =
+    let after-word-at : tie.After-word-at Inv-loop μ-loop = search in
+    let after-label-at : tie.After-label-at Inv-loop μ-loop = search in
+    let at-loop : tie.At-loop Inv-loop μ-loop = search in
+    (omega arith, none-bound _ _ _ _ (at-loop .loop .inv .1) (rw (← after-label-at .label-at .ensures, ← after-word-at .word-at .ensures, eq-eqb _ _ (c .if1 .left))))
 
 returns-2 : tie.Need-returns-2 Inv-loop μ-loop
-returns-2 c = let all : c .before .loop .j ≡ c .before .before .before .before .before .args .n = omega arith in sym (rw all at (c .before .loop .inv .1))
+returns-2 c =
+    let at-loop : tie.At-loop Inv-loop μ-loop = search in
+    let start : tie.Start Inv-loop μ-loop = search in
+    let all : at-loop .loop .j ≡ start .args .n = omega arith in sym (rw all at (at-loop .loop .inv .1))
 
 pub is-bound-spec : {M : Type 1} → statement M
 is-bound-spec =

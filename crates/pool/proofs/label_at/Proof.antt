@@ -4,7 +4,9 @@ use Rattle.pool.proofs.label_at.Statement.{statement}
 use Rattle.pool.proofs.label_at.Tie as tie
 
 returns : tie.Need-returns
-returns c = rw (c .word-at2 .ensures, c .before .word-at .ensures)
+returns c =
+    let after-word-at : tie.After-word-at = search in
+    rw (c .word-at2 .ensures, after-word-at .word-at .ensures)
 
 pub label-at-spec : {M : Type 1} → statement M
 label-at-spec =

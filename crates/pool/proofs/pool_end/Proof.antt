@@ -19,19 +19,39 @@ unfolding poolStart
 loop-holds c = (omega arith, refl, omega arith)
 
 size-at-requires : tie.Need-size-at-requires Inv-loop μ-loop
-size-at-requires c κs = omega (arith, c .before .before .before .before .pre .0 .listed _ (c .loop-test .taken))
+size-at-requires c κs =
+    let start : tie.Start Inv-loop μ-loop = search in
+    omega (arith, start .pre .0 .listed _ (c .loop-test .taken))
 
 add-at : tie.Need-add-at Inv-loop μ-loop
-add-at c = omega (arith, pad-small _ (c .before .before .size-at .result) _ _ (c .before .constant-alignment .ensures) (c .padding-len .ensures), c .before .before .before .before .before .before .before .pre .0 .few)
+add-at c =
+    let after-constant-alignment : tie.After-constant-alignment Inv-loop μ-loop = search in
+    let after-size-at : tie.After-size-at Inv-loop μ-loop = search in
+    let start : tie.Start Inv-loop μ-loop = search in
+    omega (arith, pad-small _ (after-size-at .size-at .result) _ _ (after-constant-alignment .constant-alignment .ensures) (c .padding-len .ensures), start .pre .0 .few)
 
 add-at-2 : tie.Need-add-at-2 Inv-loop μ-loop
-add-at-2 c = omega (arith, pad-small _ (c .before .before .size-at .result) _ _ (c .before .constant-alignment .ensures) (c .padding-len .ensures), c .before .before .before .before .before .before .before .pre .0 .few, c .before .before .before .before .before .before .before .pre .0 .sized _ (c .before .before .before .loop-test .taken), c .before .before .size-at .ensures)
+add-at-2 c =
+    let after-constant-alignment : tie.After-constant-alignment Inv-loop μ-loop = search in
+    let after-size-at : tie.After-size-at Inv-loop μ-loop = search in
+    let in-loop : tie.In-loop Inv-loop μ-loop = search in
+    let start : tie.Start Inv-loop μ-loop = search in
+    omega (arith, pad-small _ (after-size-at .size-at .result) _ _ (after-constant-alignment .constant-alignment .ensures) (c .padding-len .ensures), start .pre .0 .few, start .pre .0 .sized _ (in-loop .loop-test .taken), after-size-at .size-at .ensures)
 
 loop-again : tie.Need-loop-again Inv-loop μ-loop
-loop-again c = (omega arith, start-turn _ _ _ _ _ (c .before .before .size-at .result) _ _ (c .before .before .before .before .loop .inv .1) (c .before .before .size-at .ensures) (c .before .constant-alignment .ensures) (c .padding-len .ensures), omega (arith, pad-small _ (c .before .before .size-at .result) _ _ (c .before .constant-alignment .ensures) (c .padding-len .ensures), c .before .before .before .before .before .before .before .pre .0 .sized _ (c .before .before .before .loop-test .taken), c .before .before .size-at .ensures))
+loop-again c =
+    let after-constant-alignment : tie.After-constant-alignment Inv-loop μ-loop = search in
+    let after-size-at : tie.After-size-at Inv-loop μ-loop = search in
+    let in-loop : tie.In-loop Inv-loop μ-loop = search in
+    let at-loop : tie.At-loop Inv-loop μ-loop = search in
+    let start : tie.Start Inv-loop μ-loop = search in
+    (omega arith, start-turn _ _ _ _ _ (after-size-at .size-at .result) _ _ (at-loop .loop .inv .1) (after-size-at .size-at .ensures) (after-constant-alignment .constant-alignment .ensures) (c .padding-len .ensures), omega (arith, pad-small _ (after-size-at .size-at .result) _ _ (after-constant-alignment .constant-alignment .ensures) (c .padding-len .ensures), start .pre .0 .sized _ (in-loop .loop-test .taken), after-size-at .size-at .ensures))
 
 returns : tie.Need-returns Inv-loop μ-loop
-returns c = let all : c .before .loop .j ≡ c .before .before .before .before .args .n = omega arith in (rw all at (c .before .loop .inv .1), omega arith)
+returns c =
+    let at-loop : tie.At-loop Inv-loop μ-loop = search in
+    let start : tie.Start Inv-loop μ-loop = search in
+    let all : at-loop .loop .j ≡ start .args .n = omega arith in (rw all at (at-loop .loop .inv .1), omega arith)
 
 pub pool-end-spec : {M : Type 1} → statement M
 pool-end-spec =

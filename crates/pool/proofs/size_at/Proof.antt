@@ -4,7 +4,9 @@ use Rattle.pool.proofs.size_at.Statement.{statement}
 use Rattle.pool.proofs.size_at.Tie as tie
 
 returns : tie.Need-returns
-returns c = rw (c .word-at2 .ensures, c .before .word-at .ensures)
+returns c =
+    let after-word-at : tie.After-word-at = search in
+    rw (c .word-at2 .ensures, after-word-at .word-at .ensures)
 
 pub size-at-spec : {M : Type 1} → statement M
 size-at-spec = tie.close (tie.spec (λ c κs. search needs) (λ c. search needs) (λ c. search needs) (λ c κs. search needs) returns)

@@ -21,16 +21,29 @@ unfolding poolUnbound
 loop-holds c = (omega arith, refl, refl)
 
 label-at-requires : tie.Need-label-at-requires Inv-loop μ-loop
-label-at-requires c κs = omega (arith, c .before .before .before .before .before .pre .0 .listed _ (c .loop-test .taken))
+label-at-requires c κs =
+    let start : tie.Start Inv-loop μ-loop = search in
+    omega (arith, start .pre .0 .listed _ (c .loop-test .taken))
 
 put-word-requires : tie.Need-put-word-requires Inv-loop μ-loop
-put-word-requires c κs = omega (arith, c .before .before .before .before .before .before .before .pre .1 .known _ (c .before .before .loop-test .taken), c .before .label-at .ensures)
+put-word-requires c κs =
+    let after-label-at : tie.After-label-at Inv-loop μ-loop = search in
+    let in-loop : tie.In-loop Inv-loop μ-loop = search in
+    let start : tie.Start Inv-loop μ-loop = search in
+    omega (arith, start .pre .1 .known _ (in-loop .loop-test .taken), after-label-at .label-at .ensures)
 
 loop-again : tie.Need-loop-again Inv-loop μ-loop
-loop-again c = (omega arith, rw (c .before .before .put-word .ensures) (length-setWord _ _ _ ∙ c .before .before .before .before .before .before .loop .inv .1), c .before .before .put-word .ensures ∙ unbound-turn _ _ _ _ _ _ (c .before .before .before .before .before .before .loop .inv .2) (c .before .before .before .before .label-at .ensures))
+loop-again c =
+    let after-put-word : tie.After-put-word Inv-loop μ-loop = search in
+    let after-label-at : tie.After-label-at Inv-loop μ-loop = search in
+    let at-loop : tie.At-loop Inv-loop μ-loop = search in
+    (omega arith, rw (after-put-word .put-word .ensures) (length-setWord _ _ _ ∙ at-loop .loop .inv .1), after-put-word .put-word .ensures ∙ unbound-turn _ _ _ _ _ _ (at-loop .loop .inv .2) (after-label-at .label-at .ensures))
 
 returns : tie.Need-returns Inv-loop μ-loop
-returns c = let all : c .before .loop .j ≡ c .before .before .before .before .before .args .n = omega arith in rw all at (c .before .loop .inv .2)
+returns c =
+    let at-loop : tie.At-loop Inv-loop μ-loop = search in
+    let start : tie.Start Inv-loop μ-loop = search in
+    let all : at-loop .loop .j ≡ start .args .n = omega arith in rw all at (at-loop .loop .inv .2)
 
 pub unbind-spec : {M : Type 1} → statement M
 unbind-spec =

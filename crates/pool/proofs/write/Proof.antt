@@ -20,31 +20,63 @@ unfolding poolWritten
 loop-holds c = (omega arith, refl, refl)
 
 size-at-requires : tie.Need-size-at-requires Inv-loop μ-loop
-size-at-requires c κs = omega (arith, c .before .before .before .before .before .before .pre .0 .listed _ (c .loop-test .taken))
+size-at-requires c κs =
+    let start : tie.Start Inv-loop μ-loop = search in
+    omega (arith, start .pre .0 .listed _ (c .loop-test .taken))
 
 label-at-requires : tie.Need-label-at-requires Inv-loop μ-loop
-label-at-requires c κs = omega (arith, c .before .before .before .before .before .before .before .pre .0 .listed _ (c .before .loop-test .taken))
+label-at-requires c κs =
+    let in-loop : tie.In-loop Inv-loop μ-loop = search in
+    let start : tie.Start Inv-loop μ-loop = search in
+    omega (arith, start .pre .0 .listed _ (in-loop .loop-test .taken))
 
 word-at-requires : tie.Need-word-at-requires Inv-loop μ-loop
-word-at-requires c κs = omega (arith, c .before .before .before .before .before .before .before .before .pre .1 .0 .known _ (c .before .before .loop-test .taken), c .label-at .ensures)
+word-at-requires c κs =
+    let in-loop : tie.In-loop Inv-loop μ-loop = search in
+    let start : tie.Start Inv-loop μ-loop = search in
+    omega (arith, start .pre .1 .0 .known _ (in-loop .loop-test .taken), c .label-at .ensures)
 
 word-at-requires-2 : tie.Need-word-at-requires-2 Inv-loop μ-loop
-word-at-requires-2 c κs = omega (arith, c .before .before .before .before .before .before .before .before .before .pre .0 .listed _ (c .before .before .before .loop-test .taken))
+word-at-requires-2 c κs =
+    let in-loop : tie.In-loop Inv-loop μ-loop = search in
+    let start : tie.Start Inv-loop μ-loop = search in
+    omega (arith, start .pre .0 .listed _ (in-loop .loop-test .taken))
 
 part-copy-end : tie.Need-part-copy-end Inv-loop μ-loop
-part-copy-end c = omega (arith, from-turn _ _ _ _ _ _ (c .before .before .before .before .before .before .before .before .before .before .pre .0) (c .before .before .before .before .loop-test .taken) (c .word-at2 .ensures) (c .before .before .before .size-at .ensures))
+part-copy-end c =
+    let after-size-at : tie.After-size-at Inv-loop μ-loop = search in
+    let in-loop : tie.In-loop Inv-loop μ-loop = search in
+    let start : tie.Start Inv-loop μ-loop = search in
+    omega (arith, from-turn _ _ _ _ _ _ (start .pre .0) (in-loop .loop-test .taken) (c .word-at2 .ensures) (after-size-at .size-at .ensures))
 
 part-copy-end-2 : tie.Need-part-copy-end-2 Inv-loop μ-loop
-part-copy-end-2 c = omega (arith, room-turn _ _ _ _ _ _ _ _ _ (c .before .before .before .before .before .before .before .before .before .before .before .pre .1 .1) (c .before .before .before .before .before .loop-test .taken) (c .before .before .before .label-at .ensures) (c .before .before .word-at .ensures) (c .before .before .before .before .size-at .ensures))
+part-copy-end-2 c =
+    let after-word-at : tie.After-word-at Inv-loop μ-loop = search in
+    let after-label-at : tie.After-label-at Inv-loop μ-loop = search in
+    let after-size-at : tie.After-size-at Inv-loop μ-loop = search in
+    let in-loop : tie.In-loop Inv-loop μ-loop = search in
+    let start : tie.Start Inv-loop μ-loop = search in
+    omega (arith, room-turn _ _ _ _ _ _ _ _ _ (start .pre .1 .1) (in-loop .loop-test .taken) (after-label-at .label-at .ensures) (after-word-at .word-at .ensures) (after-size-at .size-at .ensures))
 
 loop-again : tie.Need-loop-again Inv-loop μ-loop
 loop-again c =
-    let room = room-turn _ _ _ _ _ _ _ _ _ (c .before .before .before .before .before .before .before .before .before .before .before .before .before .before .before .pre .1 .1) (c .before .before .before .before .before .before .before .before .before .loop-test .taken) (c .before .before .before .before .before .before .before .label-at .ensures) (c .before .before .before .before .before .before .word-at .ensures) (c .before .before .before .before .before .before .before .before .size-at .ensures) in
-    let turn = written-turn _ _ _ _ _ _ _ _ _ _ _ (c .before .before .before .before .before .before .before .before .before .before .loop .inv .2) (c .before .before .before .before .before .before .before .before .size-at .ensures) (c .before .before .before .before .before .before .before .label-at .ensures) (c .before .before .before .before .before .before .word-at .ensures) (c .before .before .before .before .before .word-at2 .ensures) (from-turn _ _ _ _ _ _ (c .before .before .before .before .before .before .before .before .before .before .before .before .before .before .before .pre .0) (c .before .before .before .before .before .before .before .before .before .loop-test .taken) (c .before .before .before .before .before .word-at2 .ensures) (c .before .before .before .before .before .before .before .before .size-at .ensures)) (omega arith) (c .before .before .copy .ensures) in
+    let after-copy : tie.After-copy Inv-loop μ-loop = search in
+    let after-word-at2 : tie.After-word-at2 Inv-loop μ-loop = search in
+    let after-word-at : tie.After-word-at Inv-loop μ-loop = search in
+    let after-label-at : tie.After-label-at Inv-loop μ-loop = search in
+    let after-size-at : tie.After-size-at Inv-loop μ-loop = search in
+    let in-loop : tie.In-loop Inv-loop μ-loop = search in
+    let at-loop : tie.At-loop Inv-loop μ-loop = search in
+    let start : tie.Start Inv-loop μ-loop = search in
+    let room = room-turn _ _ _ _ _ _ _ _ _ (start .pre .1 .1) (in-loop .loop-test .taken) (after-label-at .label-at .ensures) (after-word-at .word-at .ensures) (after-size-at .size-at .ensures) in
+    let turn = written-turn _ _ _ _ _ _ _ _ _ _ _ (at-loop .loop .inv .2) (after-size-at .size-at .ensures) (after-label-at .label-at .ensures) (after-word-at .word-at .ensures) (after-word-at2 .word-at2 .ensures) (from-turn _ _ _ _ _ _ (start .pre .0) (in-loop .loop-test .taken) (after-word-at2 .word-at2 .ensures) (after-size-at .size-at .ensures)) (omega arith) (after-copy .copy .ensures) in
     (omega arith, rw turn (length-poolWritten _ _ _ _ _), turn)
 
 returns : tie.Need-returns Inv-loop μ-loop
-returns c = let all : c .before .loop .j ≡ c .before .before .before .before .before .before .args .n = omega arith in rw all at (c .before .loop .inv .2)
+returns c =
+    let at-loop : tie.At-loop Inv-loop μ-loop = search in
+    let start : tie.Start Inv-loop μ-loop = search in
+    let all : at-loop .loop .j ≡ start .args .n = omega arith in rw all at (at-loop .loop .inv .2)
 
 pub write-spec : {M : Type 1} → statement M
 write-spec =

@@ -6,11 +6,24 @@ use Rattle.relax.proofs.event_at.Tie as tie
 
 returns : tie.Need-returns
 unfolding eventAt eventOf
-returns c = rw (← c .before .before .before .before .before .before .word-at .ensures, ← c .before .before .before .before .before .word-at2 .ensures, ← c .before .before .before .before .word-at3 .ensures, ← c .before .before .before .word-at4 .ensures, ← c .before .before .word-at5 .ensures, yes-eq _ 1 _ _ (c .before .if1 .taken), c .condition-of .ensures)
+returns c =
+    let then1 : tie.Then1 = search in
+    let after-word-at5 : tie.After-word-at5 = search in
+    let after-word-at4 : tie.After-word-at4 = search in
+    let after-word-at3 : tie.After-word-at3 = search in
+    let after-word-at2 : tie.After-word-at2 = search in
+    let after-word-at : tie.After-word-at = search in
+    rw (← after-word-at .word-at .ensures, ← after-word-at2 .word-at2 .ensures, ← after-word-at3 .word-at3 .ensures, ← after-word-at4 .word-at4 .ensures, ← after-word-at5 .word-at5 .ensures, yes-eq _ 1 _ _ (then1 .if1 .taken), c .condition-of .ensures)
 
 returns-2 : tie.Need-returns-2
 unfolding eventAt eventOf
-returns-2 c = rw (← c .before .before .before .before .before .word-at .ensures, ← c .before .before .before .before .word-at2 .ensures, ← c .before .before .before .word-at3 .ensures, ← c .before .before .word-at4 .ensures, ← c .before .word-at5 .ensures, no-eq _ 1 _ _ (c .if1 .left))
+returns-2 c =
+    let after-word-at5 : tie.After-word-at5 = search in
+    let after-word-at4 : tie.After-word-at4 = search in
+    let after-word-at3 : tie.After-word-at3 = search in
+    let after-word-at2 : tie.After-word-at2 = search in
+    let after-word-at : tie.After-word-at = search in
+    rw (← after-word-at .word-at .ensures, ← after-word-at2 .word-at2 .ensures, ← after-word-at3 .word-at3 .ensures, ← after-word-at4 .word-at4 .ensures, ← after-word-at5 .word-at5 .ensures, no-eq _ 1 _ _ (c .if1 .left))
 
 pub event-at-spec : {M : Type 1} → statement M
 event-at-spec =

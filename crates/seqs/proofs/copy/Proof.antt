@@ -22,18 +22,21 @@ loop-holds c = (omega arith, c .least .ensures, sym (over-nil _ 0), refl)
 
 loop-again : tie.Need-loop-again Inv-loop μ-loop
 loop-again c =
-    let at-loop = c .before .before in
+    let at-loop : tie.At-loop Inv-loop μ-loop = search in
+    let start : tie.Start Inv-loop μ-loop = search in
     let i = at-loop .loop .i in (
       omega arith,
       at-loop .loop .inv .1,
-      rw (at-loop .loop .inv .2) (over-copy _ 0 (at-loop .before .before .before .before .args .src .now) i i 0 (omega arith) (omega arith)),
+      rw (at-loop .loop .inv .2) (over-copy _ 0 (start .args .src .now) i i 0 (omega arith) (omega arith)),
       simp length-set (omega arith),
     )
 
 returns : tie.Need-returns Inv-loop μ-loop
 returns c =
-    let a = c .before .before .before .before .before .args in
-    c .before .loop .inv .2 ∙ over-take (a .dst .now) (a .src .now) (c .before .loop .i) (omega arith)
+    let at-loop' : tie.At-loop Inv-loop μ-loop = search in
+    let start : tie.Start Inv-loop μ-loop = search in
+    let a = start .args in
+    at-loop' .loop .inv .2 ∙ over-take (a .dst .now) (a .src .now) (at-loop' .loop .i) (omega arith)
 
 pub copy-spec : {M : Type 1} → statement M
 copy-spec =

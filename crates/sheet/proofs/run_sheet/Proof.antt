@@ -9,49 +9,118 @@ use Rattle.sheet.proofs.run_sheet.Statement.{statement}
 use Rattle.sheet.proofs.run_sheet.Tie as tie
 
 returns : tie.Need-returns
-returns c = sheet-cut _ _ (sym (c .before .is-whole .ensures) ∙ not-true _ (c .if1 .taken))
+returns c =
+    let after-is-whole : tie.After-is-whole = search in
+    sheet-cut _ _ (sym (after-is-whole .is-whole .ensures) ∙ not-true _ (c .if1 .taken))
 
 word-at-requires : tie.Need-word-at-requires
-word-at-requires c κs = omega (arith, whole-length _ (sym (c .before .is-whole .ensures) ∙ not-false _ (c .if1 .left)) .0)
+word-at-requires c κs =
+    let after-is-whole : tie.After-is-whole = search in
+    omega (arith, whole-length _ (sym (after-is-whole .is-whole .ensures) ∙ not-false _ (c .if1 .left)) .0)
 
 part-first-broken-end : tie.Need-part-first-broken-end
-part-first-broken-end c = omega (arith, whole-length (c .before .before .before .before .before .before .before .before .before .before .before .before .args .sheet .now) (sym (c .before .before .is-whole .ensures) ∙ not-false _ (c .before .if1 .left)) .1, c .word-at .ensures)
+part-first-broken-end c =
+    let else1 : tie.Else1 = search in
+    let after-is-whole : tie.After-is-whole = search in
+    let start : tie.Start = search in
+    omega (arith, whole-length (start .args .sheet .now) (sym (after-is-whole .is-whole .ensures) ∙ not-false _ (else1 .if1 .left)) .1, c .word-at .ensures)
 
 sub-first-broken-2 : tie.Need-sub-first-broken-2
-sub-first-broken-2 c = omega (arith, whole-length (c .before .before .before .before .before .before .before .before .before .before .before .before .before .args .sheet .now) (sym (c .before .before .before .is-whole .ensures) ∙ not-false _ (c .before .before .if1 .left)) .1, c .before .word-at .ensures)
+sub-first-broken-2 c =
+    let after-word-at : tie.After-word-at = search in
+    let else1 : tie.Else1 = search in
+    let after-is-whole : tie.After-is-whole = search in
+    let start : tie.Start = search in
+    omega (arith, whole-length (start .args .sheet .now) (sym (after-is-whole .is-whole .ensures) ∙ not-false _ (else1 .if1 .left)) .1, after-word-at .word-at .ensures)
 
 part-first-broken-start-2 : tie.Need-part-first-broken-start-2
-part-first-broken-start-2 c = omega (arith, whole-length (c .before .before .before .before .before .before .before .before .before .before .before .before .before .args .sheet .now) (sym (c .before .before .before .is-whole .ensures) ∙ not-false _ (c .before .before .if1 .left)) .1, c .before .word-at .ensures)
+part-first-broken-start-2 c =
+    let after-word-at : tie.After-word-at = search in
+    let else1 : tie.Else1 = search in
+    let after-is-whole : tie.After-is-whole = search in
+    let start : tie.Start = search in
+    omega (arith, whole-length (start .args .sheet .now) (sym (after-is-whole .is-whole .ensures) ∙ not-false _ (else1 .if1 .left)) .1, after-word-at .word-at .ensures)
 
 first-broken-requires : tie.Need-first-broken-requires
-first-broken-requires c κs = parts-match _ (sym (c .before .before .before .before .is-whole .ensures) ∙ not-false _ (c .before .before .before .if1 .left)) _ (c .before .before .word-at .ensures)
+first-broken-requires c κs =
+    let after-word-at : tie.After-word-at = search in
+    let else1 : tie.Else1 = search in
+    let after-is-whole : tie.After-is-whole = search in
+    parts-match _ (sym (after-is-whole .is-whole .ensures) ∙ not-false _ (else1 .if1 .left)) _ (after-word-at .word-at .ensures)
+
+abbrev start-from-after-is-whole : tie.After-is-whole → tie.Start
+start-from-after-is-whole c = search
 
 returns-2 : tie.Need-returns-2
 returns-2 c =
-    let a = c .before .before .before .before .before .before .before .before .before .before .before .before .before .before .before .before .args in
-    sheet-broken _ _ (sym (c .before .before .before .before .before .before .is-whole .ensures) ∙ not-false _ (c .before .before .before .before .before .if1 .left)) _ (rw (kinds-part (a .sheet .now) _ (c .before .before .before .before .word-at .ensures), arguments-part (a .sheet .now) _ (c .before .before .before .before .word-at .ensures)) at (c .before .first-broken .ensures)) (omega (arith, c .if2 .taken, c .before .before .before .before .word-at .ensures))
+    let after-first-broken : tie.After-first-broken = search in
+    let after-word-at : tie.After-word-at = search in
+    let else1 : tie.Else1 = search in
+    let after-is-whole : tie.After-is-whole = search in
+    let start = start-from-after-is-whole after-is-whole in
+    let a = start .args in
+    sheet-broken _ _ (sym (after-is-whole .is-whole .ensures) ∙ not-false _ (else1 .if1 .left)) _ (rw (kinds-part (a .sheet .now) _ (after-word-at .word-at .ensures), arguments-part (a .sheet .now) _ (after-word-at .word-at .ensures)) at (after-first-broken .first-broken .ensures)) (omega (arith, c .if2 .taken, after-word-at .word-at .ensures))
 
 returns-3 : tie.Need-returns-3
 returns-3 c =
-    let a = c .before .before .before .before .before .before .before .before .before .before .before .before .before .before .before .before .before .before .before .before .before .before .before .before .before .before .args in
-    sheet-not-standing _ _ (sym (c .before .before .before .before .before .before .before .before .before .before .before .before .before .before .before .before .is-whole .ensures) ∙ not-false _ (c .before .before .before .before .before .before .before .before .before .before .before .before .before .before .before .if1 .left)) _ (rw (kinds-part (a .sheet .now) _ (c .before .before .before .before .before .before .before .before .before .before .before .before .before .before .word-at .ensures), arguments-part (a .sheet .now) _ (c .before .before .before .before .before .before .before .before .before .before .before .before .before .before .word-at .ensures)) at (c .before .before .before .before .before .before .before .before .before .before .before .first-broken .ensures)) (omega (arith, c .before .before .before .before .before .before .before .before .before .before .if2 .left, c .before .before .before .before .before .before .before .before .before .before .before .before .before .before .word-at .ensures)) _ (c .before .why-not-standing .ensures) (c .if3 .taken)
+    let after-why-not-standing : tie.After-why-not-standing = search in
+    let else2 : tie.Else2 = search in
+    let after-first-broken : tie.After-first-broken = search in
+    let after-word-at : tie.After-word-at = search in
+    let else1 : tie.Else1 = search in
+    let after-is-whole : tie.After-is-whole = search in
+    let start = start-from-after-is-whole after-is-whole in
+    let a = start .args in
+    sheet-not-standing _ _ (sym (after-is-whole .is-whole .ensures) ∙ not-false _ (else1 .if1 .left)) _ (rw (kinds-part (a .sheet .now) _ (after-word-at .word-at .ensures), arguments-part (a .sheet .now) _ (after-word-at .word-at .ensures)) at (after-first-broken .first-broken .ensures)) (omega (arith, else2 .if2 .left, after-word-at .word-at .ensures)) _ (after-why-not-standing .why-not-standing .ensures) (c .if3 .taken)
 
 part-run-end : tie.Need-part-run-end
-part-run-end c = omega (arith, whole-length (c .before .before .before .before .before .before .before .before .before .before .before .before .before .before .before .before .before .before .before .before .before .before .before .before .before .before .args .sheet .now) (sym (c .before .before .before .before .before .before .before .before .before .before .before .before .before .before .before .before .is-whole .ensures) ∙ not-false _ (c .before .before .before .before .before .before .before .before .before .before .before .before .before .before .before .if1 .left)) .1, c .before .before .before .before .before .before .before .before .before .before .before .before .before .before .word-at .ensures)
+part-run-end c =
+    let after-word-at : tie.After-word-at = search in
+    let else1 : tie.Else1 = search in
+    let after-is-whole : tie.After-is-whole = search in
+    let start : tie.Start = search in
+    omega (arith, whole-length (start .args .sheet .now) (sym (after-is-whole .is-whole .ensures) ∙ not-false _ (else1 .if1 .left)) .1, after-word-at .word-at .ensures)
 
 sub-run-2 : tie.Need-sub-run-2
-sub-run-2 c = omega (arith, whole-length (c .before .before .before .before .before .before .before .before .before .before .before .before .before .before .before .before .before .before .before .before .before .before .before .before .before .before .before .args .sheet .now) (sym (c .before .before .before .before .before .before .before .before .before .before .before .before .before .before .before .before .before .is-whole .ensures) ∙ not-false _ (c .before .before .before .before .before .before .before .before .before .before .before .before .before .before .before .before .if1 .left)) .1, c .before .before .before .before .before .before .before .before .before .before .before .before .before .before .before .word-at .ensures)
+sub-run-2 c =
+    let after-word-at : tie.After-word-at = search in
+    let else1 : tie.Else1 = search in
+    let after-is-whole : tie.After-is-whole = search in
+    let start : tie.Start = search in
+    omega (arith, whole-length (start .args .sheet .now) (sym (after-is-whole .is-whole .ensures) ∙ not-false _ (else1 .if1 .left)) .1, after-word-at .word-at .ensures)
 
 part-run-start-2 : tie.Need-part-run-start-2
-part-run-start-2 c = omega (arith, whole-length (c .before .before .before .before .before .before .before .before .before .before .before .before .before .before .before .before .before .before .before .before .before .before .before .before .before .before .before .args .sheet .now) (sym (c .before .before .before .before .before .before .before .before .before .before .before .before .before .before .before .before .before .is-whole .ensures) ∙ not-false _ (c .before .before .before .before .before .before .before .before .before .before .before .before .before .before .before .before .if1 .left)) .1, c .before .before .before .before .before .before .before .before .before .before .before .before .before .before .before .word-at .ensures)
+part-run-start-2 c =
+    let after-word-at : tie.After-word-at = search in
+    let else1 : tie.Else1 = search in
+    let after-is-whole : tie.After-is-whole = search in
+    let start : tie.Start = search in
+    omega (arith, whole-length (start .args .sheet .now) (sym (after-is-whole .is-whole .ensures) ∙ not-false _ (else1 .if1 .left)) .1, after-word-at .word-at .ensures)
 
 run-requires : tie.Need-run-requires
-run-requires c κs = (parts-match _ (sym (c .before .before .before .before .before .before .before .before .before .before .before .before .before .before .before .before .before .before .before .before .before .before .before .before .before .before .is-whole .ensures) ∙ not-false _ (c .before .before .before .before .before .before .before .before .before .before .before .before .before .before .before .before .before .before .before .before .before .before .before .before .before .if1 .left)) _ (c .before .before .before .before .before .before .before .before .before .before .before .before .before .before .before .before .before .before .before .before .before .before .before .before .word-at .ensures), kinds-few (c .before .before .before .before .before .before .before .before .before .before .before .before .before .before .before .before .before .before .before .before .before .before .before .before .before .before .before .before .before .before .before .before .before .before .before .before .args .sheet .now) (c .before .before .before .before .before .before .before .before .before .before .before .before .before .before .before .before .before .before .before .before .before .before .before .before .word-at .result) (omega arith))
+run-requires c κs =
+    let after-word-at : tie.After-word-at = search in
+    let else1 : tie.Else1 = search in
+    let after-is-whole : tie.After-is-whole = search in
+    let start : tie.Start = search in
+    (parts-match _ (sym (after-is-whole .is-whole .ensures) ∙ not-false _ (else1 .if1 .left)) _ (after-word-at .word-at .ensures), kinds-few (start .args .sheet .now) (after-word-at .word-at .result) (omega arith))
+
+abbrev else2-from-after-why-not-standing : tie.After-why-not-standing → tie.Else2
+else2-from-after-why-not-standing c = search
 
 returns-4 : tie.Need-returns-4
 returns-4 c =
-    let a = c .before .before .before .before .before .before .before .before .before .before .before .before .before .before .before .before .before .before .before .before .before .before .before .before .before .before .before .before .before .before .before .before .before .before .before .before .before .before .before .before .before .before .before .before .before .before .before .before .before .before .before .before .before .args in
-    (rw (kinds-part (a .sheet .now) _ (c .before .before .before .before .before .before .before .before .before .before .before .before .before .before .before .before .before .before .before .before .before .before .before .before .before .before .before .before .before .before .before .before .before .before .before .before .before .before .before .before .before .word-at .ensures), arguments-part (a .sheet .now) _ (c .before .before .before .before .before .before .before .before .before .before .before .before .before .before .before .before .before .before .before .before .before .before .before .before .before .before .before .before .before .before .before .before .before .before .before .before .before .before .before .before .before .word-at .ensures)) at (c .before .before .before .before .before .before .before .before .before .before .before .before .before .before .before .before .run .ensures)) ∙ sheet-run _ _ (sym (c .before .before .before .before .before .before .before .before .before .before .before .before .before .before .before .before .before .before .before .before .before .before .before .before .before .before .before .before .before .before .before .before .before .before .before .before .before .before .before .before .before .before .before .is-whole .ensures) ∙ not-false _ (c .before .before .before .before .before .before .before .before .before .before .before .before .before .before .before .before .before .before .before .before .before .before .before .before .before .before .before .before .before .before .before .before .before .before .before .before .before .before .before .before .before .before .if1 .left)) _ (rw (kinds-part (a .sheet .now) _ (c .before .before .before .before .before .before .before .before .before .before .before .before .before .before .before .before .before .before .before .before .before .before .before .before .before .before .before .before .before .before .before .before .before .before .before .before .before .before .before .before .before .word-at .ensures), arguments-part (a .sheet .now) _ (c .before .before .before .before .before .before .before .before .before .before .before .before .before .before .before .before .before .before .before .before .before .before .before .before .before .before .before .before .before .before .before .before .before .before .before .before .before .before .before .before .before .word-at .ensures)) at (c .before .before .before .before .before .before .before .before .before .before .before .before .before .before .before .before .before .before .before .before .before .before .before .before .before .before .before .before .before .before .before .before .before .before .before .before .before .before .first-broken .ensures)) (omega (arith, c .before .before .before .before .before .before .before .before .before .before .before .before .before .before .before .before .before .before .before .before .before .before .before .before .before .before .before .before .before .before .before .before .before .before .before .before .before .if2 .left, c .before .before .before .before .before .before .before .before .before .before .before .before .before .before .before .before .before .before .before .before .before .before .before .before .before .before .before .before .before .before .before .before .before .before .before .before .before .before .before .before .before .word-at .ensures)) _ (c .before .before .before .before .before .before .before .before .before .before .before .before .before .before .before .before .before .before .before .before .before .before .before .before .before .before .before .before .why-not-standing .ensures) (c .before .before .before .before .before .before .before .before .before .before .before .before .before .before .before .before .before .before .before .before .before .before .before .before .before .before .before .if3 .left)
+    let after-run : tie.After-run = search in
+    let else3 : tie.Else3 = search in
+    let after-why-not-standing : tie.After-why-not-standing = search in
+    let else2 = else2-from-after-why-not-standing after-why-not-standing in
+    let after-first-broken : tie.After-first-broken = search in
+    let after-word-at : tie.After-word-at = search in
+    let else1 : tie.Else1 = search in
+    let after-is-whole : tie.After-is-whole = search in
+    let start = start-from-after-is-whole after-is-whole in
+    let a = start .args in
+    (rw (kinds-part (a .sheet .now) _ (after-word-at .word-at .ensures), arguments-part (a .sheet .now) _ (after-word-at .word-at .ensures)) at (after-run .run .ensures)) ∙ sheet-run _ _ (sym (after-is-whole .is-whole .ensures) ∙ not-false _ (else1 .if1 .left)) _ (rw (kinds-part (a .sheet .now) _ (after-word-at .word-at .ensures), arguments-part (a .sheet .now) _ (after-word-at .word-at .ensures)) at (after-first-broken .first-broken .ensures)) (omega (arith, else2 .if2 .left, after-word-at .word-at .ensures)) _ (after-why-not-standing .why-not-standing .ensures) (else3 .if3 .left)
 
 pub run-sheet-spec : {M : Type 1} → statement M
 run-sheet-spec =

@@ -5,7 +5,11 @@ use Rattle.wargnifla.proofs.put_counts.Statement.{statement}
 use Rattle.wargnifla.proofs.put_counts.Tie as tie
 
 returns : tie.Need-returns
-returns c = rw (c .before .before .put-four3 .ensures, c .before .before .before .before .before .before .put-four2 .ensures, c .before .before .before .before .before .before .before .before .before .before .put-four .ensures) (counts-over _ _)
+returns c =
+    let after-put-four3 : tie.After-put-four3 = search in
+    let after-put-four2 : tie.After-put-four2 = search in
+    let after-put-four : tie.After-put-four = search in
+    rw (after-put-four3 .put-four3 .ensures, after-put-four2 .put-four2 .ensures, after-put-four .put-four .ensures) (counts-over _ _)
 
 pub put-counts-spec : {M : Type 1} → statement M
 put-counts-spec =

@@ -5,7 +5,12 @@ use Rattle.wargnifla.proofs.put_four.Statement.{statement}
 use Rattle.wargnifla.proofs.put_four.Tie as tie
 
 returns : tie.Need-returns
-returns c = rw (c .before .before .put-word4 .ensures, c .before .before .before .before .before .before .put-word3 .ensures, c .before .before .before .before .before .before .before .before .before .before .put-word2 .ensures, c .before .before .before .before .before .before .before .before .before .before .before .before .before .before .put-word .ensures) (four-over _ _ _ _ _ _)
+returns c =
+    let after-put-word4 : tie.After-put-word4 = search in
+    let after-put-word3 : tie.After-put-word3 = search in
+    let after-put-word2 : tie.After-put-word2 = search in
+    let after-put-word : tie.After-put-word = search in
+    rw (after-put-word4 .put-word4 .ensures, after-put-word3 .put-word3 .ensures, after-put-word2 .put-word2 .ensures, after-put-word .put-word .ensures) (four-over _ _ _ _ _ _)
 
 pub put-four-spec : {M : Type 1} → statement M
 put-four-spec =

@@ -6,11 +6,17 @@ use Rattle.wargnifla.proofs.wargnifla_start.Tie as tie
 
 returns : tie.Need-returns
 returns c =
-    let a = c .before .before .args in
+    let start : tie.Start = search in
+    let a = start .args in
     start-short (a .counts .now) (a .counts .now) _ _ (c .if1 .taken)
 
 returns-2 : tie.Need-returns-2
-returns-2 c = start-crosses (c .before .before .before .before .before .before .before .before .args .counts .now) _ _ _ _ (c .before .before .before .before .before .before .if1 .left) (c .before .before .before .before .before .new .ensures) (c .before .before .put-counts .ensures)
+returns-2 c =
+    let after-put-counts : tie.After-put-counts = search in
+    let after-new : tie.After-new = search in
+    let else1 : tie.Else1 = search in
+    let start : tie.Start = search in
+    start-crosses (start .args .counts .now) _ _ _ _ (else1 .if1 .left) (after-new .new .ensures) (after-put-counts .put-counts .ensures)
 
 pub wargnifla-start-spec : {M : Type 1} → statement M
 wargnifla-start-spec =

@@ -10,17 +10,30 @@ use Rattle.buffer.proofs.CodeBuffer.add_constant.Tie as tie
 
 returns : tie.Need-returns
 unfolding addConstant
-returns c = let why = c .before .before .why-no-constant .ensures in rw (c .make-none .ensures, why) (sym (no-eq _ 0 _ _ (λ e. c .before .if1 .taken (why ∙ e))))
+returns c =
+    let then1 : tie.Then1 = search in
+    let after-why-no-constant : tie.After-why-no-constant = search in
+    let why = after-why-no-constant .why-no-constant .ensures in rw (c .make-none .ensures, why) (sym (no-eq _ 0 _ _ (λ e. then1 .if1 .taken (why ∙ e))))
 
 put-constant-requires : tie.Need-put-constant-requires
-put-constant-requires c κs = omega (arith, constant-accepted _ _ _ (sym (c .before .before .why-no-constant .ensures) ∙ c .before .if1 .left))
+put-constant-requires c κs =
+    let else1 : tie.Else1 = search in
+    let after-why-no-constant : tie.After-why-no-constant = search in
+    omega (arith, constant-accepted _ _ _ (sym (after-why-no-constant .why-no-constant .ensures) ∙ else1 .if1 .left))
 
 add-self : tie.Need-add-self
-add-self c = omega (arith, constant-accepted _ _ _ (sym (c .before .before .before .before .before .why-no-constant .ensures) ∙ c .before .before .before .before .if1 .left))
+add-self c =
+    let else1 : tie.Else1 = search in
+    let after-why-no-constant : tie.After-why-no-constant = search in
+    omega (arith, constant-accepted _ _ _ (sym (after-why-no-constant .why-no-constant .ensures) ∙ else1 .if1 .left))
 
 returns-2 : tie.Need-returns-2
 unfolding addConstant
-returns-2 c = rw (c .before .before .put-constant .ensures) (sym (yes-eq _ 0 _ _ (sym (c .before .before .before .before .before .why-no-constant .ensures) ∙ c .before .before .before .before .if1 .left)))
+returns-2 c =
+    let after-put-constant : tie.After-put-constant = search in
+    let else1 : tie.Else1 = search in
+    let after-why-no-constant : tie.After-why-no-constant = search in
+    rw (after-put-constant .put-constant .ensures) (sym (yes-eq _ 0 _ _ (sym (after-why-no-constant .why-no-constant .ensures) ∙ else1 .if1 .left)))
 
 pub add-constant-spec : {M : Type 1} → statement M
 add-constant-spec =

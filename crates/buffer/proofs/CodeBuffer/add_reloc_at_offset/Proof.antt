@@ -10,17 +10,30 @@ use Rattle.buffer.proofs.CodeBuffer.add_reloc_at_offset.Tie as tie
 
 returns : tie.Need-returns
 unfolding addReloc
-returns c = let why = c .before .before .why-no-reloc .ensures in rw (c .turn-down .ensures, why) (sym (no-eq _ 0 _ _ (λ e. c .before .if1 .taken (why ∙ e))))
+returns c =
+    let then1 : tie.Then1 = search in
+    let after-why-no-reloc : tie.After-why-no-reloc = search in
+    let why = after-why-no-reloc .why-no-reloc .ensures in rw (c .turn-down .ensures, why) (sym (no-eq _ 0 _ _ (λ e. then1 .if1 .taken (why ∙ e))))
 
 put-reloc-requires : tie.Need-put-reloc-requires
-put-reloc-requires c κs = omega (arith, reloc-accepted _ _ _ _ _ (sym (c .before .before .why-no-reloc .ensures) ∙ c .before .if1 .left))
+put-reloc-requires c κs =
+    let else1 : tie.Else1 = search in
+    let after-why-no-reloc : tie.After-why-no-reloc = search in
+    omega (arith, reloc-accepted _ _ _ _ _ (sym (after-why-no-reloc .why-no-reloc .ensures) ∙ else1 .if1 .left))
 
 add-self : tie.Need-add-self
-add-self c = omega (arith, reloc-accepted _ _ _ _ _ (sym (c .before .before .before .before .before .why-no-reloc .ensures) ∙ c .before .before .before .before .if1 .left))
+add-self c =
+    let else1 : tie.Else1 = search in
+    let after-why-no-reloc : tie.After-why-no-reloc = search in
+    omega (arith, reloc-accepted _ _ _ _ _ (sym (after-why-no-reloc .why-no-reloc .ensures) ∙ else1 .if1 .left))
 
 returns-2 : tie.Need-returns-2
 unfolding addReloc
-returns-2 c = rw (c .before .before .put-reloc .ensures) (sym (yes-eq _ 0 _ _ (sym (c .before .before .before .before .before .why-no-reloc .ensures) ∙ c .before .before .before .before .if1 .left)))
+returns-2 c =
+    let after-put-reloc : tie.After-put-reloc = search in
+    let else1 : tie.Else1 = search in
+    let after-why-no-reloc : tie.After-why-no-reloc = search in
+    rw (after-put-reloc .put-reloc .ensures) (sym (yes-eq _ 0 _ _ (sym (after-why-no-reloc .why-no-reloc .ensures) ∙ else1 .if1 .left)))
 
 pub add-reloc-at-offset-spec : {M : Type 1} → statement M
 add-reloc-at-offset-spec =

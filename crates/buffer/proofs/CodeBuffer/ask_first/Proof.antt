@@ -11,24 +11,41 @@ use Rattle.buffer.proofs.CodeBuffer.ask_first.Tie as tie
 
 returns : tie.Need-returns
 unfolding askedFirst
-returns c = rw (c .make-none .ensures) (sym (pick-yes _ _ _ (rw (le-leb _ _ (c .before .if1 .taken)))))
+returns c =
+    let then1 : tie.Then1 = search in
+    rw (c .make-none .ensures) (sym (pick-yes _ _ _ (rw (le-leb _ _ (then1 .if1 .taken)))))
 
 returns-2 : tie.Need-returns-2
 unfolding askedFirst
-returns-2 c = rw (c .make-none2 .ensures) (sym (pick-yes _ _ _ (rw (lt-leb _ _ (c .before .before .if1 .left), le-leb _ _ (c .before .if2 .taken)))))
+returns-2 c =
+    let then2 : tie.Then2 = search in
+    let else1 : tie.Else1 = search in
+    rw (c .make-none2 .ensures) (sym (pick-yes _ _ _ (rw (lt-leb _ _ (else1 .if1 .left), le-leb _ _ (then2 .if2 .taken)))))
 
 put-word-requires : tie.Need-put-word-requires
-put-word-requires c κs = omega (arith, constant-label-accepted _ _ _ _ _ (c .before .before .before .before .before .before .pre))
+put-word-requires c κs =
+    let start : tie.Start = search in
+    omega (arith, constant-label-accepted _ _ _ _ _ (start .pre))
 
 add-self : tie.Need-add-self
-add-self c = omega (arith, constant-label-accepted _ _ _ _ _ (c .before .before .before .before .before .before .before .before .before .before .before .before .before .before .before .before .before .pre))
+add-self c =
+    let start : tie.Start = search in
+    omega (arith, constant-label-accepted _ _ _ _ _ (start .pre))
 
 add-self-2 : tie.Need-add-self-2
-add-self-2 c = omega (arith, constant-label-accepted _ _ _ _ _ (c .before .before .before .before .before .before .before .before .before .before .before .before .before .before .before .before .before .pre))
+add-self-2 c =
+    let start : tie.Start = search in
+    omega (arith, constant-label-accepted _ _ _ _ _ (start .pre))
 
 returns-3 : tie.Need-returns-3
 unfolding askedFirst
-returns-3 c = rw (c .before .before .before .before .before .before .before .before .before .before .put-word .ensures, c .before .before .before .before .before .before .put-word2 .ensures, c .before .before .put-word3 .ensures) (sym (pick-no _ _ _ (rw (lt-leb _ _ (c .before .before .before .before .before .before .before .before .before .before .before .before .before .if1 .left), lt-leb _ _ (c .before .before .before .before .before .before .before .before .before .before .before .before .if2 .left)))))
+returns-3 c =
+    let after-put-word3 : tie.After-put-word3 = search in
+    let after-put-word2 : tie.After-put-word2 = search in
+    let after-put-word : tie.After-put-word = search in
+    let else2 : tie.Else2 = search in
+    let else1 : tie.Else1 = search in
+    rw (after-put-word .put-word .ensures, after-put-word2 .put-word2 .ensures, after-put-word3 .put-word3 .ensures) (sym (pick-no _ _ _ (rw (lt-leb _ _ (else1 .if1 .left), lt-leb _ _ (else2 .if2 .left)))))
 
 pub ask-first-spec : {M : Type 1} → statement M
 ask-first-spec =

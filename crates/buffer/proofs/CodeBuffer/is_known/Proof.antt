@@ -7,11 +7,15 @@ use Rattle.buffer.proofs.CodeBuffer.is_known.Tie as tie
 
 returns : tie.Need-returns
 unfolding targetKnown
-returns c = sym (yes-lt _ _ _ _ (c .before .if1 .taken))
+returns c =
+    let then1 : tie.Then1 = search in
+    sym (yes-lt _ _ _ _ (then1 .if1 .taken))
 
 returns-2 : tie.Need-returns-2
 unfolding targetKnown
-returns-2 c = sym (no-lt _ _ _ _ (c .before .if1 .left))
+returns-2 c =
+    let else1 : tie.Else1 = search in
+    sym (no-lt _ _ _ _ (else1 .if1 .left))
 
 pub is-known-spec : {M : Type 1} → statement M
 is-known-spec = tie.close (tie.spec returns returns-2)

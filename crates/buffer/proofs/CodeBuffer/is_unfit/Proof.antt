@@ -9,31 +9,38 @@ use Rattle.buffer.proofs.CodeBuffer.is_unfit.Tie as tie
 
 returns : tie.Need-returns
 unfolding jumpUnfit
-returns c = rw (sym (c .before .is-malformed .ensures) ∙ c .if1 .taken)
+returns c =
+    let after-is-malformed : tie.After-is-malformed = search in
+    rw (sym (after-is-malformed .is-malformed .ensures) ∙ c .if1 .taken)
 
 returns-2 : tie.Need-returns-2
 unfolding jumpUnfit
 returns-2 c =
-    let last = c .before in
-    let one = last .before .before in
+    let last : tie.After-last-end = search in
+    let one : tie.Else1 = search in
+    let after-is-malformed : tie.After-is-malformed = search in
+    let start' : tie.Start = search in
     rw (
-      sym (one .before .is-malformed .ensures) ∙ one .if1 .left,
+      sym (after-is-malformed .is-malformed .ensures) ∙ one .if1 .left,
       ← last .last-end .ensures,
-      lt-ltb (one .before .before .before .before .args .start) (last .last-end .result) (c .if2 .taken),
+      lt-ltb (start' .args .start) (last .last-end .result) (c .if2 .taken),
     )
 
 returns-3 : tie.Need-returns-3
 unfolding jumpUnfit
 returns-3 c =
-    let last = c .before .before .before in
-    let one = last .before .before in
-    let a = one .before .before .before .before .args in
-    let sound = sym (one .before .is-malformed .ensures) ∙ one .if1 .left in
+    let else2 : tie.Else2 = search in
+    let last : tie.After-last-end = search in
+    let one : tie.Else1 = search in
+    let after-is-malformed : tie.After-is-malformed = search in
+    let start' : tie.Start = search in
+    let a = start' .args in
+    let sound = sym (after-is-malformed .is-malformed .ensures) ∙ one .if1 .left in
     rw (
       sound,
       ends-here (a .self .code) (a .start) (a .len) (a .cc) sound,
       ← last .last-end .ensures,
-      le-ltb (a .start) (last .last-end .result) (c .before .before .if2 .left),
+      le-ltb (a .start) (last .last-end .result) (else2 .if2 .left),
     )
     (c .label-inside .ensures)
 

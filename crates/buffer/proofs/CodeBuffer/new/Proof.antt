@@ -12,13 +12,15 @@ use Rattle.buffer.proofs.CodeBuffer.new.Tie as tie
 returns : tie.Need-returns
 unfolding started whyStart
 returns c =
-    let why = yes-not {A = ℕ} _ 2 0 (sym (c .before .arch-occurs .ensures) ∙ not-true _ (c .if1 .taken)) in
+    let after-arch-occurs : tie.After-arch-occurs = search in
+    let why = yes-not {A = ℕ} _ 2 0 (sym (after-arch-occurs .arch-occurs .ensures) ∙ not-true _ (c .if1 .taken)) in
     rw (why, no-eq 2 0 _ _ (λ e. omega arith))
 
 returns-2 : tie.Need-returns-2
 unfolding started whyStart
 returns-2 c =
-    let why = no-not {A = ℕ} _ 2 0 (sym (c .before .arch-occurs .ensures) ∙ not-false _ (c .if1 .left)) in
+    let after-arch-occurs : tie.After-arch-occurs = search in
+    let why = no-not {A = ℕ} _ 2 0 (sym (after-arch-occurs .arch-occurs .ensures) ∙ not-false _ (c .if1 .left)) in
     sym (yes-eq _ 0 _ _ why)
 
 pub new-spec : {M : Type 1} → statement M

@@ -13,26 +13,37 @@ use Rattle.buffer.proofs.CodeBuffer.put_bytes.Tie as tie
 returns : tie.Need-returns
 unfolding putBytes
 returns c =
-    let why = c .before .before .why-no-bytes .ensures in
-    rw (c .turn-down .ensures, why) (sym (no-eq _ 0 _ _ (λ e. c .before .if1 .taken (why ∙ e))))
+    let then1 : tie.Then1 = search in
+    let after-why-no-bytes : tie.After-why-no-bytes = search in
+    let why = after-why-no-bytes .why-no-bytes .ensures in
+    rw (c .turn-down .ensures, why) (sym (no-eq _ 0 _ _ (λ e. then1 .if1 .taken (why ∙ e))))
 
 part-copy-end : tie.Need-part-copy-end
-part-copy-end c = omega (arith, bytes-accepted _ _ _ (sym (c .before .before .why-no-bytes .ensures) ∙ c .before .if1 .left))
+part-copy-end c =
+    let else1 : tie.Else1 = search in
+    let after-why-no-bytes : tie.After-why-no-bytes = search in
+    omega (arith, bytes-accepted _ _ _ (sym (after-why-no-bytes .why-no-bytes .ensures) ∙ else1 .if1 .left))
 
 cast-self : tie.Need-cast-self
-cast-self c = let checked = c .before .before .before .before .before in omega (arith, bytes-accepted _ _ _ (sym (checked .before .why-no-bytes .ensures) ∙ checked .if1 .left))
+cast-self c =
+    let checked : tie.Else1 = search in
+    let after-why-no-bytes : tie.After-why-no-bytes = search in
+    omega (arith, bytes-accepted _ _ _ (sym (after-why-no-bytes .why-no-bytes .ensures) ∙ checked .if1 .left))
 
 returns-2 : tie.Need-returns-2
 unfolding putBytes
 returns-2 c =
-    let checked = c .before .before .before .before .before in
-    let a = checked .before .before .before .before .args in
+    let after-copy : tie.After-copy = search in
+    let checked : tie.Else1 = search in
+    let after-why-no-bytes : tie.After-why-no-bytes = search in
+    let start : tie.Start = search in
+    let a = start .args in
     let at = a .self .code in
     let n = length (a .bytes .now) in
-    let why = sym (checked .before .why-no-bytes .ensures) ∙ checked .if1 .left in
+    let why = sym (after-why-no-bytes .why-no-bytes .ensures) ∙ checked .if1 .left in
     let fits = bytes-accepted (a .self) (length (a .code .now)) n why in
     let copied = part-copied (a .code .now) (a .bytes .now) at (omega arith) in
-    rw (c .before .before .copy .ensures, copied) (sym (yes-eq _ 0 _ _ why))
+    rw (after-copy .copy .ensures, copied) (sym (yes-eq _ 0 _ _ why))
 
 pub put-bytes-spec : {M : Type 1} → statement M
 put-bytes-spec =

@@ -12,16 +12,24 @@ unfolding alignedEvents
 returns c = sym (no-eq _ 2 _ _ (c .if1 .taken))
 
 put-event-requires : tie.Need-put-event-requires
-put-event-requires c κs = let one = c .before .before in omega (arith, one .before .before .before .pre (one .if1 .left))
+put-event-requires c κs =
+    let one : tie.Else1 = search in
+    let start : tie.Start = search in
+    omega (arith, start .pre (one .if1 .left))
 
 add-self : tie.Need-add-self
-add-self c = let one = c .before .before .before .before .before in omega (arith, one .before .before .before .pre (one .if1 .left))
+add-self c =
+    let one : tie.Else1 = search in
+    let start : tie.Start = search in
+    omega (arith, start .pre (one .if1 .left))
 
 returns-2 : tie.Need-returns-2
 unfolding alignedEvents
 returns-2 c =
-    let measured = c .before .before .before .before in
-    rw (c .before .before .put-event .ensures, measured .padding-len .ensures) (sym (yes-eq _ 2 _ _ (measured .before .if1 .left)))
+    let after-put-event : tie.After-put-event = search in
+    let measured : tie.After-padding-len = search in
+    let else1 : tie.Else1 = search in
+    rw (after-put-event .put-event .ensures, measured .padding-len .ensures) (sym (yes-eq _ 2 _ _ (else1 .if1 .left)))
 
 pub record-alignment-spec : {M : Type 1} → statement M
 record-alignment-spec =

@@ -10,21 +10,40 @@ use Rattle.buffer.proofs.CodeBuffer.record_label_ref.Tie as tie
 
 returns : tie.Need-returns
 unfolding recordRef
-returns c = let why = c .before .before .why-no-ref .ensures in rw (c .turn-down .ensures, why) (sym (no-eq _ 0 _ _ (λ e. c .before .if1 .taken (why ∙ e))))
+returns c =
+    let then1 : tie.Then1 = search in
+    let after-why-no-ref : tie.After-why-no-ref = search in
+    let why = after-why-no-ref .why-no-ref .ensures in rw (c .turn-down .ensures, why) (sym (no-eq _ 0 _ _ (λ e. then1 .if1 .taken (why ∙ e))))
 
 returns-2 : tie.Need-returns-2
 unfolding recordRef
-returns-2 c = sym (yes-eq _ 0 _ _ (sym (c .before .before .before .why-no-ref .ensures) ∙ c .before .before .if1 .left) ∙ no-eq _ 2 _ _ (c .if2 .taken))
+returns-2 c =
+    let else1 : tie.Else1 = search in
+    let after-why-no-ref : tie.After-why-no-ref = search in
+    sym (yes-eq _ 0 _ _ (sym (after-why-no-ref .why-no-ref .ensures) ∙ else1 .if1 .left) ∙ no-eq _ 2 _ _ (c .if2 .taken))
 
 put-ref-requires : tie.Need-put-ref-requires
-put-ref-requires c κs = omega (arith, ref-accepted _ _ _ _ (sym (c .before .before .before .before .why-no-ref .ensures) ∙ c .before .before .before .if1 .left) (c .before .if2 .left))
+put-ref-requires c κs =
+    let else2 : tie.Else2 = search in
+    let else1 : tie.Else1 = search in
+    let after-why-no-ref : tie.After-why-no-ref = search in
+    omega (arith, ref-accepted _ _ _ _ (sym (after-why-no-ref .why-no-ref .ensures) ∙ else1 .if1 .left) (else2 .if2 .left))
 
 add-self : tie.Need-add-self
-add-self c = omega (arith, ref-accepted _ _ _ _ (sym (c .before .before .before .before .before .before .before .why-no-ref .ensures) ∙ c .before .before .before .before .before .before .if1 .left) (c .before .before .before .before .if2 .left))
+add-self c =
+    let else2 : tie.Else2 = search in
+    let else1 : tie.Else1 = search in
+    let after-why-no-ref : tie.After-why-no-ref = search in
+    omega (arith, ref-accepted _ _ _ _ (sym (after-why-no-ref .why-no-ref .ensures) ∙ else1 .if1 .left) (else2 .if2 .left))
 
 returns-3 : tie.Need-returns-3
 unfolding recordRef
-returns-3 c = rw (c .before .before .put-ref .ensures) (sym (yes-eq _ 0 _ _ (sym (c .before .before .before .before .before .before .before .why-no-ref .ensures) ∙ c .before .before .before .before .before .before .if1 .left) ∙ yes-eq _ 2 _ _ (c .before .before .before .before .if2 .left)))
+returns-3 c =
+    let after-put-ref : tie.After-put-ref = search in
+    let else2 : tie.Else2 = search in
+    let else1 : tie.Else1 = search in
+    let after-why-no-ref : tie.After-why-no-ref = search in
+    rw (after-put-ref .put-ref .ensures) (sym (yes-eq _ 0 _ _ (sym (after-why-no-ref .why-no-ref .ensures) ∙ else1 .if1 .left) ∙ yes-eq _ 2 _ _ (else2 .if2 .left)))
 
 pub record-label-ref-spec : {M : Type 1} → statement M
 record-label-ref-spec =

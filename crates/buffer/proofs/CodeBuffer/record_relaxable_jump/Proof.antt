@@ -11,34 +11,41 @@ use Rattle.buffer.proofs.CodeBuffer.record_relaxable_jump.Tie as tie
 returns : tie.Need-returns
 unfolding recordJump
 returns c =
-    let why = c .before .before .why-not-jump .ensures in
-    rw (c .turn-down .ensures, why) (sym (no-eq _ 0 _ _ (λ e. c .before .if1 .taken (why ∙ e))))
+    let then1 : tie.Then1 = search in
+    let after-why-not-jump : tie.After-why-not-jump = search in
+    let why = after-why-not-jump .why-not-jump .ensures in
+    rw (c .turn-down .ensures, why) (sym (no-eq _ 0 _ _ (λ e. then1 .if1 .taken (why ∙ e))))
 
 returns-2 : tie.Need-returns-2
 unfolding recordJump
 returns-2 c =
-    let one = c .before .before in
-    sym (yes-eq _ 0 _ _ (sym (one .before .why-not-jump .ensures) ∙ one .if1 .left) ∙ no-eq _ 2 _ _ (c .if2 .taken))
+    let one : tie.Else1 = search in
+    let after-why-not-jump : tie.After-why-not-jump = search in
+    sym (yes-eq _ 0 _ _ (sym (after-why-not-jump .why-not-jump .ensures) ∙ one .if1 .left) ∙ no-eq _ 2 _ _ (c .if2 .taken))
 
 put-event-requires : tie.Need-put-event-requires
 put-event-requires c κs =
-    let two = c .before in
-    let one = two .before .before in
-    omega (arith, jump-accepted _ _ _ _ _ _ _ (sym (one .before .why-not-jump .ensures) ∙ one .if1 .left) (two .if2 .left))
+    let two : tie.Else2 = search in
+    let one : tie.Else1 = search in
+    let after-why-not-jump : tie.After-why-not-jump = search in
+    omega (arith, jump-accepted _ _ _ _ _ _ _ (sym (after-why-not-jump .why-not-jump .ensures) ∙ one .if1 .left) (two .if2 .left))
 
 add-self : tie.Need-add-self
 add-self c =
-    let two = c .before .before .before .before in
-    let one = two .before .before in
-    omega (arith, jump-accepted _ _ _ _ _ _ _ (sym (one .before .why-not-jump .ensures) ∙ one .if1 .left) (two .if2 .left))
+    let two : tie.Else2 = search in
+    let one : tie.Else1 = search in
+    let after-why-not-jump : tie.After-why-not-jump = search in
+    omega (arith, jump-accepted _ _ _ _ _ _ _ (sym (after-why-not-jump .why-not-jump .ensures) ∙ one .if1 .left) (two .if2 .left))
 
 returns-3 : tie.Need-returns-3
 unfolding recordJump
 returns-3 c =
-    let two = c .before .before .before .before in
-    let one = two .before .before in
-    rw (c .before .before .put-event .ensures)
-    (sym (yes-eq _ 0 _ _ (sym (one .before .why-not-jump .ensures) ∙ one .if1 .left) ∙ yes-eq _ 2 _ _ (two .if2 .left)))
+    let after-put-event : tie.After-put-event = search in
+    let two : tie.Else2 = search in
+    let one : tie.Else1 = search in
+    let after-why-not-jump : tie.After-why-not-jump = search in
+    rw (after-put-event .put-event .ensures)
+    (sym (yes-eq _ 0 _ _ (sym (after-why-not-jump .why-not-jump .ensures) ∙ one .if1 .left) ∙ yes-eq _ 2 _ _ (two .if2 .left)))
 
 pub record-relaxable-jump-spec : {M : Type 1} → statement M
 record-relaxable-jump-spec =

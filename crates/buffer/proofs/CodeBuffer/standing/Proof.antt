@@ -8,23 +8,45 @@ use Rattle.buffer.proofs.CodeBuffer.standing.Tie as tie
 
 returns : tie.Need-returns
 unfolding standing
-returns c = sym (yes-not _ _ _ (sym (c .before .is-sound .ensures) ∙ not-true _ (c .if1 .taken)))
+returns c =
+    let after-is-sound : tie.After-is-sound = search in
+    sym (yes-not _ _ _ (sym (after-is-sound .is-sound .ensures) ∙ not-true _ (c .if1 .taken)))
 
 returns-2 : tie.Need-returns-2
 unfolding standing
-returns-2 c = sym (no-not _ _ _ (sym (c .before .before .before .is-sound .ensures) ∙ not-false _ (c .before .before .if1 .left)) ∙ yes-ne _ 0 _ _ (c .if2 .taken))
+returns-2 c =
+    let else1 : tie.Else1 = search in
+    let after-is-sound : tie.After-is-sound = search in
+    sym (no-not _ _ _ (sym (after-is-sound .is-sound .ensures) ∙ not-false _ (else1 .if1 .left)) ∙ yes-ne _ 0 _ _ (c .if2 .taken))
 
 returns-3 : tie.Need-returns-3
 unfolding standing
-returns-3 c = sym (no-not _ _ _ (sym (c .before .before .before .before .is-sound .ensures) ∙ not-false _ (c .before .before .before .if1 .left)) ∙ no-ne _ 0 _ _ (c .before .if2 .left) ∙ yes-not (c .before .before .before .before .before .args .within) _ _ (not-true _ (c .if3 .taken)))
+returns-3 c =
+    let else2 : tie.Else2 = search in
+    let else1 : tie.Else1 = search in
+    let after-is-sound : tie.After-is-sound = search in
+    let start : tie.Start = search in
+    sym (no-not _ _ _ (sym (after-is-sound .is-sound .ensures) ∙ not-false _ (else1 .if1 .left)) ∙ no-ne _ 0 _ _ (else2 .if2 .left) ∙ yes-not (start .args .within) _ _ (not-true _ (c .if3 .taken)))
 
 returns-4 : tie.Need-returns-4
 unfolding standing
-returns-4 c = sym (no-not _ _ _ (sym (c .before .before .before .before .before .before .is-sound .ensures) ∙ not-false _ (c .before .before .before .before .before .if1 .left)) ∙ no-ne _ 0 _ _ (c .before .before .before .if2 .left) ∙ no-not (c .before .before .before .before .before .before .before .args .within) _ _ (not-false _ (c .before .before .if3 .left)) ∙ yes-ne _ 0 _ _ (c .if4 .taken))
+returns-4 c =
+    let else3 : tie.Else3 = search in
+    let else2 : tie.Else2 = search in
+    let else1 : tie.Else1 = search in
+    let after-is-sound : tie.After-is-sound = search in
+    let start : tie.Start = search in
+    sym (no-not _ _ _ (sym (after-is-sound .is-sound .ensures) ∙ not-false _ (else1 .if1 .left)) ∙ no-ne _ 0 _ _ (else2 .if2 .left) ∙ no-not (start .args .within) _ _ (not-false _ (else3 .if3 .left)) ∙ yes-ne _ 0 _ _ (c .if4 .taken))
 
 returns-5 : tie.Need-returns-5
 unfolding standing
-returns-5 c = sym (no-not _ _ _ (sym (c .before .before .before .before .before .before .is-sound .ensures) ∙ not-false _ (c .before .before .before .before .before .if1 .left)) ∙ no-ne _ 0 _ _ (c .before .before .before .if2 .left) ∙ no-not (c .before .before .before .before .before .before .before .args .within) _ _ (not-false _ (c .before .before .if3 .left)) ∙ no-ne _ 0 _ _ (c .if4 .left))
+returns-5 c =
+    let else3 : tie.Else3 = search in
+    let else2 : tie.Else2 = search in
+    let else1 : tie.Else1 = search in
+    let after-is-sound : tie.After-is-sound = search in
+    let start : tie.Start = search in
+    sym (no-not _ _ _ (sym (after-is-sound .is-sound .ensures) ∙ not-false _ (else1 .if1 .left)) ∙ no-ne _ 0 _ _ (else2 .if2 .left) ∙ no-not (start .args .within) _ _ (not-false _ (else3 .if3 .left)) ∙ no-ne _ 0 _ _ (c .if4 .left))
 
 pub standing-spec : {M : Type 1} → statement M
 standing-spec =

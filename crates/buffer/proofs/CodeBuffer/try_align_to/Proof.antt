@@ -13,38 +13,49 @@ use Rattle.buffer.proofs.CodeBuffer.try_align_to.Tie as tie
 returns : tie.Need-returns
 unfolding alignTo
 returns c =
-    let why = c .before .before .why-not-align .ensures in
-    rw (c .turn-down .ensures, why) (sym (no-eq _ 0 _ _ (λ e. c .before .if1 .taken (why ∙ e))))
+    let then1 : tie.Then1 = search in
+    let after-why-not-align : tie.After-why-not-align = search in
+    let why = after-why-not-align .why-not-align .ensures in
+    rw (c .turn-down .ensures, why) (sym (no-eq _ 0 _ _ (λ e. then1 .if1 .taken (why ∙ e))))
 
 part-pad-end : tie.Need-part-pad-end
 part-pad-end c =
-    let fits = align-accepted _ _ _ _ (sym (c .before .before .before .why-not-align .ensures) ∙ c .before .before .if1 .left) in
+    let else1 : tie.Else1 = search in
+    let after-why-not-align : tie.After-why-not-align = search in
+    let fits = align-accepted _ _ _ _ (sym (after-why-not-align .why-not-align .ensures) ∙ else1 .if1 .left) in
     omega (arith, c .padding-len .ensures, fits .fits)
 
 record-alignment-requires : tie.Need-record-alignment-requires
 record-alignment-requires c κs =
-    let checked = c .before .before .before .before .before .before .before in
-    let fits = align-accepted _ _ _ _ (sym (checked .before .why-not-align .ensures) ∙ checked .if1 .left) in
+    let checked : tie.Else1 = search in
+    let after-why-not-align : tie.After-why-not-align = search in
+    let fits = align-accepted _ _ _ _ (sym (after-why-not-align .why-not-align .ensures) ∙ checked .if1 .left) in
     λ e. (omega (arith, fits .event e), omega (arith, fits .event e, fits .fewEvents))
 
 cast-buffer : tie.Need-cast-buffer
 cast-buffer c =
-    let checked = c .before .before .before .before .before .before .before .before .before .before in
-    let fits = align-accepted _ _ _ _ (sym (checked .before .why-not-align .ensures) ∙ checked .if1 .left) in
-    omega (arith, c .before .before .before .before .before .before .before .before .padding-len .ensures, fits .fits, fits .few)
+    let after-padding-len : tie.After-padding-len = search in
+    let checked : tie.Else1 = search in
+    let after-why-not-align : tie.After-why-not-align = search in
+    let fits = align-accepted _ _ _ _ (sym (after-why-not-align .why-not-align .ensures) ∙ checked .if1 .left) in
+    omega (arith, after-padding-len .padding-len .ensures, fits .fits, fits .few)
 
 returns-2 : tie.Need-returns-2
 unfolding alignTo
 returns-2 c =
-    let measured = c .before .before .before .before .before .before .before .before in
-    let checked = measured .before .before in
-    let a = checked .before .before .before .before .args in
+    let after-record-alignment : tie.After-record-alignment = search in
+    let after-pad : tie.After-pad = search in
+    let measured : tie.After-padding-len = search in
+    let checked : tie.Else1 = search in
+    let after-why-not-align : tie.After-why-not-align = search in
+    let start : tie.Start = search in
+    let a = start .args in
     let at = a .self .code in
     let n = measured .padding-len .result in
-    let why = sym (checked .before .why-not-align .ensures) ∙ checked .if1 .left in
+    let why = sym (after-why-not-align .why-not-align .ensures) ∙ checked .if1 .left in
     let fits = align-accepted _ _ _ _ why in
     let padded = over-padded (a .code .now) at (at + n - at) n (a .self .arch) (omega arith) (omega (arith, measured .padding-len .ensures, fits .fits)) in
-    rw (← c .before .before .record-alignment .ensures, ← measured .padding-len .ensures, c .before .before .before .before .before .before .pad .ensures, padded) (sym (yes-eq _ 0 _ _ why))
+    rw (← after-record-alignment .record-alignment .ensures, ← measured .padding-len .ensures, after-pad .pad .ensures, padded) (sym (yes-eq _ 0 _ _ why))
 
 pub try-align-to-spec : {M : Type 1} → statement M
 try-align-to-spec =

@@ -9,14 +9,23 @@ use Rattle.buffer.proofs.CodeBuffer.try_bind_label.Tie as tie
 
 returns : tie.Need-returns
 unfolding bindLabel
-returns c = let why = c .before .why-not-bind .ensures in rw why (sym (no-eq _ 0 _ _ (λ e. c .if1 .taken (why ∙ e))))
+returns c =
+    let after-why-not-bind : tie.After-why-not-bind = search in
+    let why = after-why-not-bind .why-not-bind .ensures in rw why (sym (no-eq _ 0 _ _ (λ e. c .if1 .taken (why ∙ e))))
 
 put-word-requires : tie.Need-put-word-requires
-put-word-requires c κs = omega (arith, bind-accepted _ _ _ (sym (c .before .before .why-not-bind .ensures) ∙ c .before .if1 .left))
+put-word-requires c κs =
+    let else1 : tie.Else1 = search in
+    let after-why-not-bind : tie.After-why-not-bind = search in
+    omega (arith, bind-accepted _ _ _ (sym (after-why-not-bind .why-not-bind .ensures) ∙ else1 .if1 .left))
 
 returns-2 : tie.Need-returns-2
 unfolding bindLabel
-returns-2 c = rw (c .before .before .put-word .ensures) (sym (yes-eq _ 0 _ _ (sym (c .before .before .before .before .before .why-not-bind .ensures) ∙ c .before .before .before .before .if1 .left)))
+returns-2 c =
+    let after-put-word : tie.After-put-word = search in
+    let else1 : tie.Else1 = search in
+    let after-why-not-bind : tie.After-why-not-bind = search in
+    rw (after-put-word .put-word .ensures) (sym (yes-eq _ 0 _ _ (sym (after-why-not-bind .why-not-bind .ensures) ∙ else1 .if1 .left)))
 
 pub try-bind-label-spec : {M : Type 1} → statement M
 try-bind-label-spec =

@@ -10,17 +10,30 @@ use Rattle.buffer.proofs.CodeBuffer.use_label_at_offset.Tie as tie
 
 returns : tie.Need-returns
 unfolding useLabel
-returns c = let why = c .before .before .why-no-use .ensures in rw (c .turn-down .ensures, why) (sym (no-eq _ 0 _ _ (λ e. c .before .if1 .taken (why ∙ e))))
+returns c =
+    let then1 : tie.Then1 = search in
+    let after-why-no-use : tie.After-why-no-use = search in
+    let why = after-why-no-use .why-no-use .ensures in rw (c .turn-down .ensures, why) (sym (no-eq _ 0 _ _ (λ e. then1 .if1 .taken (why ∙ e))))
 
 put-use-requires : tie.Need-put-use-requires
-put-use-requires c κs = omega (arith, use-accepted _ _ _ _ (sym (c .before .before .why-no-use .ensures) ∙ c .before .if1 .left))
+put-use-requires c κs =
+    let else1 : tie.Else1 = search in
+    let after-why-no-use : tie.After-why-no-use = search in
+    omega (arith, use-accepted _ _ _ _ (sym (after-why-no-use .why-no-use .ensures) ∙ else1 .if1 .left))
 
 add-self : tie.Need-add-self
-add-self c = omega (arith, use-accepted _ _ _ _ (sym (c .before .before .before .before .before .why-no-use .ensures) ∙ c .before .before .before .before .if1 .left))
+add-self c =
+    let else1 : tie.Else1 = search in
+    let after-why-no-use : tie.After-why-no-use = search in
+    omega (arith, use-accepted _ _ _ _ (sym (after-why-no-use .why-no-use .ensures) ∙ else1 .if1 .left))
 
 returns-2 : tie.Need-returns-2
 unfolding useLabel
-returns-2 c = rw (c .before .before .put-use .ensures) (sym (yes-eq _ 0 _ _ (sym (c .before .before .before .before .before .why-no-use .ensures) ∙ c .before .before .before .before .if1 .left)))
+returns-2 c =
+    let after-put-use : tie.After-put-use = search in
+    let else1 : tie.Else1 = search in
+    let after-why-no-use : tie.After-why-no-use = search in
+    rw (after-put-use .put-use .ensures) (sym (yes-eq _ 0 _ _ (sym (after-why-no-use .why-no-use .ensures) ∙ else1 .if1 .left)))
 
 pub use-label-at-offset-spec : {M : Type 1} → statement M
 use-label-at-offset-spec =

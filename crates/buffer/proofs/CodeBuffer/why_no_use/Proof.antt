@@ -8,27 +8,63 @@ use Rattle.buffer.proofs.CodeBuffer.why_no_use.Tie as tie
 
 returns : tie.Need-returns
 unfolding whyUse
-returns c = rw (← c .before .before .both .ensures, ← c .before .standing .ensures) (sym (no-eq _ 0 _ _ (c .if1 .taken)))
+returns c =
+    let after-standing : tie.After-standing = search in
+    let after-both : tie.After-both = search in
+    rw (← after-both .both .ensures, ← after-standing .standing .ensures) (sym (no-eq _ 0 _ _ (c .if1 .taken)))
 
 returns-2 : tie.Need-returns-2
 unfolding whyUse
-returns-2 c = rw (← c .before .before .before .both .ensures, ← c .before .before .standing .ensures) (sym (yes-eq _ 0 _ _ (c .before .if1 .left) ∙ yes-eq _ 15 _ _ (c .if2 .taken)))
+returns-2 c =
+    let else1 : tie.Else1 = search in
+    let after-standing : tie.After-standing = search in
+    let after-both : tie.After-both = search in
+    rw (← after-both .both .ensures, ← after-standing .standing .ensures) (sym (yes-eq _ 0 _ _ (else1 .if1 .left) ∙ yes-eq _ 15 _ _ (c .if2 .taken)))
 
 returns-3 : tie.Need-returns-3
 unfolding whyUse
-returns-3 c = rw (← c .before .before .before .before .before .both .ensures, ← c .before .before .before .before .standing .ensures) (sym (yes-eq _ 0 _ _ (c .before .before .before .if1 .left) ∙ no-eq _ 15 _ _ (c .before .before .if2 .left) ∙ pick-yes _ _ _ (sym (c .before .is-foreign .ensures) ∙ c .if3 .taken)))
+returns-3 c =
+    let after-is-foreign : tie.After-is-foreign = search in
+    let else2 : tie.Else2 = search in
+    let else1 : tie.Else1 = search in
+    let after-standing : tie.After-standing = search in
+    let after-both : tie.After-both = search in
+    rw (← after-both .both .ensures, ← after-standing .standing .ensures) (sym (yes-eq _ 0 _ _ (else1 .if1 .left) ∙ no-eq _ 15 _ _ (else2 .if2 .left) ∙ pick-yes _ _ _ (sym (after-is-foreign .is-foreign .ensures) ∙ c .if3 .taken)))
 
 returns-4 : tie.Need-returns-4
 unfolding whyUse
-returns-4 c = rw (← c .before .before .before .before .before .before .before .both .ensures, ← c .before .before .before .before .before .before .standing .ensures) (sym (yes-eq _ 0 _ _ (c .before .before .before .before .before .if1 .left) ∙ no-eq _ 15 _ _ (c .before .before .before .before .if2 .left) ∙ pick-no _ _ _ (sym (c .before .before .before .is-foreign .ensures) ∙ c .before .before .if3 .left) ∙ yes-le _ _ _ _ (c .if4 .taken)))
+returns-4 c =
+    let else3 : tie.Else3 = search in
+    let after-is-foreign : tie.After-is-foreign = search in
+    let else2 : tie.Else2 = search in
+    let else1 : tie.Else1 = search in
+    let after-standing : tie.After-standing = search in
+    let after-both : tie.After-both = search in
+    rw (← after-both .both .ensures, ← after-standing .standing .ensures) (sym (yes-eq _ 0 _ _ (else1 .if1 .left) ∙ no-eq _ 15 _ _ (else2 .if2 .left) ∙ pick-no _ _ _ (sym (after-is-foreign .is-foreign .ensures) ∙ else3 .if3 .left) ∙ yes-le _ _ _ _ (c .if4 .taken)))
 
 returns-5 : tie.Need-returns-5
 unfolding whyUse
-returns-5 c = rw (← c .before .before .before .before .before .before .before .before .both .ensures, ← c .before .before .before .before .before .before .before .standing .ensures) (sym (yes-eq _ 0 _ _ (c .before .before .before .before .before .before .if1 .left) ∙ no-eq _ 15 _ _ (c .before .before .before .before .before .if2 .left) ∙ pick-no _ _ _ (sym (c .before .before .before .before .is-foreign .ensures) ∙ c .before .before .before .if3 .left) ∙ no-le _ _ _ _ (c .before .if4 .left) ∙ yes-le _ _ _ _ (c .if5 .taken)))
+returns-5 c =
+    let else4 : tie.Else4 = search in
+    let else3 : tie.Else3 = search in
+    let after-is-foreign : tie.After-is-foreign = search in
+    let else2 : tie.Else2 = search in
+    let else1 : tie.Else1 = search in
+    let after-standing : tie.After-standing = search in
+    let after-both : tie.After-both = search in
+    rw (← after-both .both .ensures, ← after-standing .standing .ensures) (sym (yes-eq _ 0 _ _ (else1 .if1 .left) ∙ no-eq _ 15 _ _ (else2 .if2 .left) ∙ pick-no _ _ _ (sym (after-is-foreign .is-foreign .ensures) ∙ else3 .if3 .left) ∙ no-le _ _ _ _ (else4 .if4 .left) ∙ yes-le _ _ _ _ (c .if5 .taken)))
 
 returns-6 : tie.Need-returns-6
 unfolding whyUse
-returns-6 c = rw (← c .before .before .before .before .before .before .before .before .both .ensures, ← c .before .before .before .before .before .before .before .standing .ensures) (sym (yes-eq _ 0 _ _ (c .before .before .before .before .before .before .if1 .left) ∙ no-eq _ 15 _ _ (c .before .before .before .before .before .if2 .left) ∙ pick-no _ _ _ (sym (c .before .before .before .before .is-foreign .ensures) ∙ c .before .before .before .if3 .left) ∙ no-le _ _ _ _ (c .before .if4 .left) ∙ no-le _ _ _ _ (c .if5 .left)))
+returns-6 c =
+    let else4 : tie.Else4 = search in
+    let else3 : tie.Else3 = search in
+    let after-is-foreign : tie.After-is-foreign = search in
+    let else2 : tie.Else2 = search in
+    let else1 : tie.Else1 = search in
+    let after-standing : tie.After-standing = search in
+    let after-both : tie.After-both = search in
+    rw (← after-both .both .ensures, ← after-standing .standing .ensures) (sym (yes-eq _ 0 _ _ (else1 .if1 .left) ∙ no-eq _ 15 _ _ (else2 .if2 .left) ∙ pick-no _ _ _ (sym (after-is-foreign .is-foreign .ensures) ∙ else3 .if3 .left) ∙ no-le _ _ _ _ (else4 .if4 .left) ∙ no-le _ _ _ _ (c .if5 .left)))
 
 pub why-no-use-spec : {M : Type 1} → statement M
 why-no-use-spec =

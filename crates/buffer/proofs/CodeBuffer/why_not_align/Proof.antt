@@ -12,55 +12,83 @@ use Rattle.buffer.proofs.CodeBuffer.why_not_align.Tie as tie
 returns : tie.Need-returns
 unfolding whyAlign
 returns c =
-    rw (← c .before .before .before .both .ensures, ← c .before .before .both2 .ensures, ← c .before .standing .ensures)
+    let after-standing : tie.After-standing = search in
+    let after-both2 : tie.After-both2 = search in
+    let after-both : tie.After-both = search in
+    rw (← after-both .both .ensures, ← after-both2 .both2 .ensures, ← after-standing .standing .ensures)
     (sym (no-eq _ 0 _ _ (c .if1 .taken)))
 
 returns-2 : tie.Need-returns-2
 unfolding whyAlign
 returns-2 c =
-    let one = c .before .before in
-    rw (← one .before .before .before .both .ensures, ← one .before .before .both2 .ensures, ← one .before .standing .ensures)
-    (sym (yes-eq _ 0 _ _ (one .if1 .left) ∙ yes-not _ _ _ (sym (c .before .is-alignment .ensures) ∙ not-true _ (c .if2 .taken))))
+    let after-is-alignment : tie.After-is-alignment = search in
+    let one : tie.Else1 = search in
+    let after-standing : tie.After-standing = search in
+    let after-both2 : tie.After-both2 = search in
+    let after-both : tie.After-both = search in
+    rw (← after-both .both .ensures, ← after-both2 .both2 .ensures, ← after-standing .standing .ensures)
+    (sym (yes-eq _ 0 _ _ (one .if1 .left) ∙ yes-not _ _ _ (sym (after-is-alignment .is-alignment .ensures) ∙ not-true _ (c .if2 .taken))))
 
 returns-3 : tie.Need-returns-3
 unfolding whyAlign
 returns-3 c =
-    let two = c .before .before .before in
-    let one = two .before .before in
-    rw (← one .before .before .before .both .ensures, ← one .before .before .both2 .ensures, ← one .before .standing .ensures)
+    let after-both3 : tie.After-both3 = search in
+    let two : tie.Else2 = search in
+    let after-is-alignment : tie.After-is-alignment = search in
+    let one : tie.Else1 = search in
+    let after-standing : tie.After-standing = search in
+    let after-both2 : tie.After-both2 = search in
+    let after-both : tie.After-both = search in
+    rw (← after-both .both .ensures, ← after-both2 .both2 .ensures, ← after-standing .standing .ensures)
     (sym (yes-eq _ 0 _ _ (one .if1 .left)
-    ∙ no-not _ _ _ (sym (two .before .is-alignment .ensures) ∙ not-false _ (two .if2 .left))
-    ∙ pick-yes _ _ _ (sym (c .before .both3 .ensures) ∙ c .if3 .taken)))
+    ∙ no-not _ _ _ (sym (after-is-alignment .is-alignment .ensures) ∙ not-false _ (two .if2 .left))
+    ∙ pick-yes _ _ _ (sym (after-both3 .both3 .ensures) ∙ c .if3 .taken)))
 
 sub-if4 : tie.Need-sub-if4
 sub-if4 c =
-    let one = c .before .before .before .before .before in
-    let a = one .before .before .before .before .before .before .args in
-    let stood = rw (one .before .before .both2 .ensures, one .before .before .before .both .ensures) at (one .before .standing .ensures) in
+    let one : tie.Else1 = search in
+    let after-standing : tie.After-standing = search in
+    let after-both2 : tie.After-both2 = search in
+    let after-both : tie.After-both = search in
+    let start : tie.Start = search in
+    let a = start .args in
+    let stood = rw (after-both2 .both2 .ensures, after-both .both .ensures) at (after-standing .standing .ensures) in
     omega (arith, counts-fit (a .self) (a .self .code) (a .lent) (a .self .events) (a .room) _ (sym stood ∙ one .if1 .left))
 
 returns-4 : tie.Need-returns-4
 unfolding whyAlign
 returns-4 c =
-    let three = c .before .before in
-    let two = three .before .before .before in
-    let one = two .before .before in
-    rw (← one .before .before .before .both .ensures, ← one .before .before .both2 .ensures, ← one .before .standing .ensures, ← c .before .padding-len .ensures)
+    let after-padding-len : tie.After-padding-len = search in
+    let three : tie.Else3 = search in
+    let after-both3 : tie.After-both3 = search in
+    let two : tie.Else2 = search in
+    let after-is-alignment : tie.After-is-alignment = search in
+    let one : tie.Else1 = search in
+    let after-standing : tie.After-standing = search in
+    let after-both2 : tie.After-both2 = search in
+    let after-both : tie.After-both = search in
+    rw (← after-both .both .ensures, ← after-both2 .both2 .ensures, ← after-standing .standing .ensures, ← after-padding-len .padding-len .ensures)
     (sym (yes-eq _ 0 _ _ (one .if1 .left)
-    ∙ no-not _ _ _ (sym (two .before .is-alignment .ensures) ∙ not-false _ (two .if2 .left))
-    ∙ pick-no _ _ _ (sym (three .before .both3 .ensures) ∙ three .if3 .left)
+    ∙ no-not _ _ _ (sym (after-is-alignment .is-alignment .ensures) ∙ not-false _ (two .if2 .left))
+    ∙ pick-no _ _ _ (sym (after-both3 .both3 .ensures) ∙ three .if3 .left)
     ∙ yes-lt _ _ _ _ (c .if4 .taken)))
 
 returns-5 : tie.Need-returns-5
 unfolding whyAlign
 returns-5 c =
-    let three = c .before .before in
-    let two = three .before .before .before in
-    let one = two .before .before in
-    rw (← one .before .before .before .both .ensures, ← one .before .before .both2 .ensures, ← one .before .standing .ensures, ← c .before .padding-len .ensures)
+    let after-padding-len : tie.After-padding-len = search in
+    let three : tie.Else3 = search in
+    let after-both3 : tie.After-both3 = search in
+    let two : tie.Else2 = search in
+    let after-is-alignment : tie.After-is-alignment = search in
+    let one : tie.Else1 = search in
+    let after-standing : tie.After-standing = search in
+    let after-both2 : tie.After-both2 = search in
+    let after-both : tie.After-both = search in
+    rw (← after-both .both .ensures, ← after-both2 .both2 .ensures, ← after-standing .standing .ensures, ← after-padding-len .padding-len .ensures)
     (sym (yes-eq _ 0 _ _ (one .if1 .left)
-    ∙ no-not _ _ _ (sym (two .before .is-alignment .ensures) ∙ not-false _ (two .if2 .left))
-    ∙ pick-no _ _ _ (sym (three .before .both3 .ensures) ∙ three .if3 .left)
+    ∙ no-not _ _ _ (sym (after-is-alignment .is-alignment .ensures) ∙ not-false _ (two .if2 .left))
+    ∙ pick-no _ _ _ (sym (after-both3 .both3 .ensures) ∙ three .if3 .left)
     ∙ no-lt _ _ _ _ (c .if4 .left)))
 
 pub why-not-align-spec : {M : Type 1} → statement M

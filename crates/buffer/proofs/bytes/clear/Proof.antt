@@ -21,14 +21,17 @@ loop-holds c = (omega arith, sym (over-nil _ 0), refl)
 
 loop-again : tie.Need-loop-again Inv-loop μ-loop
 loop-again c =
-    let at-loop = c .before .loop in
+    let at-loop' : tie.At-loop Inv-loop μ-loop = search in
+    let at-loop = at-loop' .loop in
     (omega arith, rw (at-loop .inv .1) (over-zeros _ (at-loop .i)), simp length-set (omega arith))
 
 returns : tie.Need-returns Inv-loop μ-loop
 returns c =
-    let part = c .before .before .args .part .now in
-    let all : c .before .loop .i ≡ length part = omega arith in
-    rw (c .before .loop .inv .1, all) (over-all part _ (length-replicate (length part) 0))
+    let at-loop' : tie.At-loop Inv-loop μ-loop = search in
+    let start : tie.Start Inv-loop μ-loop = search in
+    let part = start .args .part .now in
+    let all : at-loop' .loop .i ≡ length part = omega arith in
+    rw (at-loop' .loop .inv .1, all) (over-all part _ (length-replicate (length part) 0))
 
 pub clear-spec : {M : Type 1} → statement M
 clear-spec =

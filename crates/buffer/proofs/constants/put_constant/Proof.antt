@@ -7,7 +7,12 @@ use Rattle.buffer.proofs.constants.put_constant.Statement.{statement}
 use Rattle.buffer.proofs.constants.put_constant.Tie as tie
 
 returns : tie.Need-returns
-returns c = rw (c .before .before .copy .ensures, ← c .before .before .before .before .before .before .before .before .before .before .put-word .ensures, ← c .before .before .before .before .before .before .put-word2 .ensures) (part-copied (c .before .before .before .before .before .before .put-word2 .last .0) (c .before .before .before .before .before .before .before .before .before .before .before .before .before .before .args .bytes .now) (c .before .before .before .before .before .before .before .before .before .before .before .before .before .before .args .i * 72 + 8) (omega arith))
+returns c =
+    let after-copy : tie.After-copy = search in
+    let after-put-word2 : tie.After-put-word2 = search in
+    let after-put-word : tie.After-put-word = search in
+    let start : tie.Start = search in
+    rw (after-copy .copy .ensures, ← after-put-word .put-word .ensures, ← after-put-word2 .put-word2 .ensures) (part-copied (after-put-word2 .put-word2 .last .0) (start .args .bytes .now) (start .args .i * 72 + 8) (omega arith))
 
 pub put-constant-spec : {M : Type 1} → statement M
 put-constant-spec =

@@ -41,11 +41,18 @@ loop-less c = search needs
 
 -- src/jumps.rt:30:5
 loop-again : tie.Need-loop-again Inv-loop μ-loop
-loop-again c = (omega arith, (rw (c .before .both .ensures, c .before .before .word-at .ensures, c .before .before .before .before .loop .inv .1) at (c .either .ensures)) ∙ scan-step _ _ _ _)
+loop-again c =
+    let after-both : tie.After-both Inv-loop μ-loop = search in
+    let after-word-at : tie.After-word-at Inv-loop μ-loop = search in
+    let at-loop : tie.At-loop Inv-loop μ-loop = search in
+    (omega arith, (rw (after-both .both .ensures, after-word-at .word-at .ensures, at-loop .loop .inv .1) at (c .either .ensures)) ∙ scan-step _ _ _ _)
 
 -- src/jumps.rt:24:1
 returns : tie.Need-returns Inv-loop μ-loop
-returns c = let all : c .before .loop .i ≡ c .before .before .before .args .n = omega arith in rw all at (c .before .loop .inv .1)
+returns c =
+    let at-loop : tie.At-loop Inv-loop μ-loop = search in
+    let start' : tie.Start Inv-loop μ-loop = search in
+    let all : at-loop .loop .i ≡ start' .args .n = omega arith in rw all at (at-loop .loop .inv .1)
 
 pub label-inside-spec : {M : Type 1} → statement M
 label-inside-spec =

@@ -9,7 +9,9 @@ use Rattle.buffer.proofs.relocs.arch_of_kind.Statement.{statement}
 use Rattle.buffer.proofs.relocs.arch_of_kind.Tie as tie
 
 returns : tie.Need-returns
-returns c = getD-any relocArchs (c .before .args .kind) _ 3 (omega arith)
+returns c =
+    let start : tie.Start = search in
+    getD-any relocArchs (start .args .kind) _ 3 (omega arith)
 
 returns-2 : tie.Need-returns-2
 returns-2 c = sym (List·getD-eq-default relocArchs 3 (c .if1 .left))

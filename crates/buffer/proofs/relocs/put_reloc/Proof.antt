@@ -4,7 +4,14 @@ use Rattle.buffer.proofs.relocs.put_reloc.Statement.{statement}
 use Rattle.buffer.proofs.relocs.put_reloc.Tie as tie
 
 returns : tie.Need-returns
-returns c = rw (c .before .before .put-word6 .ensures, c .before .before .before .before .before .before .put-word5 .ensures, c .before .before .before .before .before .before .before .before .before .before .put-word4 .ensures, c .before .before .before .before .before .before .before .before .before .before .before .before .before .before .put-word3 .ensures, c .before .before .before .before .before .before .before .before .before .before .before .before .before .before .before .before .before .before .put-word2 .ensures, c .before .before .before .before .before .before .before .before .before .before .before .before .before .before .before .before .before .before .before .before .before .before .put-word .ensures)
+returns c =
+    let after-put-word6 : tie.After-put-word6 = search in
+    let after-put-word5 : tie.After-put-word5 = search in
+    let after-put-word4 : tie.After-put-word4 = search in
+    let after-put-word3 : tie.After-put-word3 = search in
+    let after-put-word2 : tie.After-put-word2 = search in
+    let after-put-word : tie.After-put-word = search in
+    rw (after-put-word6 .put-word6 .ensures, after-put-word5 .put-word5 .ensures, after-put-word4 .put-word4 .ensures, after-put-word3 .put-word3 .ensures, after-put-word2 .put-word2 .ensures, after-put-word .put-word .ensures)
 
 pub put-reloc-spec : {M : Type 1} → statement M
 put-reloc-spec =

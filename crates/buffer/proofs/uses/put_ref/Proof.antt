@@ -4,7 +4,12 @@ use Rattle.buffer.proofs.uses.put_ref.Statement.{statement}
 use Rattle.buffer.proofs.uses.put_ref.Tie as tie
 
 returns : tie.Need-returns
-returns c = rw (c .before .before .put-word4 .ensures, c .before .before .before .before .before .before .put-word3 .ensures, c .before .before .before .before .before .before .before .before .before .before .put-word2 .ensures, c .before .before .before .before .before .before .before .before .before .before .before .before .before .before .put-word .ensures)
+returns c =
+    let after-put-word4 : tie.After-put-word4 = search in
+    let after-put-word3 : tie.After-put-word3 = search in
+    let after-put-word2 : tie.After-put-word2 = search in
+    let after-put-word : tie.After-put-word = search in
+    rw (after-put-word4 .put-word4 .ensures, after-put-word3 .put-word3 .ensures, after-put-word2 .put-word2 .ensures, after-put-word .put-word .ensures)
 
 pub put-ref-spec : {M : Type 1} → statement M
 put-ref-spec =

@@ -6,7 +6,11 @@ use Rattle.checks.proofs.entries.constant_fits.Tie as tie
 
 returns : tie.Need-returns
 unfolding constantFits
-returns c = rw (c .both .ensures, c .before .either .ensures, c .before .before .word-at2 .ensures, c .before .before .before .word-at .ensures)
+returns c =
+    let after-either : tie.After-either = search in
+    let after-word-at2 : tie.After-word-at2 = search in
+    let after-word-at : tie.After-word-at = search in
+    rw (c .both .ensures, after-either .either .ensures, after-word-at2 .word-at2 .ensures, after-word-at .word-at .ensures)
 
 pub constant-fits-spec : {M : Type 1} → statement M
 constant-fits-spec =

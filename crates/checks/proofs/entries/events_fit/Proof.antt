@@ -6,7 +6,10 @@ use Rattle.checks.proofs.entries.events_fit.Tie as tie
 
 returns : tie.Need-returns
 unfolding eventsFit
-returns c = rw (c .both .ensures, c .before .each-event-fits .ensures, c .before .before .is-kept .ensures)
+returns c =
+    let after-each-event-fits : tie.After-each-event-fits = search in
+    let after-is-kept : tie.After-is-kept = search in
+    rw (c .both .ensures, after-each-event-fits .each-event-fits .ensures, after-is-kept .is-kept .ensures)
 
 pub events-fit-spec : {M : Type 1} → statement M
 events-fit-spec =

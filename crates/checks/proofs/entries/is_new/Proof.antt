@@ -7,24 +7,39 @@ use Rattle.checks.proofs.entries.is_new.Statement.{statement}
 use Rattle.checks.proofs.entries.is_new.Tie as tie
 
 returns : tie.Need-returns
-returns c = new-unknown _ _ _ _ (rw (c .before .word-at .ensures) at (c .if1 .taken))
+returns c =
+    let after-word-at : tie.After-word-at = search in
+    new-unknown _ _ _ _ (rw (after-word-at .word-at .ensures) at (c .if1 .taken))
 
 returns-2 : tie.Need-returns-2
-returns-2 c = new-unlabelled _ _ _ _ (sym (rw (c .before .before .before .word-at .ensures) at (c .before .word-at2 .ensures)) ∙ c .if2 .taken)
+returns-2 c =
+    let after-word-at2 : tie.After-word-at2 = search in
+    let after-word-at : tie.After-word-at = search in
+    new-unlabelled _ _ _ _ (sym (rw (after-word-at .word-at .ensures) at (after-word-at2 .word-at2 .ensures)) ∙ c .if2 .taken)
 
 shared-slice-read-shared : tie.Need-shared-slice-read-shared
 shared-slice-read-shared c =
-    let a = c .before .before .before .before .before .before .before .before .before .before .pre in
-    let label = rw (c .before .before .before .before .before .word-at .ensures) at (c .before .before .before .word-at2 .ensures) in
-    let known = a .1 .0 .label _ (rw (c .before .before .before .before .before .word-at .ensures) at (c .before .before .before .before .if1 .left)) (λ e. c .before .before .if2 .left (label ∙ e)) in
+    let else2 : tie.Else2 = search in
+    let after-word-at2 : tie.After-word-at2 = search in
+    let else1 : tie.Else1 = search in
+    let after-word-at : tie.After-word-at = search in
+    let start : tie.Start = search in
+    let a = start .pre in
+    let label = rw (after-word-at .word-at .ensures) at (after-word-at2 .word-at2 .ensures) in
+    let known = a .1 .0 .label _ (rw (after-word-at .word-at .ensures) at (else1 .if1 .left)) (λ e. else2 .if2 .left (label ∙ e)) in
     omega (arith, label, known, a .1 .1 .1 .size)
 
 returns-3 : tie.Need-returns-3
 returns-3 c =
-    let p = c .before .before .before .before .before .before .before .before .before .before .before .pre in
-    let constant = c .before .before .before .before .before .before .word-at .ensures in
-    let label = rw constant at (c .before .before .before .before .word-at2 .ensures) in
-    rw (c .both .ensures, label, constant) (new-marked _ _ _ _ _ _ (p .1 .1 .0) (p .1 .1 .1) (p .1 .0) (rw constant at (c .before .before .before .before .before .if1 .left)) (λ e. c .before .before .before .if2 .left (label ∙ e)))
+    let else2 : tie.Else2 = search in
+    let after-word-at2 : tie.After-word-at2 = search in
+    let else1 : tie.Else1 = search in
+    let after-word-at : tie.After-word-at = search in
+    let start : tie.Start = search in
+    let p = start .pre in
+    let constant = after-word-at .word-at .ensures in
+    let label = rw constant at (after-word-at2 .word-at2 .ensures) in
+    rw (c .both .ensures, label, constant) (new-marked _ _ _ _ _ _ (p .1 .1 .0) (p .1 .1 .1) (p .1 .0) (rw constant at (else1 .if1 .left)) (λ e. else2 .if2 .left (label ∙ e)))
 
 pub is-new-spec : {M : Type 1} → statement M
 is-new-spec =

@@ -8,10 +8,15 @@ returns : tie.Need-returns
 returns c = label-none _ _ _ _ (c .if1 .taken)
 
 returns-2 : tie.Need-returns-2
-returns-2 c = label-past _ _ _ _ (c .before .if1 .left) (c .if2 .taken)
+returns-2 c =
+    let else1 : tie.Else1 = search in
+    label-past _ _ _ _ (else1 .if1 .left) (c .if2 .taken)
 
 returns-3 : tie.Need-returns-3
-returns-3 c = rw (c .is-outside .ensures) (label-within _ _ _ _ (c .before .before .if1 .left) (c .before .if2 .left))
+returns-3 c =
+    let else2 : tie.Else2 = search in
+    let else1 : tie.Else1 = search in
+    rw (c .is-outside .ensures) (label-within _ _ _ _ (else1 .if1 .left) (else2 .if2 .left))
 
 pub label-fits-spec : {M : Type 1} → statement M
 label-fits-spec = tie.close (tie.spec returns returns-2 (λ c κs. search needs) returns-3)

@@ -12,7 +12,10 @@ returns c = sym (yes-eq _ 0 _ _ (c .if1 .taken))
 
 returns-2 : tie.Need-returns-2
 unfolding lastEnd
-returns-2 c = rw (c .event-end .ensures, c .before .event-at .ensures) (sym (no-eq _ 0 _ _ (c .before .before .if1 .left)))
+returns-2 c =
+    let after-event-at : tie.After-event-at = search in
+    let else1 : tie.Else1 = search in
+    rw (c .event-end .ensures, after-event-at .event-at .ensures) (sym (no-eq _ 0 _ _ (else1 .if1 .left)))
 
 pub last-end-spec : {M : Type 1} → statement M
 last-end-spec =

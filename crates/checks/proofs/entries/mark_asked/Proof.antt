@@ -21,44 +21,68 @@ abbrev μ-loop : tie.MeasureT-loop
 μ-loop asked n constants known seen₀ taken₀ i₀ seen taken i = n - i
 
 loop-holds : tie.Need-loop-holds Inv-loop μ-loop
-loop-holds c = (omega arith, all-none _, c .before .before .before .before .pre .1 .1 .0, c .before .before .before .before .pre .1 .1 .1)
+loop-holds c =
+    let start : tie.Start Inv-loop μ-loop = search in
+    (omega arith, all-none _, start .pre .1 .1 .0, start .pre .1 .1 .1)
 
 returns : tie.Need-returns Inv-loop μ-loop
 returns c =
-    let l = c .before .before .before .before .before .loop in
-    (scan-fails _ _ (l .i) _ (omega arith) (c .before .is-new .ensures) (c .if1 .taken), λ e. absurd (true-is-not-false (sym e)))
+    let after-is-new : tie.After-is-new Inv-loop μ-loop = search in
+    let at-loop : tie.At-loop Inv-loop μ-loop = search in
+    let l = at-loop .loop in
+    (scan-fails _ _ (l .i) _ (omega arith) (after-is-new .is-new .ensures) (c .if1 .taken), λ e. absurd (true-is-not-false (sym e)))
 
 word-at-requires-2 : tie.Need-word-at-requires-2 Inv-loop μ-loop
 word-at-requires-2 c κs =
-    let new = new-entry _ _ _ _ (c .before .before .before .before .before .before .before .before .before .before .before .pre .1 .0) (sym (c .before .before .is-new .ensures) ∙ not-false _ (c .before .if1 .left)) in
+    let else1 : tie.Else1 Inv-loop μ-loop = search in
+    let after-is-new : tie.After-is-new Inv-loop μ-loop = search in
+    let start : tie.Start Inv-loop μ-loop = search in
+    let new = new-entry _ _ _ _ (start .pre .1 .0) (sym (after-is-new .is-new .ensures) ∙ not-false _ (else1 .if1 .left)) in
     omega (arith, new .room, c .word-at .ensures)
 
 slice-write-seen : tie.Need-slice-write-seen Inv-loop μ-loop
 slice-write-seen c =
-    let new = new-entry _ _ _ _ (c .before .before .before .before .before .before .before .before .before .before .before .before .pre .1 .0) (sym (c .before .before .before .is-new .ensures) ∙ not-false _ (c .before .before .if1 .left)) in
-    omega (arith, new .few, c .before .word-at .ensures, c .before .before .before .before .before .before .before .loop .inv .2 .size)
+    let after-word-at : tie.After-word-at Inv-loop μ-loop = search in
+    let else1 : tie.Else1 Inv-loop μ-loop = search in
+    let after-is-new : tie.After-is-new Inv-loop μ-loop = search in
+    let at-loop : tie.At-loop Inv-loop μ-loop = search in
+    let start : tie.Start Inv-loop μ-loop = search in
+    let new = new-entry _ _ _ _ (start .pre .1 .0) (sym (after-is-new .is-new .ensures) ∙ not-false _ (else1 .if1 .left)) in
+    omega (arith, new .few, after-word-at .word-at .ensures, at-loop .loop .inv .2 .size)
 
 slice-write-taken : tie.Need-slice-write-taken Inv-loop μ-loop
 slice-write-taken c =
-    let new = new-entry _ _ _ _ (c .before .before .before .before .before .before .before .before .before .before .before .before .pre .1 .0) (sym (c .before .before .before .is-new .ensures) ∙ not-false _ (c .before .before .if1 .left)) in
-    let label = rw (c .before .word-at .ensures) at (c .word-at2 .ensures) in
-    omega (arith, new .label, label, c .before .before .before .before .before .before .before .loop .inv .3 .size)
+    let after-word-at : tie.After-word-at Inv-loop μ-loop = search in
+    let else1 : tie.Else1 Inv-loop μ-loop = search in
+    let after-is-new : tie.After-is-new Inv-loop μ-loop = search in
+    let at-loop : tie.At-loop Inv-loop μ-loop = search in
+    let start : tie.Start Inv-loop μ-loop = search in
+    let new = new-entry _ _ _ _ (start .pre .1 .0) (sym (after-is-new .is-new .ensures) ∙ not-false _ (else1 .if1 .left)) in
+    let label = rw (after-word-at .word-at .ensures) at (c .word-at2 .ensures) in
+    omega (arith, new .label, label, at-loop .loop .inv .3 .size)
 
 loop-again : tie.Need-loop-again Inv-loop μ-loop
 loop-again c =
-    let l = c .before .before .before .before .before .before .before .loop in
-    let new = new-entry _ _ _ _ (c .before .before .before .before .before .before .before .before .before .before .before .before .pre .1 .0) (sym (c .before .before .before .is-new .ensures) ∙ not-false _ (c .before .before .if1 .left)) in
-    let label = rw (c .before .word-at .ensures) at (c .word-at2 .ensures) in (
+    let after-word-at : tie.After-word-at Inv-loop μ-loop = search in
+    let else1 : tie.Else1 Inv-loop μ-loop = search in
+    let after-is-new : tie.After-is-new Inv-loop μ-loop = search in
+    let at-loop : tie.At-loop Inv-loop μ-loop = search in
+    let start : tie.Start Inv-loop μ-loop = search in
+    let l = at-loop .loop in
+    let new = new-entry _ _ _ _ (start .pre .1 .0) (sym (after-is-new .is-new .ensures) ∙ not-false _ (else1 .if1 .left)) in
+    let label = rw (after-word-at .word-at .ensures) at (c .word-at2 .ensures) in (
       omega arith,
-      scan-goes _ (l .i) _ (l .inv .1) (c .before .before .before .is-new .ensures) (c .before .before .if1 .left),
-      marks-next _ _ (l .i) _ (l .inv .2) (c .before .word-at .ensures) (omega (arith, new .few, c .before .word-at .ensures)),
+      scan-goes _ (l .i) _ (l .inv .1) (after-is-new .is-new .ensures) (else1 .if1 .left),
+      marks-next _ _ (l .i) _ (l .inv .2) (after-word-at .word-at .ensures) (omega (arith, new .few, after-word-at .word-at .ensures)),
       marks-next _ _ (l .i) _ (l .inv .3) label (omega (arith, new .label, label)),
     )
 
 returns-2 : tie.Need-returns-2 Inv-loop μ-loop
 returns-2 c =
-    let l = c .before .loop in
-    let same : l .i ≡ c .before .before .before .before .before .before .args .n = omega arith in
+    let at-loop : tie.At-loop Inv-loop μ-loop = search in
+    let start : tie.Start Inv-loop μ-loop = search in
+    let l = at-loop .loop in
+    let same : l .i ≡ start .args .n = omega arith in
     (scan-ends _ _ (l .i) (omega arith) (omega arith) (l .inv .1), λ e. rw same at (l .inv .2))
 
 pub mark-asked-spec : {M : Type 1} → statement M

@@ -7,16 +7,23 @@ use Rattle.checks.proofs.entries.order_fits.Statement.{statement}
 use Rattle.checks.proofs.entries.order_fits.Tie as tie
 
 mark-asked-requires : tie.Need-mark-asked-requires
-mark-asked-requires c κs = (c .before .before .before .before .pre .0, (c .before .before .before .before .pre .1, (marks-blank _, marks-blank _)))
+mark-asked-requires c κs =
+    let start : tie.Start = search in
+    (start .pre .0, (start .pre .1, (marks-blank _, marks-blank _)))
 
 returns : tie.Need-returns
-returns c = order-fails _ _ _ _ (sym (c .before .before .before .mark-asked .ensures .0) ∙ not-true _ (c .if1 .taken))
+returns c =
+    let after-mark-asked : tie.After-mark-asked = search in
+    order-fails _ _ _ _ (sym (after-mark-asked .mark-asked .ensures .0) ∙ not-true _ (c .if1 .taken))
 
 returns-2 : tie.Need-returns-2
 returns-2 c =
-    let held = not-false _ (c .before .before .if1 .left) in
-    let marked = c .before .before .before .before .before .mark-asked .ensures in
-    rw (c .is-each-marked .ensures) (order-holds _ _ _ _ _ (c .before .before .before .before .before .before .before .before .before .before .pre .1 .limit) (marked .1 held) (sym (marked .0) ∙ held))
+    let else1 : tie.Else1 = search in
+    let after-mark-asked : tie.After-mark-asked = search in
+    let start : tie.Start = search in
+    let held = not-false _ (else1 .if1 .left) in
+    let marked = after-mark-asked .mark-asked .ensures in
+    rw (c .is-each-marked .ensures) (order-holds _ _ _ _ _ (start .pre .1 .limit) (marked .1 held) (sym (marked .0) ∙ held))
 
 pub order-fits-spec : {M : Type 1} → statement M
 order-fits-spec =

@@ -6,7 +6,11 @@ use Rattle.checks.proofs.entries.ref_fits.Tie as tie
 
 returns : tie.Need-returns
 unfolding refFits
-returns c = rw (c .both .ensures, c .before .is-foreign .ensures, c .before .before .word-at2 .ensures, c .before .before .before .word-at .ensures)
+returns c =
+    let after-is-foreign : tie.After-is-foreign = search in
+    let after-word-at2 : tie.After-word-at2 = search in
+    let after-word-at : tie.After-word-at = search in
+    rw (c .both .ensures, after-is-foreign .is-foreign .ensures, after-word-at2 .word-at2 .ensures, after-word-at .word-at .ensures)
 
 pub ref-fits-spec : {M : Type 1} → statement M
 ref-fits-spec =

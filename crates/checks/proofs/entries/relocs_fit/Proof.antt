@@ -20,14 +20,22 @@ loop-holds c = (omega arith, all-none _)
 
 returns : tie.Need-returns Inv-loop μ-loop
 unfolding relocsFit
-returns c = let l = c .before .before .before .loop in scan-fails _ _ (l .i) _ (omega arith) (c .before .reloc-fits .ensures) (c .if1 .taken)
+returns c =
+    let after-reloc-fits : tie.After-reloc-fits Inv-loop μ-loop = search in
+    let at-loop : tie.At-loop Inv-loop μ-loop = search in
+    let l = at-loop .loop in scan-fails _ _ (l .i) _ (omega arith) (after-reloc-fits .reloc-fits .ensures) (c .if1 .taken)
 
 loop-again : tie.Need-loop-again Inv-loop μ-loop
-loop-again c = let l = c .before .before .before .loop in (omega arith, scan-goes _ (l .i) _ (l .inv .1) (c .before .reloc-fits .ensures) (c .if1 .left))
+loop-again c =
+    let after-reloc-fits : tie.After-reloc-fits Inv-loop μ-loop = search in
+    let at-loop : tie.At-loop Inv-loop μ-loop = search in
+    let l = at-loop .loop in (omega arith, scan-goes _ (l .i) _ (l .inv .1) (after-reloc-fits .reloc-fits .ensures) (c .if1 .left))
 
 returns-2 : tie.Need-returns-2 Inv-loop μ-loop
 unfolding relocsFit
-returns-2 c = let l = c .before .loop in scan-ends _ _ (l .i) (omega arith) (omega arith) (l .inv .1)
+returns-2 c =
+    let at-loop : tie.At-loop Inv-loop μ-loop = search in
+    let l = at-loop .loop in scan-ends _ _ (l .i) (omega arith) (omega arith) (l .inv .1)
 
 pub relocs-fit-spec : {M : Type 1} → statement M
 relocs-fit-spec =

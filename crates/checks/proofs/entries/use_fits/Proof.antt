@@ -6,7 +6,13 @@ use Rattle.checks.proofs.entries.use_fits.Tie as tie
 
 returns : tie.Need-returns
 unfolding useFits
-returns c = rw (c .both3 .ensures, c .before .both2 .ensures, c .before .before .both .ensures, c .before .before .before .is-foreign .ensures, c .before .before .before .before .word-at2 .ensures, c .before .before .before .before .before .word-at .ensures)
+returns c =
+    let after-both2 : tie.After-both2 = search in
+    let after-both : tie.After-both = search in
+    let after-is-foreign : tie.After-is-foreign = search in
+    let after-word-at2 : tie.After-word-at2 = search in
+    let after-word-at : tie.After-word-at = search in
+    rw (c .both3 .ensures, after-both2 .both2 .ensures, after-both .both .ensures, after-is-foreign .is-foreign .ensures, after-word-at2 .word-at2 .ensures, after-word-at .word-at .ensures)
 
 pub use-fits-spec : {M : Type 1} → statement M
 use-fits-spec =

@@ -20,13 +20,21 @@ loop-holds : tie.Need-loop-holds Inv-loop μ-loop
 loop-holds c = (omega arith, all-none _)
 
 returns : tie.Need-returns Inv-loop μ-loop
-returns c = one-jump _ _ (c .before .before .before .loop .i) _ (omega arith) (c .before .word-at .ensures) (c .if1 .taken)
+returns c =
+    let after-word-at : tie.After-word-at Inv-loop μ-loop = search in
+    let at-loop : tie.At-loop Inv-loop μ-loop = search in
+    one-jump _ _ (at-loop .loop .i) _ (omega arith) (after-word-at .word-at .ensures) (c .if1 .taken)
 
 loop-again : tie.Need-loop-again Inv-loop μ-loop
-loop-again c = (omega arith, no-jump-yet _ _ _ (c .before .before .before .loop .inv .1) (c .before .word-at .ensures) (c .if1 .left))
+loop-again c =
+    let after-word-at : tie.After-word-at Inv-loop μ-loop = search in
+    let at-loop : tie.At-loop Inv-loop μ-loop = search in
+    (omega arith, no-jump-yet _ _ _ (at-loop .loop .inv .1) (after-word-at .word-at .ensures) (c .if1 .left))
 
 returns-2 : tie.Need-returns-2 Inv-loop μ-loop
-returns-2 c = no-jump _ _ (c .before .loop .i) (omega arith) (omega arith) (c .before .loop .inv .1)
+returns-2 c =
+    let at-loop : tie.At-loop Inv-loop μ-loop = search in
+    no-jump _ _ (at-loop .loop .i) (omega arith) (omega arith) (at-loop .loop .inv .1)
 
 pub has-jump-spec : {M : Type 1} → statement M
 has-jump-spec =

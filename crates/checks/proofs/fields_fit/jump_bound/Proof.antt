@@ -6,13 +6,23 @@ use Rattle.checks.proofs.fields_fit.jump_bound.Statement.{statement}
 use Rattle.checks.proofs.fields_fit.jump_bound.Tie as tie
 
 returns : tie.Need-returns
-returns c = jump-none _ _ _ _ (c .before .word-at .ensures) (c .if1 .taken)
+returns c =
+    let after-word-at : tie.After-word-at = search in
+    jump-none _ _ _ _ (after-word-at .word-at .ensures) (c .if1 .taken)
 
 is-bound-requires : tie.Need-is-bound-requires
-is-bound-requires c κs = rw (c .word-at2 .ensures) (c .before .before .before .before .before .pre .1 (sym (c .before .before .word-at .ensures) ∙ c .before .if1 .left))
+is-bound-requires c κs =
+    let else1 : tie.Else1 = search in
+    let after-word-at : tie.After-word-at = search in
+    let start : tie.Start = search in
+    rw (c .word-at2 .ensures) (start .pre .1 (sym (after-word-at .word-at .ensures) ∙ else1 .if1 .left))
 
 returns-2 : tie.Need-returns-2
-returns-2 c = rw (c .is-bound .ensures, c .before .word-at2 .ensures) (jump-named _ _ _ _ (c .before .before .before .word-at .ensures) (c .before .before .if1 .left))
+returns-2 c =
+    let after-word-at2 : tie.After-word-at2 = search in
+    let else1 : tie.Else1 = search in
+    let after-word-at : tie.After-word-at = search in
+    rw (c .is-bound .ensures, after-word-at2 .word-at2 .ensures) (jump-named _ _ _ _ (after-word-at .word-at .ensures) (else1 .if1 .left))
 
 pub jump-bound-spec : {M : Type 1} → statement M
 jump-bound-spec =

@@ -21,18 +21,29 @@ loop-holds : tie.Need-loop-holds Inv-loop μ-loop
 loop-holds c = (omega arith, all-none _)
 
 jump-bound-requires : tie.Need-jump-bound-requires Inv-loop μ-loop
-jump-bound-requires c κs = (omega arith, c .before .before .before .before .pre .1 .known (c .before .loop .i) (omega arith))
+jump-bound-requires c κs =
+    let at-loop : tie.At-loop Inv-loop μ-loop = search in
+    let start : tie.Start Inv-loop μ-loop = search in
+    (omega arith, start .pre .1 .known (at-loop .loop .i) (omega arith))
 
 returns : tie.Need-returns Inv-loop μ-loop
 unfolding jumpsBound
-returns c = let l = c .before .before .before .loop in scan-fails _ _ (l .i) _ (omega arith) (c .before .jump-bound .ensures) (c .if1 .taken)
+returns c =
+    let after-jump-bound : tie.After-jump-bound Inv-loop μ-loop = search in
+    let at-loop : tie.At-loop Inv-loop μ-loop = search in
+    let l = at-loop .loop in scan-fails _ _ (l .i) _ (omega arith) (after-jump-bound .jump-bound .ensures) (c .if1 .taken)
 
 loop-again : tie.Need-loop-again Inv-loop μ-loop
-loop-again c = let l = c .before .before .before .loop in (omega arith, scan-goes _ (l .i) _ (l .inv .1) (c .before .jump-bound .ensures) (c .if1 .left))
+loop-again c =
+    let after-jump-bound : tie.After-jump-bound Inv-loop μ-loop = search in
+    let at-loop : tie.At-loop Inv-loop μ-loop = search in
+    let l = at-loop .loop in (omega arith, scan-goes _ (l .i) _ (l .inv .1) (after-jump-bound .jump-bound .ensures) (c .if1 .left))
 
 returns-2 : tie.Need-returns-2 Inv-loop μ-loop
 unfolding jumpsBound
-returns-2 c = let l = c .before .loop in scan-ends _ _ (l .i) (omega arith) (omega arith) (l .inv .1)
+returns-2 c =
+    let at-loop : tie.At-loop Inv-loop μ-loop = search in
+    let l = at-loop .loop in scan-ends _ _ (l .i) (omega arith) (omega arith) (l .inv .1)
 
 pub jumps-bound-spec : {M : Type 1} → statement M
 jumps-bound-spec =

@@ -7,13 +7,33 @@ use Rattle.checks.proofs.fields_fit.ref_clear.Statement.{statement}
 use Rattle.checks.proofs.fields_fit.ref_clear.Tie as tie
 
 returns : tie.Need-returns
-returns c = ref-past _ _ _ _ _ _ _ _ _ _ _ (record { at = c .before .before .before .word-at .ensures; long = rw (c .before .before .word-at2 .ensures) at (c .before .size-of .ensures .0); end = c .before .before .before .before .before .before .before .before .before .pre .0 .2 }) (c .if1 .taken)
+returns c =
+    let after-size-of : tie.After-size-of = search in
+    let after-word-at2 : tie.After-word-at2 = search in
+    let after-word-at : tie.After-word-at = search in
+    let start : tie.Start = search in
+    ref-past _ _ _ _ _ _ _ _ _ _ _ (record { at = after-word-at .word-at .ensures; long = rw (after-word-at2 .word-at2 .ensures) at (after-size-of .size-of .ensures .0); end = start .pre .0 .2 }) (c .if1 .taken)
 
 returns-2 : tie.Need-returns-2
-returns-2 c = ref-over _ _ _ _ _ _ _ _ _ _ _ (record { at = c .before .before .before .before .before .word-at .ensures; long = rw (c .before .before .before .before .word-at2 .ensures) at (c .before .before .before .size-of .ensures .0); end = c .before .before .before .before .before .before .before .before .before .before .before .pre .0 .2 }) (c .before .before .if1 .left) (sym (c .before .clear-of-events .ensures) ∙ not-true _ (c .if2 .taken))
+returns-2 c =
+    let after-clear-of-events : tie.After-clear-of-events = search in
+    let else1 : tie.Else1 = search in
+    let after-size-of : tie.After-size-of = search in
+    let after-word-at2 : tie.After-word-at2 = search in
+    let after-word-at : tie.After-word-at = search in
+    let start : tie.Start = search in
+    ref-over _ _ _ _ _ _ _ _ _ _ _ (record { at = after-word-at .word-at .ensures; long = rw (after-word-at2 .word-at2 .ensures) at (after-size-of .size-of .ensures .0); end = start .pre .0 .2 }) (else1 .if1 .left) (sym (after-clear-of-events .clear-of-events .ensures) ∙ not-true _ (c .if2 .taken))
 
 returns-3 : tie.Need-returns-3
-returns-3 c = rw (c .clear-of-pool .ensures) (ref-rest _ _ _ _ _ _ _ _ _ _ _ (record { at = c .before .before .before .before .before .before .word-at .ensures; long = rw (c .before .before .before .before .before .word-at2 .ensures) at (c .before .before .before .before .size-of .ensures .0); end = c .before .before .before .before .before .before .before .before .before .before .before .before .pre .0 .2 }) (c .before .before .before .if1 .left) (sym (c .before .before .clear-of-events .ensures) ∙ not-false _ (c .before .if2 .left)))
+returns-3 c =
+    let else2 : tie.Else2 = search in
+    let after-clear-of-events : tie.After-clear-of-events = search in
+    let else1 : tie.Else1 = search in
+    let after-size-of : tie.After-size-of = search in
+    let after-word-at2 : tie.After-word-at2 = search in
+    let after-word-at : tie.After-word-at = search in
+    let start : tie.Start = search in
+    rw (c .clear-of-pool .ensures) (ref-rest _ _ _ _ _ _ _ _ _ _ _ (record { at = after-word-at .word-at .ensures; long = rw (after-word-at2 .word-at2 .ensures) at (after-size-of .size-of .ensures .0); end = start .pre .0 .2 }) (else1 .if1 .left) (sym (after-clear-of-events .clear-of-events .ensures) ∙ not-false _ (else2 .if2 .left)))
 
 pub ref-clear-spec : {M : Type 1} → statement M
 ref-clear-spec =

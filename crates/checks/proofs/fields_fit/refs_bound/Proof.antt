@@ -21,18 +21,31 @@ loop-holds : tie.Need-loop-holds Inv-loop μ-loop
 loop-holds c = (omega arith, all-none _)
 
 is-bound-requires : tie.Need-is-bound-requires Inv-loop μ-loop
-is-bound-requires c κs = rw (c .word-at .ensures) (c .before .before .before .before .before .pre .1 .known (c .before .before .loop .i) (omega arith))
+is-bound-requires c κs =
+    let at-loop : tie.At-loop Inv-loop μ-loop = search in
+    let start : tie.Start Inv-loop μ-loop = search in
+    rw (c .word-at .ensures) (start .pre .1 .known (at-loop .loop .i) (omega arith))
 
 returns : tie.Need-returns Inv-loop μ-loop
 unfolding refsBound
-returns c = let l = c .before .before .before .before .loop in scan-fails _ _ (l .i) _ (omega arith) (rw (c .before .before .word-at .ensures) at (c .before .is-bound .ensures)) (c .if1 .taken)
+returns c =
+    let after-is-bound : tie.After-is-bound Inv-loop μ-loop = search in
+    let after-word-at : tie.After-word-at Inv-loop μ-loop = search in
+    let at-loop : tie.At-loop Inv-loop μ-loop = search in
+    let l = at-loop .loop in scan-fails _ _ (l .i) _ (omega arith) (rw (after-word-at .word-at .ensures) at (after-is-bound .is-bound .ensures)) (c .if1 .taken)
 
 loop-again : tie.Need-loop-again Inv-loop μ-loop
-loop-again c = let l = c .before .before .before .before .loop in (omega arith, scan-goes _ (l .i) _ (l .inv .1) (rw (c .before .before .word-at .ensures) at (c .before .is-bound .ensures)) (c .if1 .left))
+loop-again c =
+    let after-is-bound : tie.After-is-bound Inv-loop μ-loop = search in
+    let after-word-at : tie.After-word-at Inv-loop μ-loop = search in
+    let at-loop : tie.At-loop Inv-loop μ-loop = search in
+    let l = at-loop .loop in (omega arith, scan-goes _ (l .i) _ (l .inv .1) (rw (after-word-at .word-at .ensures) at (after-is-bound .is-bound .ensures)) (c .if1 .left))
 
 returns-2 : tie.Need-returns-2 Inv-loop μ-loop
 unfolding refsBound
-returns-2 c = let l = c .before .loop in scan-ends _ _ (l .i) (omega arith) (omega arith) (l .inv .1)
+returns-2 c =
+    let at-loop : tie.At-loop Inv-loop μ-loop = search in
+    let l = at-loop .loop in scan-ends _ _ (l .i) (omega arith) (omega arith) (l .inv .1)
 
 pub refs-bound-spec : {M : Type 1} → statement M
 refs-bound-spec =

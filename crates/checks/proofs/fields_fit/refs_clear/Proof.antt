@@ -20,18 +20,28 @@ loop-holds : tie.Need-loop-holds Inv-loop μ-loop
 loop-holds c = (omega arith, all-none _)
 
 ref-clear-requires : tie.Need-ref-clear-requires Inv-loop μ-loop
-ref-clear-requires c κs = let p = c .before .before .before .before .before .before .before .pre in ((omega arith, p .0 .1, p .0 .2), p .1)
+ref-clear-requires c κs =
+    let start : tie.Start Inv-loop μ-loop = search in
+    let p = start .pre in ((omega arith, p .0 .1, p .0 .2), p .1)
 
 returns : tie.Need-returns Inv-loop μ-loop
 unfolding refsClear
-returns c = let l = c .before .before .before .loop in scan-fails _ _ (l .i) _ (omega arith) (c .before .ref-clear .ensures) (c .if1 .taken)
+returns c =
+    let after-ref-clear : tie.After-ref-clear Inv-loop μ-loop = search in
+    let at-loop : tie.At-loop Inv-loop μ-loop = search in
+    let l = at-loop .loop in scan-fails _ _ (l .i) _ (omega arith) (after-ref-clear .ref-clear .ensures) (c .if1 .taken)
 
 loop-again : tie.Need-loop-again Inv-loop μ-loop
-loop-again c = let l = c .before .before .before .loop in (omega arith, scan-goes _ (l .i) _ (l .inv .1) (c .before .ref-clear .ensures) (c .if1 .left))
+loop-again c =
+    let after-ref-clear : tie.After-ref-clear Inv-loop μ-loop = search in
+    let at-loop : tie.At-loop Inv-loop μ-loop = search in
+    let l = at-loop .loop in (omega arith, scan-goes _ (l .i) _ (l .inv .1) (after-ref-clear .ref-clear .ensures) (c .if1 .left))
 
 returns-2 : tie.Need-returns-2 Inv-loop μ-loop
 unfolding refsClear
-returns-2 c = let l = c .before .loop in scan-ends _ _ (l .i) (omega arith) (omega arith) (l .inv .1)
+returns-2 c =
+    let at-loop : tie.At-loop Inv-loop μ-loop = search in
+    let l = at-loop .loop in scan-ends _ _ (l .i) (omega arith) (omega arith) (l .inv .1)
 
 pub refs-clear-spec : {M : Type 1} → statement M
 refs-clear-spec =

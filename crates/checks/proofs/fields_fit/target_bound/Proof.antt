@@ -5,13 +5,21 @@ use Rattle.checks.proofs.fields_fit.target_bound.Statement.{statement}
 use Rattle.checks.proofs.fields_fit.target_bound.Tie as tie
 
 returns : tie.Need-returns
-returns c = target-symbol _ _ _ _ (c .before .word-at .ensures) (c .if1 .taken)
+returns c =
+    let after-word-at : tie.After-word-at = search in
+    target-symbol _ _ _ _ (after-word-at .word-at .ensures) (c .if1 .taken)
 
 is-bound-requires : tie.Need-is-bound-requires
-is-bound-requires c κs = rw (c .before .word-at .ensures) (c .before .before .before .before .pre .1 (rw (c .before .word-at .ensures) at (c .if1 .left)))
+is-bound-requires c κs =
+    let after-word-at : tie.After-word-at = search in
+    let start : tie.Start = search in
+    rw (after-word-at .word-at .ensures) (start .pre .1 (rw (after-word-at .word-at .ensures) at (c .if1 .left)))
 
 returns-2 : tie.Need-returns-2
-returns-2 c = rw (c .is-bound .ensures) (target-label _ _ _ _ (c .before .before .word-at .ensures) (c .before .if1 .left))
+returns-2 c =
+    let else1 : tie.Else1 = search in
+    let after-word-at : tie.After-word-at = search in
+    rw (c .is-bound .ensures) (target-label _ _ _ _ (after-word-at .word-at .ensures) (else1 .if1 .left))
 
 pub target-bound-spec : {M : Type 1} → statement M
 target-bound-spec =

@@ -18,16 +18,27 @@ loop-holds : tie.Need-loop-holds Inv-loop μ-loop
 loop-holds c = (omega arith, why-none _ _ _)
 
 why-unreached-requires : tie.Need-why-unreached-requires Inv-loop μ-loop
-why-unreached-requires c κs = (omega arith, c .before .before .before .before .pre .1 .known (c .before .loop .i) (omega arith))
+why-unreached-requires c κs =
+    let at-loop : tie.At-loop Inv-loop μ-loop = search in
+    let start : tie.Start Inv-loop μ-loop = search in
+    (omega arith, start .pre .1 .known (at-loop .loop .i) (omega arith))
 
 returns : tie.Need-returns Inv-loop μ-loop
-returns c = why-first _ _ _ _ (c .before .before .before .loop .i) _ (omega arith) (c .before .before .before .loop .inv .1) (c .before .why-unreached .ensures) (c .if1 .taken)
+returns c =
+    let after-why-unreached : tie.After-why-unreached Inv-loop μ-loop = search in
+    let at-loop : tie.At-loop Inv-loop μ-loop = search in
+    why-first _ _ _ _ (at-loop .loop .i) _ (omega arith) (at-loop .loop .inv .1) (after-why-unreached .why-unreached .ensures) (c .if1 .taken)
 
 loop-again : tie.Need-loop-again Inv-loop μ-loop
-loop-again c = (omega arith, why-next _ _ _ _ _ (c .before .before .before .loop .inv .1) (c .before .why-unreached .ensures) (c .if1 .left))
+loop-again c =
+    let after-why-unreached : tie.After-why-unreached Inv-loop μ-loop = search in
+    let at-loop : tie.At-loop Inv-loop μ-loop = search in
+    (omega arith, why-next _ _ _ _ _ (at-loop .loop .inv .1) (after-why-unreached .why-unreached .ensures) (c .if1 .left))
 
 returns-2 : tie.Need-returns-2 Inv-loop μ-loop
-returns-2 c = why-end _ _ _ _ (c .before .loop .i) (omega arith) (omega arith) (c .before .loop .inv .1)
+returns-2 c =
+    let at-loop : tie.At-loop Inv-loop μ-loop = search in
+    why-end _ _ _ _ (at-loop .loop .i) (omega arith) (omega arith) (at-loop .loop .inv .1)
 
 pub why-uses-spec : {M : Type 1} → statement M
 why-uses-spec =

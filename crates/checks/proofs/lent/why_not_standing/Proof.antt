@@ -6,7 +6,10 @@ use Rattle.checks.proofs.lent.why_not_standing.Tie as tie
 
 returns : tie.Need-returns
 unfolding countsFit withinLimits
-returns c = rw (c .standing .ensures, c .before .before .counts-fit .ensures, c .before .within-limits .ensures)
+returns c =
+    let after-within-limits : tie.After-within-limits = search in
+    let after-counts-fit : tie.After-counts-fit = search in
+    rw (c .standing .ensures, after-counts-fit .counts-fit .ensures, after-within-limits .within-limits .ensures)
 
 pub why-not-standing-spec : {M : Type 1} → statement M
 why-not-standing-spec =

@@ -12,18 +12,23 @@ returns c = rw (c .if1 .taken) (sym (pool-first _ _ _))
 
 offset-at-requires : tie.Need-offset-at-requires
 offset-at-requires c κs =
-    let a = c .before .before .before .before .args in
-    let p = c .before .before .before .before .pre in
+    let start : tie.Start = search in
+    let a = start .args in
+    let p = start .pre in
     (omega (arith, p .room), p .listed (a .j - 1) (omega arith), p .known (a .j - 1) (omega arith))
 
 size-at-requires : tie.Need-size-at-requires
 size-at-requires c κs =
-    let a = c .before .before .before .before .before .args in
-    let p = c .before .before .before .before .before .pre in
+    let start : tie.Start = search in
+    let a = start .args in
+    let p = start .pre in
     (omega (arith, p .room), p .listed (a .j - 1) (omega arith))
 
 returns-2 : tie.Need-returns-2
-returns-2 c = rw (c .size-at .ensures, c .before .offset-at .ensures) (after-constant _ _ _ _ _ (omega arith) (c .before .before .before .before .before .before .pre))
+returns-2 c =
+    let after-offset-at : tie.After-offset-at = search in
+    let start : tie.Start = search in
+    rw (c .size-at .ensures, after-offset-at .offset-at .ensures) (after-constant _ _ _ _ _ (omega arith) (start .pre))
 
 pub alignment-at-spec : {M : Type 1} → statement M
 alignment-at-spec =

@@ -17,22 +17,31 @@ loop-holds : tie.Need-loop-holds Inv-loop μ-loop
 loop-holds c = halved-first _ _ _ _
 
 alignment-at-requires : tie.Need-alignment-at-requires Inv-loop μ-loop
-alignment-at-requires c κs = let l = c .before .loop in placed-fewer _ _ _ _ (c .before .before .before .before .before .args .n) (l .low + (l .high - l .low) / 2) (omega arith) (c .before .before .before .before .before .pre)
+alignment-at-requires c κs =
+    let at-loop : tie.At-loop Inv-loop μ-loop = search in
+    let start : tie.Start Inv-loop μ-loop = search in
+    let l = at-loop .loop in placed-fewer _ _ _ _ (start .args .n) (l .low + (l .high - l .low) / 2) (omega arith) (start .pre)
 
 loop-again : tie.Need-loop-again Inv-loop μ-loop
 loop-again c =
-    let l = c .before .before .before .loop in
+    let after-alignment-at : tie.After-alignment-at Inv-loop μ-loop = search in
+    let at-loop : tie.At-loop Inv-loop μ-loop = search in
+    let l = at-loop .loop in
     let mid = l .low + (l .high - l .low) / 2 in
-    halved-low _ _ _ _ (l .low) (l .high) mid (pool-ordered _ _ _ _) (l .inv) (omega arith) (rw (c .before .alignment-at .ensures) at (c .if1 .taken)) (omega arith)
+    halved-low _ _ _ _ (l .low) (l .high) mid (pool-ordered _ _ _ _) (l .inv) (omega arith) (rw (after-alignment-at .alignment-at .ensures) at (c .if1 .taken)) (omega arith)
 
 loop-again-2 : tie.Need-loop-again-2 Inv-loop μ-loop
 loop-again-2 c =
-    let l = c .before .before .before .loop in
+    let after-alignment-at : tie.After-alignment-at Inv-loop μ-loop = search in
+    let at-loop : tie.At-loop Inv-loop μ-loop = search in
+    let l = at-loop .loop in
     let mid = l .low + (l .high - l .low) / 2 in
-    halved-high _ _ _ _ (l .low) (l .high) mid (pool-ordered _ _ _ _) (l .inv) (omega arith) (rw (c .before .alignment-at .ensures) at (c .if1 .left)) (omega arith)
+    halved-high _ _ _ _ (l .low) (l .high) mid (pool-ordered _ _ _ _) (l .inv) (omega arith) (rw (after-alignment-at .alignment-at .ensures) at (c .if1 .left)) (omega arith)
 
 returns : tie.Need-returns Inv-loop μ-loop
-returns c = let l = c .before .loop in halved-last _ _ _ _ (l .low) (l .high) (l .inv) (omega arith)
+returns c =
+    let at-loop : tie.At-loop Inv-loop μ-loop = search in
+    let l = at-loop .loop in halved-last _ _ _ _ (l .low) (l .high) (l .inv) (omega arith)
 
 pub alignments-before-spec : {M : Type 1} → statement M
 alignments-before-spec =

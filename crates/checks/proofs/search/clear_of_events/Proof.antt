@@ -6,10 +6,15 @@ use Rattle.checks.proofs.search.clear_of_events.Statement.{statement}
 use Rattle.checks.proofs.search.clear_of_events.Tie as tie
 
 returns : tie.Need-returns
-returns c = clear-none _ _ _ _ _ (c .if1 .taken) (c .before .events-before .ensures)
+returns c =
+    let after-events-before : tie.After-events-before = search in
+    clear-none _ _ _ _ _ (c .if1 .taken) (after-events-before .events-before .ensures)
 
 returns-2 : tie.Need-returns-2
-returns-2 c = rw (c .end-at .ensures) (clear-last _ _ _ _ _ (omega arith) (c .before .before .before .before .pre .1) (c .before .before .events-before .ensures))
+returns-2 c =
+    let after-events-before : tie.After-events-before = search in
+    let start : tie.Start = search in
+    rw (c .end-at .ensures) (clear-last _ _ _ _ _ (omega arith) (start .pre .1) (after-events-before .events-before .ensures))
 
 pub clear-of-events-spec : {M : Type 1} → statement M
 clear-of-events-spec =

@@ -7,17 +7,24 @@ use Rattle.checks.proofs.search.clear_of_pool.Statement.{statement}
 use Rattle.checks.proofs.search.clear_of_pool.Tie as tie
 
 returns : tie.Need-returns
-returns c = pool-clear-none _ _ _ _ _ _ _ (c .if1 .taken) (c .before .alignments-before .ensures)
+returns c =
+    let after-alignments-before : tie.After-alignments-before = search in
+    pool-clear-none _ _ _ _ _ _ _ (c .if1 .taken) (after-alignments-before .alignments-before .ensures)
 
 offset-at-requires : tie.Need-offset-at-requires
 offset-at-requires c κs =
-    let p = c .before .before .before .before .before .pre in
-    let k = c .before .alignments-before .result in
-    let few = c .before .alignments-before .ensures .few in
+    let after-alignments-before : tie.After-alignments-before = search in
+    let start : tie.Start = search in
+    let p = start .pre in
+    let k = after-alignments-before .alignments-before .result in
+    let few = after-alignments-before .alignments-before .ensures .few in
     (omega (arith, p .room), p .listed (k - 1) (omega arith), p .known (k - 1) (omega arith))
 
 returns-2 : tie.Need-returns-2
-returns-2 c = rw (c .offset-at .ensures) (pool-clear-last _ _ _ _ _ _ _ _ (omega arith) (c .before .before .before .before .before .before .pre) (c .before .before .alignments-before .ensures))
+returns-2 c =
+    let after-alignments-before : tie.After-alignments-before = search in
+    let start : tie.Start = search in
+    rw (c .offset-at .ensures) (pool-clear-last _ _ _ _ _ _ _ _ (omega arith) (start .pre) (after-alignments-before .alignments-before .ensures))
 
 pub clear-of-pool-spec : {M : Type 1} → statement M
 clear-of-pool-spec =

@@ -18,18 +18,26 @@ loop-holds c = halved-first _ _ _ _
 
 loop-again : tie.Need-loop-again Inv-loop μ-loop
 loop-again c =
-    let l = c .before .before .before .loop in
+    let after-start-at : tie.After-start-at Inv-loop μ-loop = search in
+    let at-loop : tie.At-loop Inv-loop μ-loop = search in
+    let start : tie.Start Inv-loop μ-loop = search in
+    let l = at-loop .loop in
     let mid = l .low + (l .high - l .low) / 2 in
-    halved-low _ _ _ _ (l .low) (l .high) mid (c .before .before .before .before .before .pre .1) (l .inv) (omega arith) (rw (c .before .start-at .ensures) at (c .if1 .taken)) (omega arith)
+    halved-low _ _ _ _ (l .low) (l .high) mid (start .pre .1) (l .inv) (omega arith) (rw (after-start-at .start-at .ensures) at (c .if1 .taken)) (omega arith)
 
 loop-again-2 : tie.Need-loop-again-2 Inv-loop μ-loop
 loop-again-2 c =
-    let l = c .before .before .before .loop in
+    let after-start-at : tie.After-start-at Inv-loop μ-loop = search in
+    let at-loop : tie.At-loop Inv-loop μ-loop = search in
+    let start : tie.Start Inv-loop μ-loop = search in
+    let l = at-loop .loop in
     let mid = l .low + (l .high - l .low) / 2 in
-    halved-high _ _ _ _ (l .low) (l .high) mid (c .before .before .before .before .before .pre .1) (l .inv) (omega arith) (rw (c .before .start-at .ensures) at (c .if1 .left)) (omega arith)
+    halved-high _ _ _ _ (l .low) (l .high) mid (start .pre .1) (l .inv) (omega arith) (rw (after-start-at .start-at .ensures) at (c .if1 .left)) (omega arith)
 
 returns : tie.Need-returns Inv-loop μ-loop
-returns c = let l = c .before .loop in halved-last _ _ _ _ (l .low) (l .high) (l .inv) (omega arith)
+returns c =
+    let at-loop : tie.At-loop Inv-loop μ-loop = search in
+    let l = at-loop .loop in halved-last _ _ _ _ (l .low) (l .high) (l .inv) (omega arith)
 
 pub events-before-spec : {M : Type 1} → statement M
 events-before-spec =

@@ -4,7 +4,9 @@ use Rattle.checks.proofs.search.offset_at.Statement.{statement}
 use Rattle.checks.proofs.search.offset_at.Tie as tie
 
 returns : tie.Need-returns
-returns c = rw (c .word-at .ensures, c .before .label-at .ensures)
+returns c =
+    let after-label-at : tie.After-label-at = search in
+    rw (c .word-at .ensures, after-label-at .label-at .ensures)
 
 pub offset-at-spec : {M : Type 1} → statement M
 offset-at-spec = tie.close (tie.spec (λ c κs. search needs) (λ c. search needs) (λ c κs. search needs) returns)

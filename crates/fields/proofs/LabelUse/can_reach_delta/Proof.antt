@@ -11,19 +11,30 @@ use Rattle.fields.proofs.LabelUse.can_reach_delta.Tie as tie
 returns : tie.Need-returns
 unfolding canReachDelta
 returns c =
-    let words = ap (λ (i : FieldInfo). multiple (i .words) (c .before .before .before .args .delta)) (c .before .before .info .ensures) in
-    rw (sym words ∙ sym (c .before .is-multiple .ensures) ∙ not-true _ (c .if1 .taken))
+    let after-is-multiple : tie.After-is-multiple = search in
+    let after-info : tie.After-info = search in
+    let start : tie.Start = search in
+    let words = ap (λ (i : FieldInfo). multiple (i .words) (start .args .delta)) (after-info .info .ensures) in
+    rw (sym words ∙ sym (after-is-multiple .is-multiple .ensures) ∙ not-true _ (c .if1 .taken))
 
 in-range-requires : tie.Need-in-range-requires
-in-range-requires c κs = rw (c .before .before .before .info .ensures) (limits-fit (c .before .before .before .before .args .self))
+in-range-requires c κs =
+    let after-info : tie.After-info = search in
+    let start : tie.Start = search in
+    rw (after-info .info .ensures) (limits-fit (start .args .self))
 
 returns-2 : tie.Need-returns-2
 unfolding canReachDelta
 returns-2 c =
-    let e = c .before .before .before .before .info .ensures in
-    let words = ap (λ (i : FieldInfo). multiple (i .words) (c .before .before .before .before .before .args .delta)) e in
+    let after-wrapping-sub : tie.After-wrapping-sub = search in
+    let else1 : tie.Else1 = search in
+    let after-is-multiple : tie.After-is-multiple = search in
+    let after-info : tie.After-info = search in
+    let start : tie.Start = search in
+    let e = after-info .info .ensures in
+    let words = ap (λ (i : FieldInfo). multiple (i .words) (start .args .delta)) e in
     c .in-range .ensures
-    ∙ rw (c .before .wrapping-sub .ensures, sym words ∙ sym (c .before .before .before .is-multiple .ensures) ∙ not-false _ (c .before .before .if1 .left), e)
+    ∙ rw (after-wrapping-sub .wrapping-sub .ensures, sym words ∙ sym (after-is-multiple .is-multiple .ensures) ∙ not-false _ (else1 .if1 .left), e)
 
 pub can-reach-delta-spec : {M : Type 1} → statement M
 can-reach-delta-spec =

@@ -6,19 +6,34 @@ use Rattle.finish.proofs.pooled.all_bound.Statement.{statement}
 use Rattle.finish.proofs.pooled.all_bound.Tie as tie
 
 uses-bound-requires : tie.Need-uses-bound-requires
-uses-bound-requires c κs = let e = c .before .before .before .before .before .pre in (omega (arith, e .used .room), uses-named _ _ _ _ _ _ _ _ _ _ _ _ _ e)
+uses-bound-requires c κs =
+    let start : tie.Start = search in
+    let e = start .pre in (omega (arith, e .used .room), uses-named _ _ _ _ _ _ _ _ _ _ _ _ _ e)
 
 relocs-bound-requires : tie.Need-relocs-bound-requires
-relocs-bound-requires c κs = let e = c .before .before .before .before .before .before .pre in (omega (arith, e .relocated .room), targets-named _ _ _ _ _ _ _ _ _ _ _ _ _ e)
+relocs-bound-requires c κs =
+    let start : tie.Start = search in
+    let e = start .pre in (omega (arith, e .relocated .room), targets-named _ _ _ _ _ _ _ _ _ _ _ _ _ e)
 
 refs-bound-requires : tie.Need-refs-bound-requires
-refs-bound-requires c κs = let e = c .before .before .before .before .before .before .before .pre in (omega (arith, e .referred .room), refs-named _ _ _ _ _ _ _ _ _ _ _ _ _ e)
+refs-bound-requires c κs =
+    let start : tie.Start = search in
+    let e = start .pre in (omega (arith, e .referred .room), refs-named _ _ _ _ _ _ _ _ _ _ _ _ _ e)
 
 jumps-bound-requires : tie.Need-jumps-bound-requires
-jumps-bound-requires c κs = let e = c .before .before .before .before .before .before .before .before .pre in (omega (arith, e .recorded .room), jumps-named _ _ _ _ _ _ _ _ _ _ _ _ _ e)
+jumps-bound-requires c κs =
+    let start : tie.Start = search in
+    let e = start .pre in (omega (arith, e .recorded .room), jumps-named _ _ _ _ _ _ _ _ _ _ _ _ _ e)
 
 returns : tie.Need-returns
-returns c = rw (c .both3 .ensures, c .before .both2 .ensures, c .before .before .both .ensures, c .before .before .before .before .before .before .uses-bound .ensures, c .before .before .before .before .before .relocs-bound .ensures, c .before .before .before .before .refs-bound .ensures, c .before .before .before .jumps-bound .ensures)
+returns c =
+    let after-both2 : tie.After-both2 = search in
+    let after-both : tie.After-both = search in
+    let after-jumps-bound : tie.After-jumps-bound = search in
+    let after-refs-bound : tie.After-refs-bound = search in
+    let after-relocs-bound : tie.After-relocs-bound = search in
+    let after-uses-bound : tie.After-uses-bound = search in
+    rw (c .both3 .ensures, after-both2 .both2 .ensures, after-both .both .ensures, after-uses-bound .uses-bound .ensures, after-relocs-bound .relocs-bound .ensures, after-refs-bound .refs-bound .ensures, after-jumps-bound .jumps-bound .ensures)
 
 pub all-bound-spec : {M : Type 1} → statement M
 all-bound-spec =

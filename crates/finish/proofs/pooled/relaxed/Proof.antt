@@ -1,7 +1,5 @@
 -- `relaxed` meets its contract: it lends `lay_out` a mark for each event.
 mod Tie
-use mathlib.Core.Path.{refl}
-use mathlib.Core.List.{[]}
 use native.Mathlib.Omega.{arith}
 use Rattle.finish.proofs.Stages.{few, marks-short}
 use borrow.Author.Needs.{needs}
@@ -9,19 +7,13 @@ use Rattle.finish.proofs.pooled.relaxed.Statement.{statement}
 use Rattle.finish.proofs.pooled.relaxed.Proof.Tie as tie
 
 add-all : tie.Need-add-all
-add-all c =
-    let s = c .before .before .before .before .before .before .before .before in
-    omega (arith, few _ _ _ _ _ _ _ _ (s .args .segments .now) _ _ _ _ _ _ (s .pre .0) [] 0 (s .pre .1) refl)
+add-all c = let s : tie.Start = search in omega (arith, few (s .pre))
 
 part-long-end : tie.Need-part-long-end
-part-long-end c =
-    let s = c .before .before .before .before .before .before .before .before .before .before .before .before in
-    omega (arith, few _ _ _ _ _ _ _ _ (s .args .segments .now) _ _ _ _ _ _ (s .pre .0) [] 0 (s .pre .1) refl)
+part-long-end c = let s : tie.Start = search in omega (arith, few (s .pre))
 
 lay-out-requires : tie.Need-lay-out-requires
-lay-out-requires c κs =
-    let s = c .before .before .before .before .before .before .before .before .before .before .before .before .before in
-    (s .pre .0, (s .pre .1, marks-short _ 65536 (few _ _ _ _ _ _ _ _ (s .args .segments .now) _ _ _ _ _ _ (s .pre .0) [] 0 (s .pre .1) refl)))
+lay-out-requires c κs = let s : tie.Start = search in (s .pre, marks-short _ 65536 (few (s .pre)))
 
 pub relaxed-spec : {M : Type 1} → statement M
 relaxed-spec =

@@ -8,16 +8,34 @@ use Rattle.finish.proofs.pooled.unrelaxed.Statement.{statement}
 use Rattle.finish.proofs.pooled.unrelaxed.Tie as tie
 
 why-not-in-place-requires : tie.Need-why-not-in-place-requires
-why-not-in-place-requires c κs = let k = c .before .before .before .before .before .before .before .pre in (k .used-room, record { known = λ i h. omega (arith, k .known i h, k .room) })
+why-not-in-place-requires c κs =
+    let start : tie.Start = search in
+    let k = start .pre in (k .used-room, record { known = λ i h. omega (arith, k .known i h, k .room) })
 
 returns : tie.Need-returns
-returns c = λ es rs. kept-refused _ _ _ _ _ (c .before .before .before .before .before .before .before .before .before .before .args .arch) _ _ _ _ es rs (c .before .before .before .before .before .before .before .before .before .before .pre) _ _ _ (c .before .before .before .pool-end .ensures .0) (c .before .before .why-not-in-place .ensures) _ (c .before .if1 .taken) (c .refused .ensures)
+returns c =
+    let then1 : tie.Then1 = search in
+    let after-why-not-in-place : tie.After-why-not-in-place = search in
+    let after-pool-end : tie.After-pool-end = search in
+    let start : tie.Start = search in
+    λ es rs. kept-refused _ _ _ _ _ (start .args .arch) _ _ _ _ es rs (start .pre) _ _ _ (after-pool-end .pool-end .ensures .0) (after-why-not-in-place .why-not-in-place .ensures) _ (then1 .if1 .taken) (c .refused .ensures)
 
 write-in-place-requires : tie.Need-write-in-place-requires
-write-in-place-requires c κs = copying _ _ _ _ _ (c .before .before .before .before .before .before .before .before .before .before .args .arch) _ _ _ _ [] [] (c .before .before .before .before .before .before .before .before .before .before .pre) _ _ _ (c .before .before .before .pool-end .ensures .0) (c .before .before .why-not-in-place .ensures) (c .before .if1 .left)
+write-in-place-requires c κs =
+    let else1 : tie.Else1 = search in
+    let after-why-not-in-place : tie.After-why-not-in-place = search in
+    let after-pool-end : tie.After-pool-end = search in
+    let start : tie.Start = search in
+    copying _ _ _ _ _ (start .args .arch) _ _ _ _ [] [] (start .pre) _ _ _ (after-pool-end .pool-end .ensures .0) (after-why-not-in-place .why-not-in-place .ensures) (else1 .if1 .left)
 
 returns-2 : tie.Need-returns-2
-returns-2 c = λ es rs. kept-done _ _ _ _ _ (c .before .before .before .before .before .before .before .before .before .before .before .before .before .args .arch) _ _ _ _ es rs (c .before .before .before .before .before .before .before .before .before .before .before .before .before .pre) _ _ _ (c .before .before .before .before .before .before .pool-end .ensures .0) (c .before .before .before .before .before .why-not-in-place .ensures) (c .before .before .before .before .if1 .left) _ _ refl (c .before .before .write-in-place .ensures)
+returns-2 c =
+    let after-write-in-place : tie.After-write-in-place = search in
+    let else1 : tie.Else1 = search in
+    let after-why-not-in-place : tie.After-why-not-in-place = search in
+    let after-pool-end : tie.After-pool-end = search in
+    let start : tie.Start = search in
+    λ es rs. kept-done _ _ _ _ _ (start .args .arch) _ _ _ _ es rs (start .pre) _ _ _ (after-pool-end .pool-end .ensures .0) (after-why-not-in-place .why-not-in-place .ensures) (else1 .if1 .left) _ _ refl (after-write-in-place .write-in-place .ensures)
 
 pub unrelaxed-spec : {M : Type 1} → statement M
 unrelaxed-spec =

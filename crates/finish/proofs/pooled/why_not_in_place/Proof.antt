@@ -6,13 +6,21 @@ use Rattle.finish.proofs.pooled.why_not_in_place.Statement.{statement}
 use Rattle.finish.proofs.pooled.why_not_in_place.Tie as tie
 
 returns : tie.Need-returns
-returns c = rw (← c .before .why-uses .ensures) (sym (no-eq _ 0 _ _ (c .if1 .taken)))
+returns c =
+    let after-why-uses : tie.After-why-uses = search in
+    rw (← after-why-uses .why-uses .ensures) (sym (no-eq _ 0 _ _ (c .if1 .taken)))
 
 returns-2 : tie.Need-returns-2
-returns-2 c = sym (yes-eq _ 0 _ _ (sym (c .before .before .why-uses .ensures) ∙ c .before .if1 .left) ∙ yes-lt _ _ 23 0 (c .if2 .taken))
+returns-2 c =
+    let else1 : tie.Else1 = search in
+    let after-why-uses : tie.After-why-uses = search in
+    sym (yes-eq _ 0 _ _ (sym (after-why-uses .why-uses .ensures) ∙ else1 .if1 .left) ∙ yes-lt _ _ 23 0 (c .if2 .taken))
 
 returns-3 : tie.Need-returns-3
-returns-3 c = sym (yes-eq _ 0 _ _ (sym (c .before .before .why-uses .ensures) ∙ c .before .if1 .left) ∙ no-lt _ _ 23 0 (c .if2 .left))
+returns-3 c =
+    let else1 : tie.Else1 = search in
+    let after-why-uses : tie.After-why-uses = search in
+    sym (yes-eq _ 0 _ _ (sym (after-why-uses .why-uses .ensures) ∙ else1 .if1 .left) ∙ no-lt _ _ 23 0 (c .if2 .left))
 
 pub why-not-in-place-spec : {M : Type 1} → statement M
 why-not-in-place-spec = tie.close (tie.spec (λ c κs. search needs) returns returns-2 returns-3)

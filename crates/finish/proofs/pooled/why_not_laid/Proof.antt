@@ -10,10 +10,16 @@ returns : tie.Need-returns
 returns c = sym (yes-lt _ _ 16 _ (c .if1 .taken))
 
 returns-2 : tie.Need-returns-2
-returns-2 c = sym (no-lt _ _ 16 _ (c .before .before .if1 .left) ∙ yes-not _ 17 0 (sym (c .before .refs-clear .ensures) ∙ not-true _ (c .if2 .taken)))
+returns-2 c =
+    let after-refs-clear : tie.After-refs-clear = search in
+    let else1 : tie.Else1 = search in
+    sym (no-lt _ _ 16 _ (else1 .if1 .left) ∙ yes-not _ 17 0 (sym (after-refs-clear .refs-clear .ensures) ∙ not-true _ (c .if2 .taken)))
 
 returns-3 : tie.Need-returns-3
-returns-3 c = sym (no-lt _ _ 16 _ (c .before .before .if1 .left) ∙ no-not _ 17 0 (sym (c .before .refs-clear .ensures) ∙ not-false _ (c .if2 .left)))
+returns-3 c =
+    let after-refs-clear : tie.After-refs-clear = search in
+    let else1 : tie.Else1 = search in
+    sym (no-lt _ _ 16 _ (else1 .if1 .left) ∙ no-not _ 17 0 (sym (after-refs-clear .refs-clear .ensures) ∙ not-false _ (c .if2 .left)))
 
 pub why-not-laid-spec : {M : Type 1} → statement M
 why-not-laid-spec = tie.close (tie.spec (λ c. search needs) returns (λ c κs. search needs) returns-2 returns-3)

@@ -7,25 +7,41 @@ use Rattle.finish.proofs.pooled.write_in_place.Statement.{statement}
 use Rattle.finish.proofs.pooled.write_in_place.Tie as tie
 
 patch-uses-requires : tie.Need-patch-uses-requires
-patch-uses-requires c κs = rw (c .before .before .before .emit .kept .0, c .before .before .before .before .before .before .before .copy-run .kept .0) (c .before .before .before .before .before .before .before .before .before .before .before .before .before .before .before .pre .used)
+patch-uses-requires c κs =
+    let after-emit : tie.After-emit = search in
+    let after-copy-run : tie.After-copy-run = search in
+    let start : tie.Start = search in
+    rw (after-emit .emit .kept .0, after-copy-run .copy-run .kept .0) (start .pre .used)
 
 write-requires : tie.Need-write-requires
 write-requires c κs =
-    let w = c .before .before .before .before .before .before .before .before .before .before .before .before .before .before .before .before .before .before .before .pre in (
+    let after-patch-uses : tie.After-patch-uses = search in
+    let after-emit : tie.After-emit = search in
+    let after-copy-run : tie.After-copy-run = search in
+    let start : tie.Start = search in
+    let w = start .pre in (
       w .pool,
       (
         w .named,
         record {
-          within = λ j h. omega (arith, w .written .within j h, c .before .before .before .patch-uses .kept .0, c .before .before .before .before .before .before .before .emit .kept .0, c .before .before .before .before .before .before .before .before .before .before .before .copy-run .kept .0);
+          within = λ j h. omega (arith, w .written .within j h, after-patch-uses .patch-uses .kept .0, after-emit .emit .kept .0, after-copy-run .copy-run .kept .0);
         },
       ),
     )
 
+abbrev start-from-after-copy-run : tie.After-copy-run → tie.Start
+start-from-after-copy-run c = search
+
 returns : tie.Need-returns
 returns c =
-    let len = c .before .before .before .before .before .before .before .before .before .before .before .before .before .before .before .before .before .before .before .before .before .before .args .len in
+    let after-write : tie.After-write = search in
+    let after-patch-uses : tie.After-patch-uses = search in
+    let after-emit : tie.After-emit = search in
+    let after-copy-run : tie.After-copy-run = search in
+    let start = start-from-after-copy-run after-copy-run in
+    let len = start .args .len in
     let whole : len - 0 ≡ len = omega arith in
-    rw (c .before .before .write .ensures, c .before .before .before .before .before .before .patch-uses .ensures, c .before .before .before .before .before .before .before .before .before .before .emit .ensures, c .before .before .before .before .before .before .before .before .before .before .before .before .before .before .copy-run .ensures, whole)
+    rw (after-write .write .ensures, after-patch-uses .patch-uses .ensures, after-emit .emit .ensures, after-copy-run .copy-run .ensures, whole)
 
 pub write-in-place-spec : {M : Type 1} → statement M
 write-in-place-spec =

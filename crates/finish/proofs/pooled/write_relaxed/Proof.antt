@@ -8,23 +8,41 @@ use Rattle.finish.proofs.pooled.write_relaxed.Proof.Tie as tie
 
 emit-requires : tie.Need-emit-requires
 emit-requires c κs =
-    let w = c .before .before .before .before .before .before .before .before .before .before .before .before .before .before .pre in
-    let e = c .before .map .ensures ∙ w .ends in
-    (w .pool, (omega (arith, w .near, e), rw e (omega (arith, w .pooled, c .before .before .before .before .emit-events .kept .0))))
+    let after-map : tie.After-map = search in
+    let after-emit-events : tie.After-emit-events = search in
+    let start : tie.Start = search in
+    let w = start .pre in
+    let e = after-map .map .ensures ∙ w .ends in
+    (w .pool, (omega (arith, w .near, e), rw e (omega (arith, w .pooled, after-emit-events .emit-events .kept .0))))
 
 patch-refs-requires : tie.Need-patch-refs-requires
 patch-refs-requires c κs =
-    let w = c .before .before .before .before .before .before .before .before .before .before .before .before .before .before .before .before .before .before .pre in
-    (w .rising-all, rw (c .before .before .before .emit .kept .0, c .before .before .before .before .before .before .before .before .emit-events .kept .0) (w .filled))
+    let after-emit : tie.After-emit = search in
+    let after-emit-events : tie.After-emit-events = search in
+    let start : tie.Start = search in
+    let w = start .pre in
+    (w .rising-all, rw (after-emit .emit .kept .0, after-emit-events .emit-events .kept .0) (w .filled))
+
+abbrev start-from-after-emit-events : tie.After-emit-events → tie.Start
+start-from-after-emit-events c = search
 
 patch-jumps-requires : tie.Need-patch-jumps-requires
 patch-jumps-requires c κs =
-    let w = c .before .before .before .before .before .before .before .before .before .before .before .before .before .before .before .before .before .before .before .before .before .before .pre in
-    rw (c .before .before .before .patch-refs .kept .0, c .before .before .before .before .before .before .before .emit .kept .0, c .before .before .before .before .before .before .before .before .before .before .before .before .emit-events .kept .0) (w .jumped)
+    let after-patch-refs : tie.After-patch-refs = search in
+    let after-emit : tie.After-emit = search in
+    let after-emit-events : tie.After-emit-events = search in
+    let start = start-from-after-emit-events after-emit-events in
+    let w = start .pre in
+    rw (after-patch-refs .patch-refs .kept .0, after-emit .emit .kept .0, after-emit-events .emit-events .kept .0) (w .jumped)
 
 write-requires : tie.Need-write-requires
 write-requires c κs =
-    let w = c .before .before .before .before .before .before .before .before .before .before .before .before .before .before .before .before .before .before .before .before .before .before .before .before .before .before .pre in (
+    let after-patch-jumps : tie.After-patch-jumps = search in
+    let after-patch-refs : tie.After-patch-refs = search in
+    let after-emit : tie.After-emit = search in
+    let after-emit-events : tie.After-emit-events = search in
+    let start = start-from-after-emit-events after-emit-events in
+    let w = start .pre in (
       w .pool,
       (
         w .named,
@@ -33,10 +51,10 @@ write-requires c κs =
               omega (
                 arith,
                 w .written .within j h,
-                c .before .before .before .patch-jumps .kept .0,
-                c .before .before .before .before .before .before .before .patch-refs .kept .0,
-                c .before .before .before .before .before .before .before .before .before .before .before .emit .kept .0,
-                c .before .before .before .before .before .before .before .before .before .before .before .before .before .before .before .before .emit-events .kept .0,
+                after-patch-jumps .patch-jumps .kept .0,
+                after-patch-refs .patch-refs .kept .0,
+                after-emit .emit .kept .0,
+                after-emit-events .emit-events .kept .0,
               );
         },
       ),

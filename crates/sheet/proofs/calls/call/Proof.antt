@@ -6,28 +6,59 @@ use Rattle.sheet.proofs.calls.call.Statement.{statement}
 use Rattle.sheet.proofs.calls.call.Tie as tie
 
 call-code-requires : tie.Need-call-code-requires
-call-code-requires c κs = (c .before .before .before .before .before .before .before .before .before .before .before .before .before .pre, either-is _ 1 4 (sym (c .before .before .before .is-code .ensures) ∙ c .before .before .if1 .taken))
+call-code-requires c κs =
+    let then1 : tie.Then1 = search in
+    let after-is-code : tie.After-is-code = search in
+    let start : tie.Start = search in
+    (start .pre, either-is _ 1 4 (sym (after-is-code .is-code .ensures) ∙ then1 .if1 .taken))
 
 returns : tie.Need-returns
-returns c = c .before .before .before .before .call-code .ensures _ _ _ _ _ _
+returns c =
+    let after-call-code : tie.After-call-code = search in
+    after-call-code .call-code .ensures _ _ _ _ _ _
 
 call-labels-requires : tie.Need-call-labels-requires
-call-labels-requires c κs = (c .before .before .before .before .before .before .before .before .before .before .before .before .before .before .before .pre, one-of-three _ 2 3 7 (sym (c .before .before .before .is-label .ensures) ∙ c .before .before .if2 .taken))
+call-labels-requires c κs =
+    let then2 : tie.Then2 = search in
+    let after-is-label : tie.After-is-label = search in
+    let start : tie.Start = search in
+    (start .pre, one-of-three _ 2 3 7 (sym (after-is-label .is-label .ensures) ∙ then2 .if2 .taken))
 
 returns-2 : tie.Need-returns-2
-returns-2 c = c .before .before .before .before .call-labels .ensures _ _ _ _ _ _
+returns-2 c =
+    let after-call-labels : tie.After-call-labels = search in
+    after-call-labels .call-labels .ensures _ _ _ _ _ _
 
 call-constants-requires : tie.Need-call-constants-requires
-call-constants-requires c κs = (c .before .before .before .before .before .before .before .before .before .before .before .before .before .before .before .before .before .before .pre, either-is _ 8 9 (sym (c .before .before .before .before .is-constant .ensures) ∙ c .before .before .before .if3 .taken))
+call-constants-requires c κs =
+    let then3 : tie.Then3 = search in
+    let after-is-constant : tie.After-is-constant = search in
+    let start : tie.Start = search in
+    (start .pre, either-is _ 8 9 (sym (after-is-constant .is-constant .ensures) ∙ then3 .if3 .taken))
 
 returns-3 : tie.Need-returns-3
-returns-3 c = c .before .before .before .before .before .before .call-constants .ensures _ _ _ _ _
+returns-3 c =
+    let after-call-constants : tie.After-call-constants = search in
+    after-call-constants .call-constants .ensures _ _ _ _ _
+
+abbrev start-from-after-is-code : tie.After-is-code → tie.Start
+start-from-after-is-code c = search
 
 call-fields-requires : tie.Need-call-fields-requires
-call-fields-requires c κs = let code = neither-is _ 1 4 (sym (c .before .before .before .before .before .before .before .before .is-code .ensures) ∙ c .before .before .before .before .before .before .before .if1 .left) in let label = none-of-three _ 2 3 7 (sym (c .before .before .before .before .before .before .is-label .ensures) ∙ c .before .before .before .before .before .if2 .left) in let constant = neither-is _ 8 9 (sym (c .before .before .before .before .is-constant .ensures) ∙ c .before .before .before .if3 .left) in (c .before .before .before .before .before .before .before .before .before .before .before .before .before .before .before .before .before .before .pre, (code .0, label .0, label .1, code .1, label .2, constant .0, constant .1))
+call-fields-requires c κs =
+    let else3 : tie.Else3 = search in
+    let after-is-constant : tie.After-is-constant = search in
+    let else2 : tie.Else2 = search in
+    let after-is-label : tie.After-is-label = search in
+    let else1 : tie.Else1 = search in
+    let after-is-code : tie.After-is-code = search in
+    let start = start-from-after-is-code after-is-code in
+    let code = neither-is _ 1 4 (sym (after-is-code .is-code .ensures) ∙ else1 .if1 .left) in let label = none-of-three _ 2 3 7 (sym (after-is-label .is-label .ensures) ∙ else2 .if2 .left) in let constant = neither-is _ 8 9 (sym (after-is-constant .is-constant .ensures) ∙ else3 .if3 .left) in (start .pre, (code .0, label .0, label .1, code .1, label .2, constant .0, constant .1))
 
 returns-4 : tie.Need-returns-4
-returns-4 c = c .before .before .before .before .before .before .call-fields .ensures _ _ _ _ _
+returns-4 c =
+    let after-call-fields : tie.After-call-fields = search in
+    after-call-fields .call-fields .ensures _ _ _ _ _
 
 pub call-spec : {M : Type 1} → statement M
 call-spec =

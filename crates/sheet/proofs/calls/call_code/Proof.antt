@@ -7,13 +7,21 @@ use Rattle.sheet.proofs.calls.call_code.Tie as tie
 
 returns : tie.Need-returns
 returns c =
-    let a = c .before .before .before .before .before .before .before .before .before .before .args in
-    λ labels uses refs constants asked relocs. bytes-called (a .b) (a .kind) (a .arguments .now) (a .code .now) labels (a .events .now) uses refs constants asked relocs _ _ _ (c .before .before .before .before .before .before .if1 .taken) (counted-bytes _ _ (c .before .before .before .before .before .before .before .before .before .before .pre .0) (c .before .before .before .before .before .count-in .ensures)) (c .before .before .put-bytes .ensures)
+    let after-put-bytes : tie.After-put-bytes = search in
+    let after-count-in : tie.After-count-in = search in
+    let then1 : tie.Then1 = search in
+    let start : tie.Start = search in
+    let a = start .args in
+    λ labels uses refs constants asked relocs. bytes-called (a .b) (a .kind) (a .arguments .now) (a .code .now) labels (a .events .now) uses refs constants asked relocs _ _ _ (then1 .if1 .taken) (counted-bytes _ _ (start .pre .0) (after-count-in .count-in .ensures)) (after-put-bytes .put-bytes .ensures)
 
 returns-2 : tie.Need-returns-2
 returns-2 c =
-    let a = c .before .before .before .before .before .before .before .before .before .before .before .before .args in
-    λ labels uses refs constants asked relocs. align-called (a .b) (a .kind) (a .arguments .now) (a .code .now) labels (a .events .now) uses refs constants asked relocs _ _ _ _ (the-other (c .before .before .before .before .before .before .before .before .before .before .before .before .pre .1) (c .before .before .before .before .before .before .before .before .if1 .left)) (as-word (c .before .before .before .before .before .word-at .result) _ 0 (c .before .before .before .before .before .word-at .ensures) (omega arith)) (c .before .before .before .before .try-align-to .ensures)
+    let after-try-align-to : tie.After-try-align-to = search in
+    let after-word-at : tie.After-word-at = search in
+    let else1 : tie.Else1 = search in
+    let start : tie.Start = search in
+    let a = start .args in
+    λ labels uses refs constants asked relocs. align-called (a .b) (a .kind) (a .arguments .now) (a .code .now) labels (a .events .now) uses refs constants asked relocs _ _ _ _ (the-other (start .pre .1) (else1 .if1 .left)) (as-word (after-word-at .word-at .result) _ 0 (after-word-at .word-at .ensures) (omega arith)) (after-try-align-to .try-align-to .ensures)
 
 pub call-code-spec : {M : Type 1} → statement M
 call-code-spec =

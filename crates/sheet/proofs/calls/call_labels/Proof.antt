@@ -7,18 +7,33 @@ use Rattle.sheet.proofs.calls.call_labels.Tie as tie
 
 returns : tie.Need-returns
 returns c =
-    let a = c .before .before .before .before .before .before .before .before .before .args in
-    λ code uses refs constants asked relocs. rw (c .recorded .ensures) (label-called (a .b) (a .kind) (a .arguments .now) code (a .labels .now) (a .events .now) uses refs constants asked relocs _ _ (c .before .before .before .before .before .if1 .taken) (c .before .before .before .get-label .ensures))
+    let after-get-label : tie.After-get-label = search in
+    let then1 : tie.Then1 = search in
+    let start : tie.Start = search in
+    let a = start .args in
+    λ code uses refs constants asked relocs. rw (c .recorded .ensures) (label-called (a .b) (a .kind) (a .arguments .now) code (a .labels .now) (a .events .now) uses refs constants asked relocs _ _ (then1 .if1 .taken) (after-get-label .get-label .ensures))
 
 returns-2 : tie.Need-returns-2
 returns-2 c =
-    let a = c .before .before .before .before .before .before .before .before .before .before .args in
-    λ code uses refs constants asked relocs. bind-called (a .b) (a .kind) (a .arguments .now) code (a .labels .now) (a .events .now) uses refs constants asked relocs _ _ _ (c .before .before .before .before .before .if2 .taken) (as-word (c .before .before .before .word-at .result) _ 0 (c .before .before .before .word-at .ensures) (omega arith)) (c .before .before .try-bind-label .ensures)
+    let after-try-bind-label : tie.After-try-bind-label = search in
+    let after-word-at : tie.After-word-at = search in
+    let then2 : tie.Then2 = search in
+    let start : tie.Start = search in
+    let a = start .args in
+    λ code uses refs constants asked relocs. bind-called (a .b) (a .kind) (a .arguments .now) code (a .labels .now) (a .events .now) uses refs constants asked relocs _ _ _ (then2 .if2 .taken) (as-word (after-word-at .word-at .result) _ 0 (after-word-at .word-at .ensures) (omega arith)) (after-try-bind-label .try-bind-label .ensures)
 
 returns-3 : tie.Need-returns-3
 returns-3 c =
-    let a = c .before .before .before .before .before .before .before .before .before .before .before .before .before .before .args in
-    λ code uses refs constants asked relocs. jump-called (a .b) (a .kind) (a .arguments .now) code (a .labels .now) (a .events .now) uses refs constants asked relocs _ _ _ _ _ _ (the-other (the-other (c .before .before .before .before .before .before .before .before .before .before .before .before .before .before .pre .1) (c .before .before .before .before .before .before .before .before .before .before .if1 .left)) (c .before .before .before .before .before .before .before .before .before .if2 .left)) (as-word (c .before .before .before .before .before .before .word-at2 .result) _ 0 (c .before .before .before .before .before .before .word-at2 .ensures) (omega arith)) (as-word (c .before .before .before .before .before .word-at3 .result) _ 1 (c .before .before .before .before .before .word-at3 .ensures) (omega arith)) (as-word (c .before .before .before .before .word-at4 .result) _ 2 (c .before .before .before .before .word-at4 .ensures) (omega arith)) (as-word (c .before .before .before .word-at5 .result) _ 3 (c .before .before .before .word-at5 .ensures) (omega arith)) (c .before .before .record-relaxable-jump .ensures)
+    let after-record-relaxable-jump : tie.After-record-relaxable-jump = search in
+    let after-word-at5 : tie.After-word-at5 = search in
+    let after-word-at4 : tie.After-word-at4 = search in
+    let after-word-at3 : tie.After-word-at3 = search in
+    let after-word-at2 : tie.After-word-at2 = search in
+    let else2 : tie.Else2 = search in
+    let else1 : tie.Else1 = search in
+    let start : tie.Start = search in
+    let a = start .args in
+    λ code uses refs constants asked relocs. jump-called (a .b) (a .kind) (a .arguments .now) code (a .labels .now) (a .events .now) uses refs constants asked relocs _ _ _ _ _ _ (the-other (the-other (start .pre .1) (else1 .if1 .left)) (else2 .if2 .left)) (as-word (after-word-at2 .word-at2 .result) _ 0 (after-word-at2 .word-at2 .ensures) (omega arith)) (as-word (after-word-at3 .word-at3 .result) _ 1 (after-word-at3 .word-at3 .ensures) (omega arith)) (as-word (after-word-at4 .word-at4 .result) _ 2 (after-word-at4 .word-at4 .ensures) (omega arith)) (as-word (after-word-at5 .word-at5 .result) _ 3 (after-word-at5 .word-at5 .ensures) (omega arith)) (after-record-relaxable-jump .record-relaxable-jump .ensures)
 
 pub call-labels-spec : {M : Type 1} → statement M
 call-labels-spec =

@@ -21,18 +21,26 @@ loop-holds c = (omega arith, omega arith)
 
 returns : tie.Need-returns Inv-loop μ-loop
 returns c =
-    let a = c .before .before .before .before .before .before .before .before .args in
-    omega (arith, c .before .before .before .before .before .loop .inv .1, broken-here (a .kinds .now) (a .arguments .now) (c .before .before .before .before .before .loop .i) (omega arith) (sym (rw (argument-part (a .kinds .now) (a .arguments .now) (c .before .before .before .before .before .loop .i)) at (c .before .is-formed .ensures)) ∙ not-true _ (c .if1 .taken)))
+    let after-is-formed : tie.After-is-formed Inv-loop μ-loop = search in
+    let at-loop : tie.At-loop Inv-loop μ-loop = search in
+    let start : tie.Start Inv-loop μ-loop = search in
+    let a = start .args in
+    omega (arith, at-loop .loop .inv .1, broken-here (a .kinds .now) (a .arguments .now) (at-loop .loop .i) (omega arith) (sym (rw (argument-part (a .kinds .now) (a .arguments .now) (at-loop .loop .i)) at (after-is-formed .is-formed .ensures)) ∙ not-true _ (c .if1 .taken)))
 
 loop-again : tie.Need-loop-again Inv-loop μ-loop
 loop-again c =
-    let a = c .before .before .before .before .before .before .before .before .args in
-    (omega arith, omega (arith, c .before .before .before .before .before .loop .inv .1, broken-step (a .kinds .now) (a .arguments .now) (c .before .before .before .before .before .loop .i) (omega arith) (sym (rw (argument-part (a .kinds .now) (a .arguments .now) (c .before .before .before .before .before .loop .i)) at (c .before .is-formed .ensures)) ∙ not-false _ (c .if1 .left))))
+    let after-is-formed : tie.After-is-formed Inv-loop μ-loop = search in
+    let at-loop : tie.At-loop Inv-loop μ-loop = search in
+    let start : tie.Start Inv-loop μ-loop = search in
+    let a = start .args in
+    (omega arith, omega (arith, at-loop .loop .inv .1, broken-step (a .kinds .now) (a .arguments .now) (at-loop .loop .i) (omega arith) (sym (rw (argument-part (a .kinds .now) (a .arguments .now) (at-loop .loop .i)) at (after-is-formed .is-formed .ensures)) ∙ not-false _ (c .if1 .left))))
 
 returns-2 : tie.Need-returns-2 Inv-loop μ-loop
 returns-2 c =
-    let a = c .before .before .before .before .args in
-    omega (arith, c .before .loop .inv .1, broken-end (a .kinds .now) (a .arguments .now) (c .before .loop .i) (omega arith))
+    let at-loop : tie.At-loop Inv-loop μ-loop = search in
+    let start : tie.Start Inv-loop μ-loop = search in
+    let a = start .args in
+    omega (arith, at-loop .loop .inv .1, broken-end (a .kinds .now) (a .arguments .now) (at-loop .loop .i) (omega arith))
 
 pub first-broken-spec : {M : Type 1} → statement M
 first-broken-spec =

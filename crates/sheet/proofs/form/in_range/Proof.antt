@@ -8,19 +8,38 @@ use Rattle.sheet.proofs.form.in_range.Tie as tie
 
 returns : tie.Need-returns
 unfolding inRange
-returns c = rw (c .word-at .ensures) (sym (pick-yes _ _ _ (sym (c .before .before .is-counted .ensures) ∙ c .before .if1 .taken)))
+returns c =
+    let then1 : tie.Then1 = search in
+    let after-is-counted : tie.After-is-counted = search in
+    rw (c .word-at .ensures) (sym (pick-yes _ _ _ (sym (after-is-counted .is-counted .ensures) ∙ then1 .if1 .taken)))
 
 returns-2 : tie.Need-returns-2
 unfolding inRange
-returns-2 c = rw (c .word-at2 .ensures) (sym (pick-no _ _ _ (sym (c .before .before .before .before .is-counted .ensures) ∙ c .before .before .before .if1 .left) ∙ pick-yes _ _ _ (sym (c .before .before .has-code .ensures) ∙ c .before .if2 .taken)))
+returns-2 c =
+    let then2 : tie.Then2 = search in
+    let after-has-code : tie.After-has-code = search in
+    let else1 : tie.Else1 = search in
+    let after-is-counted : tie.After-is-counted = search in
+    rw (c .word-at2 .ensures) (sym (pick-no _ _ _ (sym (after-is-counted .is-counted .ensures) ∙ else1 .if1 .left) ∙ pick-yes _ _ _ (sym (after-has-code .has-code .ensures) ∙ then2 .if2 .taken)))
 
 returns-3 : tie.Need-returns-3
 unfolding inRange
-returns-3 c = rw (c .word-at3 .ensures) (sym (pick-no _ _ _ (sym (c .before .before .before .before .before .is-counted .ensures) ∙ c .before .before .before .before .if1 .left) ∙ (pick-no _ _ _ (sym (c .before .before .before .has-code .ensures) ∙ c .before .before .if2 .left) ∙ yes-eq _ 10 _ _ (c .before .if3 .taken))))
+returns-3 c =
+    let then3 : tie.Then3 = search in
+    let else2 : tie.Else2 = search in
+    let after-has-code : tie.After-has-code = search in
+    let else1 : tie.Else1 = search in
+    let after-is-counted : tie.After-is-counted = search in
+    rw (c .word-at3 .ensures) (sym (pick-no _ _ _ (sym (after-is-counted .is-counted .ensures) ∙ else1 .if1 .left) ∙ (pick-no _ _ _ (sym (after-has-code .has-code .ensures) ∙ else2 .if2 .left) ∙ yes-eq _ 10 _ _ (then3 .if3 .taken))))
 
 returns-4 : tie.Need-returns-4
 unfolding inRange
-returns-4 c = sym (pick-no _ _ _ (sym (c .before .before .before .before .is-counted .ensures) ∙ c .before .before .before .if1 .left) ∙ (pick-no _ _ _ (sym (c .before .before .has-code .ensures) ∙ c .before .if2 .left) ∙ no-eq _ 10 _ _ (c .if3 .left)))
+returns-4 c =
+    let else2 : tie.Else2 = search in
+    let after-has-code : tie.After-has-code = search in
+    let else1 : tie.Else1 = search in
+    let after-is-counted : tie.After-is-counted = search in
+    sym (pick-no _ _ _ (sym (after-is-counted .is-counted .ensures) ∙ else1 .if1 .left) ∙ (pick-no _ _ _ (sym (after-has-code .has-code .ensures) ∙ else2 .if2 .left) ∙ no-eq _ 10 _ _ (c .if3 .left)))
 
 pub in-range-spec : {M : Type 1} → statement M
 in-range-spec =

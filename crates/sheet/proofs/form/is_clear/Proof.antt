@@ -19,13 +19,19 @@ loop-holds : tie.Need-loop-holds Inv-loop μ-loop
 loop-holds c = (omega arith, refl)
 
 returns : tie.Need-returns Inv-loop μ-loop
-returns c = sym (sym (c .before .before .before .loop .inv .1) ∙ clear-fails _ (c .before .before .before .loop .i) (omega arith) (c .if1 .taken))
+returns c =
+    let at-loop : tie.At-loop Inv-loop μ-loop = search in
+    sym (sym (at-loop .loop .inv .1) ∙ clear-fails _ (at-loop .loop .i) (omega arith) (c .if1 .taken))
 
 loop-again : tie.Need-loop-again Inv-loop μ-loop
-loop-again c = (omega arith, sym (clear-step _ (c .before .before .before .loop .i) (omega arith) (c .if1 .left)) ∙ c .before .before .before .loop .inv .1)
+loop-again c =
+    let at-loop : tie.At-loop Inv-loop μ-loop = search in
+    (omega arith, sym (clear-step _ (at-loop .loop .i) (omega arith) (c .if1 .left)) ∙ at-loop .loop .inv .1)
 
 returns-2 : tie.Need-returns-2 Inv-loop μ-loop
-returns-2 c = sym (sym (c .before .loop .inv .1) ∙ clear-end _ (c .before .loop .i) (omega arith))
+returns-2 c =
+    let at-loop : tie.At-loop Inv-loop μ-loop = search in
+    sym (sym (at-loop .loop .inv .1) ∙ clear-end _ (at-loop .loop .i) (omega arith))
 
 pub is-clear-spec : {M : Type 1} → statement M
 is-clear-spec =

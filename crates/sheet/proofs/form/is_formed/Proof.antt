@@ -14,27 +14,50 @@ returns-2 : tie.Need-returns-2
 returns-2 c = kind-high _ _ (c .if2 .taken)
 
 returns-3 : tie.Need-returns-3
-returns-3 c = out-of-range _ _ (c .before .before .before .if1 .left) (c .before .before .if2 .left) (sym (c .before .in-range .ensures) ∙ not-true _ (c .if3 .taken))
+returns-3 c =
+    let after-in-range : tie.After-in-range = search in
+    let else2 : tie.Else2 = search in
+    let else1 : tie.Else1 = search in
+    out-of-range _ _ (else1 .if1 .left) (else2 .if2 .left) (sym (after-in-range .in-range .ensures) ∙ not-true _ (c .if3 .taken))
 
 add-used : tie.Need-add-used
 add-used c =
-    let a = c .before .before .before .before .before .before .before .args in
-    record { fits = omega (arith, used-fits (a .kind) (a .arguments .now) (sym (c .before .before .before .in-range .ensures) ∙ not-false _ (c .before .before .if3 .left)), used-sum (a .kind) (a .arguments .now) _ _ (c .before .used-bytes .ensures) (c .counted .ensures)) }
+    let after-used-bytes : tie.After-used-bytes = search in
+    let else3 : tie.Else3 = search in
+    let after-in-range : tie.After-in-range = search in
+    let start : tie.Start = search in
+    let a = start .args in
+    record { fits = omega (arith, used-fits (a .kind) (a .arguments .now) (sym (after-in-range .in-range .ensures) ∙ not-false _ (else3 .if3 .left)), used-sum (a .kind) (a .arguments .now) _ _ (after-used-bytes .used-bytes .ensures) (c .counted .ensures)) }
 
 sub-is-clear : tie.Need-sub-is-clear
 sub-is-clear c =
-    let a = c .before .before .before .before .before .before .before .args in
-    omega (arith, used-fits (a .kind) (a .arguments .now) (sym (c .before .before .before .in-range .ensures) ∙ not-false _ (c .before .before .if3 .left)), used-sum (a .kind) (a .arguments .now) _ _ (c .before .used-bytes .ensures) (c .counted .ensures))
+    let after-used-bytes : tie.After-used-bytes = search in
+    let else3 : tie.Else3 = search in
+    let after-in-range : tie.After-in-range = search in
+    let start : tie.Start = search in
+    let a = start .args in
+    omega (arith, used-fits (a .kind) (a .arguments .now) (sym (after-in-range .in-range .ensures) ∙ not-false _ (else3 .if3 .left)), used-sum (a .kind) (a .arguments .now) _ _ (after-used-bytes .used-bytes .ensures) (c .counted .ensures))
 
 part-is-clear-start : tie.Need-part-is-clear-start
 part-is-clear-start c =
-    let a = c .before .before .before .before .before .before .before .args in
-    omega (arith, used-fits (a .kind) (a .arguments .now) (sym (c .before .before .before .in-range .ensures) ∙ not-false _ (c .before .before .if3 .left)), used-sum (a .kind) (a .arguments .now) _ _ (c .before .used-bytes .ensures) (c .counted .ensures))
+    let after-used-bytes : tie.After-used-bytes = search in
+    let else3 : tie.Else3 = search in
+    let after-in-range : tie.After-in-range = search in
+    let start : tie.Start = search in
+    let a = start .args in
+    omega (arith, used-fits (a .kind) (a .arguments .now) (sym (after-in-range .in-range .ensures) ∙ not-false _ (else3 .if3 .left)), used-sum (a .kind) (a .arguments .now) _ _ (after-used-bytes .used-bytes .ensures) (c .counted .ensures))
 
 returns-4 : tie.Need-returns-4
 returns-4 c =
-    let a = c .before .before .before .before .before .before .before .before .before .args in
-    c .is-clear .ensures ∙ formed-clear _ _ (c .before .before .before .before .before .before .before .if1 .left) (c .before .before .before .before .before .before .if2 .left) _ (used-sum (a .kind) (a .arguments .now) _ _ (c .before .before .before .used-bytes .ensures) (c .before .before .counted .ensures)) (sym (c .before .before .before .before .before .in-range .ensures) ∙ not-false _ (c .before .before .before .before .if3 .left))
+    let after-counted : tie.After-counted = search in
+    let after-used-bytes : tie.After-used-bytes = search in
+    let else3 : tie.Else3 = search in
+    let after-in-range : tie.After-in-range = search in
+    let else2 : tie.Else2 = search in
+    let else1 : tie.Else1 = search in
+    let start : tie.Start = search in
+    let a = start .args in
+    c .is-clear .ensures ∙ formed-clear _ _ (else1 .if1 .left) (else2 .if2 .left) _ (used-sum (a .kind) (a .arguments .now) _ _ (after-used-bytes .used-bytes .ensures) (after-counted .counted .ensures)) (sym (after-in-range .in-range .ensures) ∙ not-false _ (else3 .if3 .left))
 
 pub is-formed-spec : {M : Type 1} → statement M
 is-formed-spec =

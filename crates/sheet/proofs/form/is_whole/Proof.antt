@@ -11,7 +11,9 @@ returns c = rw (lt-leb 4 _ (c .if1 .taken))
 
 returns-2 : tie.Need-returns-2
 unfolding isWhole
-returns-2 c = rw (c .word-at .ensures, le-leb 4 _ (c .before .if1 .left))
+returns-2 c =
+    let else1 : tie.Else1 = search in
+    rw (c .word-at .ensures, le-leb 4 _ (else1 .if1 .left))
 
 pub is-whole-spec : {M : Type 1} → statement M
 is-whole-spec =
