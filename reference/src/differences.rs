@@ -5,7 +5,10 @@
 //! for none), the architecture's name, a sheet as text, and the Rust's answer.
 //! Empty lines and lines that start with `#` say nothing.
 
-use crate::{AARCH64, Answer, Call, X64, X86, added_refusal, read_text, run_calls};
+use crate::{
+    AARCH64, Answer, Call, DEPARTURES, Departure, X64, X86, added_refusal, first_departure,
+    read_text, run_calls,
+};
 
 pub struct Difference {
     pub name: String,
@@ -21,19 +24,29 @@ pub struct Difference {
 impl Difference {
     /// What the Rust answers now. One symbol is there to be named.
     pub fn run(&self) -> Answer {
-        let arch = arch_number(&self.arch).expect("checked when read");
-        run_calls(arch, 1, &self.calls)
+        run_calls(self.arch_number(), 1, &self.calls)
     }
 
     /// Whether the screen of the stored recordings turns this one away by
     /// the number given. Numbers 0, 13 and 18 are not added: there the
-    /// finish amid the calls is what the screen refuses, by 4.
+    /// finish amid the calls is what the screen refuses, by 4. A number that
+    /// the screen does not know is that of a departure.
     pub fn is_screened(&self) -> bool {
-        let arch = arch_number(&self.arch).expect("checked when read");
+        let arch = self.arch_number();
         match (added_refusal(arch, 1, &self.calls), self.number) {
             (Some(4), 0 | 13 | 18) | (None, 0) => true,
+            (None, _) => first_departure(DEPARTURES, arch, &self.calls).is_some(),
             (number, kept) => number == Some(kept),
         }
+    }
+
+    /// Whether this is the line that shows a departure.
+    pub fn shows(&self, departure: &Departure) -> bool {
+        self.name == departure.name && (departure.is_met)(self.arch_number(), &self.calls)
+    }
+
+    fn arch_number(&self) -> u32 {
+        arch_number(&self.arch).expect("checked when read")
     }
 }
 

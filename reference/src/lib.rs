@@ -11,6 +11,7 @@ extern crate alloc;
 mod answers;
 mod cases;
 mod core;
+mod departures;
 mod differences;
 mod error;
 mod random;
@@ -24,6 +25,7 @@ mod x86;
 
 pub use answers::{Entry, Record, Sample, fnv1a, read_list, write_list};
 pub use cases::check_cases;
+pub use departures::{DEPARTURES, Departure, first_departure};
 pub use differences::{Difference, read_differences};
 pub(crate) use error::AsmError;
 pub use error::Error;

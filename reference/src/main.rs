@@ -5,8 +5,8 @@ use std::io::{Read, Write};
 use std::process::ExitCode;
 
 use reference::{
-    Answer, Difference, Sheet, check_cases, read_differences, read_list, read_text, run_calls,
-    run_sheet, samples, write_list, write_sheet, write_text,
+    Answer, DEPARTURES, Difference, Sheet, check_cases, read_differences, read_list, read_text,
+    run_calls, run_sheet, samples, write_list, write_sheet, write_text,
 };
 
 const USAGE: &str = "\
@@ -214,11 +214,7 @@ fn check_differences(folder: &str) -> Done {
     let differences = read_differences(&text)?;
     let hold = |complaint: &str, holds: &dyn Fn(&Difference) -> bool| {
         let failing = differences.iter().filter(|d| !holds(d));
-        let names: Vec<_> = failing.map(|d| d.name.as_str()).collect();
-        match names.is_empty() {
-            true => Ok(()),
-            false => Err(format!("{complaint}: {}", names.join(", "))),
-        }
+        no_names(complaint, failing.map(|d| d.name.as_str()))
     };
     hold("the Rust's answer is not as kept", &|d| {
         d.run().to_string() == d.answer
@@ -229,7 +225,22 @@ fn check_differences(folder: &str) -> Done {
     hold("docs/DIFFERENCES.md does not name", &|d| {
         page.contains(&format!("`{}`", d.name))
     })?;
+    let is_shown = |departure| differences.iter().any(|d| d.shows(departure));
+    let unshown = DEPARTURES.iter().filter(|departure| !is_shown(departure));
+    no_names(
+        "differences.txt has no line of this name that meets the departure",
+        unshown.map(|departure| departure.name),
+    )?;
     print_line(&format!("{} differences are as kept", differences.len()))
+}
+
+/// Fails with a complaint about some names, if there are any.
+fn no_names<'a>(complaint: &str, names: impl Iterator<Item = &'a str>) -> Done {
+    let names: Vec<_> = names.collect();
+    match names.is_empty() {
+        true => Ok(()),
+        false => Err(format!("{complaint}: {}", names.join(", "))),
+    }
 }
 
 /// Recordings by architecture and answer.

@@ -1,7 +1,8 @@
 //! The recordings of the stored list, from fixed seeds.
 //!
 //! No added refusal of document 01 applies to any of them
-//! ([`added_refusal`](crate::added_refusal) is asked about each).
+//! ([`added_refusal`](crate::added_refusal) is asked about each), and those that
+//! meet a departure are left out ([`DEPARTURES`](crate::DEPARTURES)).
 
 mod draft;
 mod fields;
@@ -15,7 +16,7 @@ mod small;
 
 use std::collections::HashSet;
 
-use crate::{Sample, added_refusal};
+use crate::{DEPARTURES, Sample, added_refusal, first_departure};
 pub(crate) use draft::Draft;
 
 /// All recordings, each once, in the order of the list.
@@ -32,8 +33,10 @@ pub fn samples() -> Vec<Sample> {
         mixed::drafts(),
     ];
     let mut seen = HashSet::new();
-    let samples = families.iter().flatten().map(to_sample);
-    samples
+    let drafts = families.iter().flatten();
+    drafts
+        .filter(|draft| first_departure(DEPARTURES, draft.arch, &draft.calls).is_none())
+        .map(to_sample)
         .filter(|sample| seen.insert(sample.clone()))
         .collect()
 }

@@ -3,6 +3,7 @@
 use std::fmt;
 
 use compare::{Boundary, Lent, Model, Ours, Part, Reply};
+use reference::{DEPARTURES, Departure};
 
 use crate::fault::Fault;
 use crate::rust::Rust;
@@ -33,16 +34,33 @@ pub struct Outcome {
     pub finished: bool,
     /// A finish was compared with the Rust's.
     pub compared: bool,
+    /// The departure for which the Rust was left aside.
+    pub departure: Option<&'static str>,
 }
 
 /// Ours and the model, with memory that serves one scenario after the other.
-#[derive(Default)]
 pub struct Runner {
     ours: Ours,
     model: Model,
+    departures: &'static [Departure],
+}
+
+impl Default for Runner {
+    fn default() -> Self {
+        Self::departing(DEPARTURES)
+    }
 }
 
 impl Runner {
+    /// A runner with other departures than this project's.
+    pub fn departing(departures: &'static [Departure]) -> Self {
+        Self {
+            ours: Ours::default(),
+            model: Model::default(),
+            departures,
+        }
+    }
+
     pub fn run(&mut self, scenario: &Scenario) -> Result<Outcome, Disagreement> {
         self.run_with(scenario, None)
     }
@@ -55,7 +73,7 @@ impl Runner {
     ) -> Result<Outcome, Disagreement> {
         let shift = scenario.lend(&mut self.model.lent);
         self.ours.lend(&self.model.lent, shift);
-        let mut rust = Rust::new(scenario);
+        let mut rust = Rust::new(scenario, self.departures);
         let mut outcome = Outcome::default();
         let start = |boundary: &mut dyn Boundary| boundary.start(scenario.arch, scenario.symbols);
         let replies = (start(&mut self.ours), start(&mut self.model));
@@ -81,6 +99,7 @@ impl Runner {
             outcome.finished |= matches!(step, Step::Finish) && reply.refusal == 0;
         }
         outcome.compared = rust.compared;
+        outcome.departure = rust.departure;
         Ok(outcome)
     }
 

@@ -1,7 +1,9 @@
 //! The Rust reference, driven beside ours as long as it must agree.
 
 use compare::{AARCH64, Lent, Part, Reply, X64, X86};
-use reference::{Call, Error, Finished, Recording, Sheet, added_refusal, quietly};
+use reference::{
+    Call, Departure, Error, Finished, Recording, Sheet, added_refusal, first_departure, quietly,
+};
 
 use crate::rebuild;
 use crate::scenario::{Scenario, Step};
@@ -18,22 +20,38 @@ pub struct Rust<'a> {
     accepted: Vec<Call<'a>>,
     /// Tables were changed by hand.
     by_hand: bool,
+    departures: &'static [Departure],
+    /// The first departure that was met.
+    pub departure: Option<&'static str>,
     /// A finish was compared.
     pub compared: bool,
 }
 
 impl<'a> Rust<'a> {
-    pub fn new(scenario: &Scenario) -> Self {
+    /// Recordings that meet one of the departures are not compared.
+    pub fn new(scenario: &Scenario, departures: &'static [Departure]) -> Self {
         let Scenario { arch, symbols, .. } = *scenario;
-        let recording = can_start(arch, symbols).then(|| Recording::new(arch, symbols));
-        Self {
+        let mut rust = Self {
             arch,
             symbols,
-            recording: recording.and_then(Result::ok),
+            recording: None,
             accepted: Vec::new(),
             by_hand: false,
+            departures,
+            departure: None,
             compared: false,
+        };
+        if can_start(arch, symbols) && !rust.departs() {
+            rust.recording = Recording::new(arch, symbols).ok();
         }
+        rust
+    }
+
+    /// Whether the recording meets a departure, which is then noted.
+    fn departs(&mut self) -> bool {
+        let met = first_departure(self.departures, self.arch, &self.accepted);
+        self.departure = self.departure.or(met);
+        met.is_some()
     }
 
     /// Before a finish of tables made by hand: brings the Rust to the same
@@ -45,15 +63,17 @@ impl<'a> Rust<'a> {
         let Some(calls) = rebuild::calls(lent) else {
             return;
         };
+        self.accepted = calls;
         [self.arch, self.symbols] = lent.words(Part::Counts, 0);
         if !can_start(self.arch, self.symbols)
-            || added_refusal(self.arch, self.symbols, &calls).is_some()
+            || added_refusal(self.arch, self.symbols, &self.accepted).is_some()
+            || self.departs()
         {
             return;
         }
         let made = quietly(|| {
             let mut recording = Recording::new(self.arch, self.symbols)?;
-            calls
+            self.accepted
                 .iter()
                 .try_for_each(|call| recording.call(call).map(drop))?;
             Ok(recording)
@@ -63,7 +83,6 @@ impl<'a> Rust<'a> {
             .and_then(|made: Result<_, Error>| made)
             .ok()
             .filter(|recording| recording.code() == code);
-        self.accepted = calls;
     }
 
     /// Makes a step that ours, and the model, answered so; says what the Rust
@@ -94,29 +113,37 @@ impl<'a> Rust<'a> {
     /// Calls of which as many as the reply's value are accepted, and the next
     /// is refused if the reply is a refusal.
     fn calls(&mut self, calls: &[Call<'a>], reply: Reply) -> Result<(), String> {
-        let Some(recording) = &mut self.recording else {
+        let Some(mut recording) = self.recording.take() else {
             return Ok(());
         };
+        let refusal = reply.refusal;
         let (made, others) = calls.split_at(reply.value as usize);
+        let refused = others.first().filter(|_| refusal != 0);
+        let accepted = self.accepted.len() + made.len();
+        self.accepted.extend(made.iter().chain(refused).cloned());
+        let departs = self.departs();
+        self.accepted.truncate(accepted);
+        if departs {
+            return Ok(());
+        }
         for (index, call) in made.iter().enumerate() {
             let answer = quietly(|| recording.call(call)).and_then(|answer| answer);
             if let Err(error) = answer {
                 return Err(format!("the Rust answers {error} to call {index}"));
             }
         }
-        self.accepted.extend_from_slice(made);
-        let (Some(call), refusal @ 1..) = (others.first(), reply.refusal) else {
-            return Ok(());
-        };
-        if is_added(refusal, call) {
-            self.recording = None;
-            return Ok(());
+        if let Some(call) = refused {
+            if is_added(refusal, call) {
+                return Ok(());
+            }
+            match quietly(|| recording.call(call)).and_then(|answer| answer) {
+                Err(error) if Some(error) == error_of(refusal) => {}
+                Err(error) => return Err(format!("the Rust answers {error}, not {refusal}")),
+                Ok(_) => return Err(format!("the Rust accepts what {refusal} refuses")),
+            }
         }
-        match quietly(|| recording.call(call)).and_then(|answer| answer) {
-            Err(error) if Some(error) == error_of(refusal) => Ok(()),
-            Err(error) => Err(format!("the Rust answers {error}, not {refusal}")),
-            Ok(_) => Err(format!("the Rust accepts what {refusal} refuses")),
-        }
+        self.recording = Some(recording);
+        Ok(())
     }
 
     fn finish(&mut self, reply: Reply, lent: &Lent) -> Result<(), String> {

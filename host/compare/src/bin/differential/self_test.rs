@@ -1,16 +1,28 @@
-//! Shows that the comparison can fail: every fault put into ours is found.
+//! Shows that the comparison can fail: every fault put into ours is found,
+//! against the model even where a departure leaves the Rust aside.
 
-use compare::{Lent, Part};
-use reference::run_calls;
+use compare::{Lent, Part, Reply};
+use reference::{Call, Departure, run_calls};
 
 use crate::families::{self, Family};
 use crate::fault::Fault;
 use crate::runner::Runner;
-use crate::rust::compare_finished;
+use crate::rust::{Rust, compare_finished};
 use crate::scenario::{Scenario, Step};
+use crate::summary::Tally;
 
 /// Inputs of each family that each fault is put into.
 const INPUTS: u64 = 40;
+
+/// A departure of this test alone, which some recordings of each family meet.
+const DEPARTURES: &[Departure] = &[Departure {
+    name: "alignments",
+    is_met: |_, calls| has_alignment(calls),
+}];
+
+fn has_alignment(calls: &[Call<'_>]) -> bool {
+    calls.iter().any(|call| matches!(call, Call::Align(_)))
+}
 
 /// How many faults were put in, and which of them were not found.
 #[derive(Default)]
@@ -37,6 +49,7 @@ pub fn run() -> Findings {
         if family.name != "limits" {
             against_model(&family, &mut runner, &mut findings);
             against_rust(&family, &mut runner, &mut findings);
+            with_departures(&family, &mut runner, &mut findings);
         }
     }
     findings
@@ -65,19 +78,27 @@ fn has_effect(fault: Fault, scenario: &Scenario, step: usize) -> bool {
     }
 }
 
+/// Inputs of one sheet and a finish, all of it accepted and compared with the
+/// Rust, and what they leave in lent memory.
+fn finished_inputs(
+    family: &Family,
+    runner: &mut Runner,
+) -> impl Iterator<Item = (u64, Scenario, Lent)> {
+    (0..INPUTS).filter_map(|index| {
+        let scenario = family.scenario(0, index);
+        let is_sheet = matches!(scenario.steps[..], [Step::Sheet(_), Step::Finish]);
+        let outcome = is_sheet.then(|| runner.run(&scenario).ok())??;
+        let is_accepted = outcome.refusal == 0 && outcome.compared;
+        is_accepted.then(|| (index, scenario, runner.lent().clone()))
+    })
+}
+
 /// Changes what ours left before it is compared with the Rust's answer.
 fn against_rust(family: &Family, runner: &mut Runner, findings: &mut Findings) {
-    for index in 0..INPUTS {
-        let scenario = family.scenario(0, index);
-        let [Step::Sheet(calls), Step::Finish] = &scenario.steps[..] else {
-            continue;
-        };
-        let compared = runner.run(&scenario).is_ok_and(|outcome| outcome.compared);
-        let answer = run_calls(scenario.arch, scenario.symbols, calls);
-        let (true, Some(finished)) = (compared, answer.finished) else {
-            continue;
-        };
-        let mut lent = runner.lent().clone();
+    for (index, scenario, mut lent) in finished_inputs(family, runner) {
+        let calls = scenario.steps[0].calls();
+        let answer = run_calls(scenario.arch, scenario.symbols, &calls);
+        let finished = answer.finished.expect("it agrees with ours");
         for (part, at) in compared_bytes(&lent) {
             lent[part][at] ^= 1;
             let found = compare_finished(&finished, &lent).is_err();
@@ -87,6 +108,47 @@ fn against_rust(family: &Family, runner: &mut Runner, findings: &mut Findings) {
             lent[part][at] ^= 1;
         }
     }
+}
+
+/// A recording that meets a departure is held against the model, not against
+/// the Rust, and counted under its name; any other is held against both.
+fn with_departures(family: &Family, runner: &mut Runner, findings: &mut Findings) {
+    let mut departing = Runner::departing(DEPARTURES);
+    let mut tally = Tally::new(family.name);
+    let mut met = 0;
+    for (index, scenario, mut lent) in finished_inputs(family, runner) {
+        let departs = has_alignment(&scenario.steps[0].calls());
+        met += u64::from(departs);
+        let mut add = |holds, what| {
+            findings.add(holds, || format!("{} {index}: {what}", family.name));
+        };
+
+        let outcome = departing.run(&scenario);
+        tally.add(&outcome.expect("it agrees without departures, too"));
+
+        let fault = Some((1, Fault::Content(Part::Record)));
+        let found = departing.run_with(&scenario, fault).is_err();
+        add(found, "record, held against the model");
+
+        let length = lent.word(Part::Record, 0, 1);
+        lent.set_word(Part::Record, 0, 1, length ^ 1);
+        let found = is_held_against_rust(&scenario, &lent);
+        add(found != departs, "length, held against the Rust");
+    }
+    let counted = tally.departed.values().sum::<u64>();
+    findings.add(counted == met, || {
+        format!("{}: {counted} departures counted, not {met}", family.name)
+    });
+}
+
+/// Whether the Rust, beside accepted calls and a finish, differs from what is
+/// left in lent memory.
+fn is_held_against_rust(scenario: &Scenario, lent: &Lent) -> bool {
+    let mut rust = Rust::new(scenario, DEPARTURES);
+    scenario.steps.iter().any(|step| {
+        let reply = Reply::new(0, step.calls().len() as u32);
+        rust.step(step, reply, lent).is_err()
+    })
 }
 
 /// Places in what a finish left that are compared with the Rust: words of the

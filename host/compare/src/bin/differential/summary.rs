@@ -1,6 +1,9 @@
 //! What was run, counted.
 
+use std::collections::BTreeMap;
 use std::fmt;
+
+use reference::DEPARTURES;
 
 use crate::runner::Outcome;
 
@@ -16,6 +19,8 @@ pub struct Tally {
     pub disagreements: u64,
     /// First refusals by number.
     refused: [u64; LAST_REFUSAL + 1],
+    /// Recordings for which the Rust was left aside, by departure.
+    pub departed: BTreeMap<&'static str, u64>,
 }
 
 impl Tally {
@@ -27,6 +32,7 @@ impl Tally {
             compared: 0,
             disagreements: 0,
             refused: [0; LAST_REFUSAL + 1],
+            departed: BTreeMap::new(),
         }
     }
 
@@ -35,6 +41,9 @@ impl Tally {
         self.finished += u64::from(outcome.finished);
         self.compared += u64::from(outcome.compared);
         self.refused[outcome.refusal as usize] += 1;
+        if let Some(name) = outcome.departure {
+            *self.departed.entry(name).or_default() += 1;
+        }
     }
 
     pub fn add_disagreement(&mut self) {
@@ -52,6 +61,7 @@ impl fmt::Display for Tally {
             compared,
             disagreements,
             refused,
+            ..
         } = self;
         write!(
             f,
@@ -73,6 +83,13 @@ pub fn print(tallies: &[Tally]) {
     );
     for tally in tallies {
         println!("{tally}");
+    }
+    for departure in DEPARTURES {
+        let counts = tallies
+            .iter()
+            .filter_map(|tally| tally.departed.get(departure.name));
+        let count: u64 = counts.sum();
+        println!("{count} recordings without the Rust: {}", departure.name);
     }
     let recordings: u64 = tallies.iter().map(|tally| tally.recordings).sum();
     let disagreements: u64 = tallies.iter().map(|tally| tally.disagreements).sum();
