@@ -2,7 +2,7 @@
 
 use std::fmt;
 
-use crate::call::Call;
+use crate::call::sheet_of;
 use crate::explain::{explain_call, explain_finish};
 use crate::ffi::Segment;
 use crate::finalized::CodeBufferFinalized;
@@ -13,8 +13,8 @@ use crate::sheet::Sheet;
 use crate::tables::{Room, Tables};
 use crate::verified::{self, Record};
 use crate::{
-    Arch, CodeOffset, Condition, Error, LabelUse, MOST_CODE, MOST_CONSTANT, MOST_ENTRIES, Place,
-    Reloc, UNBOUND,
+    Arch, Call, CodeOffset, Condition, Error, LabelUse, MOST_CODE, MOST_CONSTANT, MOST_ENTRIES,
+    Place, Reloc, UNBOUND,
 };
 
 /// A buffer of code to be produced: bytes, labels, fields, alignments, constants, relocations and jumps, recorded call by call and then finished.
@@ -310,7 +310,7 @@ impl CodeBuffer {
                 verified::add_reloc(&mut self.tables, *offset, *kind, *target, *addend)
             }
             other => {
-                let sheet = other.sheet().expect("its argument is four words");
+                let sheet = sheet_of(other).expect("its argument is four words");
                 let room = Room::of_sheet(self.arch(), &sheet);
                 self.tables.make_room(&room);
                 verified::run_sheet(&mut self.tables, &sheet).0

@@ -30,7 +30,6 @@ mod explain;
 #[allow(missing_docs, unsafe_code)]
 pub mod ffi;
 mod finalized;
-mod kinds;
 mod listing;
 mod recording;
 mod relax;
@@ -41,11 +40,9 @@ mod text;
 mod verified;
 
 pub use buffer::CodeBuffer;
-pub use call::Call;
 pub use error::{Entry, Error, Place};
 pub use ffi::Segment;
 pub use finalized::CodeBufferFinalized;
-pub use kinds::{Arch, Condition, LabelUse, Reach, Reloc};
 pub use listing::{Extent, listing};
 pub use recording::{
     AsmConstant, AsmFixup, AsmReloc, Constant, Label, LabelRef, LayoutEvent, Pooled,
@@ -53,6 +50,7 @@ pub use recording::{
 };
 pub use rounds::{Lengthened, Mismatch, Round, Rounds};
 pub use sheet::{Sheet, Unwritable, symbols_named, write_sheet};
+pub use sheet_text::{Arch, Call, Condition, LabelUse, Reach, Reloc};
 pub use text::{Script, TextError, read_text};
 
 /// Offset in bytes from the beginning of the code.

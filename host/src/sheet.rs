@@ -3,10 +3,12 @@
 use std::fmt;
 use std::sync::Arc;
 
-use crate::call::{CALL_NAMES, Call, MOST_BYTES, bytes_argument, known_code, known_kind};
+use sheet_text::CALL_NAMES;
+
+use crate::call::{MOST_BYTES, argument, bytes_argument, known_code, known_kind};
 use crate::error::counted;
 use crate::tables::Room;
-use crate::{Arch, RelocTarget};
+use crate::{Arch, Call, RelocTarget};
 
 /// A call that no sheet can carry.
 #[derive(Clone, Debug, PartialEq, Eq)]
@@ -46,7 +48,7 @@ pub fn write_sheet(calls: &[Call]) -> Result<Vec<u8>, Unwritable> {
             }
             continue;
         }
-        let argument = call.argument().ok_or_else(|| unwritable(index, call))?;
+        let argument = argument(call).ok_or_else(|| unwritable(index, call))?;
         push(call.kind(), argument);
     }
     let count = u32::try_from(kinds.len()).expect("calls in memory are below 2^32");
@@ -267,7 +269,7 @@ pub fn symbols_named<'a>(calls: impl IntoIterator<Item = &'a Call>) -> u32 {
 #[cfg(test)]
 mod tests {
     use super::*;
-    use crate::call::words_argument;
+    use crate::call::{sheet_of, words_argument};
 
     fn one_of_each() -> Vec<Call> {
         vec![
@@ -317,7 +319,7 @@ mod tests {
     fn a_one_call_sheet_is_a_sheet() {
         for call in one_of_each() {
             let bytes = write_sheet(std::slice::from_ref(&call)).unwrap();
-            assert_eq!(bytes, call.sheet().unwrap());
+            assert_eq!(bytes, sheet_of(&call).unwrap());
         }
     }
 

@@ -72,7 +72,7 @@ fn read_line(line: &str) -> Result<Difference, String> {
         arch: arch.into(),
         sheet: sheet.into(),
         answer: answer.trim().into(),
-        calls: read_text(sheet)?,
+        calls: read_text(sheet).map_err(|error| error.sentence)?.calls,
     })
 }
 

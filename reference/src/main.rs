@@ -5,8 +5,8 @@ use std::io::{Read, Write};
 use std::process::ExitCode;
 
 use reference::{
-    Answer, DEPARTURES, Difference, Sheet, check_cases, read_differences, read_list, read_text,
-    run_calls, run_sheet, samples, write_list, write_sheet, write_text,
+    Answer, DEPARTURES, Difference, Script, Sheet, X64, check_cases, read_differences, read_list,
+    read_text, run_calls, run_sheet, samples, write_list, write_sheet, write_text,
 };
 
 const USAGE: &str = "\
@@ -17,8 +17,9 @@ reference answers                             write the list of answers to stand
 reference show FILE                           print a list of answers
 reference differences [FOLDER]                print what the Rust answers to differences.txt
 reference check [FOLDER]                      compare with what FOLDER keeps
-FILE may be -; N is 1 (X86), 2 (X64, the default) or 6 (AArch64); FOLDER is
-the one of answers.bin and differences.txt, by default reference.";
+FILE may be -; N is 1 (X86), 2 (X64, the default) or 6 (AArch64), and goes
+before what a text says; FOLDER is the one of answers.bin and differences.txt,
+by default reference.";
 
 fn main() -> ExitCode {
     let arguments: Vec<String> = std::env::args().skip(1).collect();
@@ -47,25 +48,25 @@ fn main() -> ExitCode {
 type Done = Result<(), String>;
 
 struct Options<'a> {
-    arch: u32,
-    symbols: u32,
+    arch: Option<u32>,
+    symbols: Option<u32>,
     file: &'a str,
 }
 
 fn options<'a>(mut words: &[&'a str]) -> Result<Options<'a>, String> {
     let mut options = Options {
-        arch: reference::X64,
-        symbols: 0,
+        arch: None,
+        symbols: None,
         file: "-",
     };
     loop {
         match words {
             ["--arch", number, rest @ ..] => {
-                options.arch = number.parse().map_err(|_| USAGE)?;
+                options.arch = Some(number.parse().map_err(|_| USAGE)?);
                 words = rest;
             }
             ["--symbols", number, rest @ ..] => {
-                options.symbols = number.parse().map_err(|_| USAGE)?;
+                options.symbols = Some(number.parse().map_err(|_| USAGE)?);
                 words = rest;
             }
             [file] => {
@@ -93,6 +94,10 @@ fn read_string(file: &str) -> Result<String, String> {
     String::from_utf8(read(file)?).map_err(|_| format!("{file}: not text"))
 }
 
+fn read_script(file: &str) -> Result<Script, String> {
+    read_text(&read_string(file)?).map_err(|error| format!("{file}: {error}"))
+}
+
 fn print_bytes(bytes: &[u8]) -> Done {
     std::io::stdout()
         .write_all(bytes)
@@ -108,18 +113,21 @@ fn print_line(line: &str) -> Done {
 fn run(words: &[&str]) -> Done {
     let options = options(words)?;
     let sheet = read(options.file)?;
-    print_answer(&run_sheet(options.arch, options.symbols, &sheet))
+    let arch = options.arch.unwrap_or(X64);
+    print_answer(&run_sheet(arch, options.symbols.unwrap_or(0), &sheet))
 }
 
 fn text(words: &[&str]) -> Done {
     let options = options(words)?;
-    let calls = read_text(&read_string(options.file)?)?;
-    print_answer(&run_calls(options.arch, options.symbols, &calls))
+    let script = read_script(options.file)?;
+    let named = script.arch.map(|arch| arch.number());
+    let arch = options.arch.or(named).unwrap_or(X64);
+    let symbols = options.symbols.or(script.symbols).unwrap_or(0);
+    print_answer(&run_calls(arch, symbols, &script.calls))
 }
 
 fn sheet(file: &str) -> Done {
-    let calls = read_text(&read_string(file)?)?;
-    let sheet = write_sheet(&calls).ok_or("a call does not fit a sheet")?;
+    let sheet = write_sheet(&read_script(file)?.calls).ok_or("a call does not fit a sheet")?;
     print_bytes(&sheet)
 }
 

@@ -1,174 +1,88 @@
-//! The readable form of sheets.
-//!
-//! Calls are separated by `;` or a line's end, `#` starts a comment. Numbers
-//! are decimal, or hexadecimal after 0x; bytes are hexadecimal.
-//!
-//! ```text
-//! n                               new label
-//! l LABEL                         bind
-//! b BYTES                         bytes
-//! z COUNT                         zeros
-//! a MULTIPLE                      align
-//! u OFFSET LABEL CODE             use
-//! r OFFSET LABEL CODE ADDEND      ref
-//! j START LENGTH LABEL CONDITION  jump
-//! c BYTES                         constant
-//! k CONSTANT                      constant's label
-//! o OFFSET KIND TARGET ADDEND     relocation, of symbol sN or label lN
-//! f                               finish; its answer is dropped
-//! COUNT ( CALLS )                 the calls, COUNT times
-//! ```
-//!
-//! Bytes and zeros become calls of at most 12 bytes each.
+//! Sheets as text: read by the reader that the host has too, and written in its
+//! short words. host/README.md has the form. Here `f` is one more call, and bytes
+//! and zeros become calls of at most 12 bytes each, so that a sheet can hold them.
 
 use std::borrow::Cow;
 use std::fmt::Write;
 
+use sheet_text::{Call as Read, TextCall};
+
 use crate::sheet::SHEET_BYTES;
 use crate::{Call, LABEL_TARGET};
 
-/// Reads calls, or says what is wrong with the text.
-pub fn read_text(text: &str) -> Result<Vec<Call<'static>>, String> {
-    let mut reader = Reader {
-        tokens: tokens(text),
-        at: 0,
-    };
-    let calls = reader.calls()?;
-    match reader.next() {
-        None => Ok(calls),
-        Some(token) => Err(format!("'{token}' is out of place")),
-    }
+pub use sheet_text::TextError;
+
+/// What a text says.
+pub type Script = sheet_text::Script<Call<'static>>;
+
+/// Reads a text, or says what is wrong with it.
+pub fn read_text(text: &str) -> Result<Script, TextError> {
+    sheet_text::read_text(text, |call, calls| {
+        match call {
+            TextCall::Call(call) => append_call(call, calls),
+            TextCall::Zeros(count) => append_zeros(count as usize, calls),
+            TextCall::Finish => calls.push(Call::Finish),
+        }
+        Ok(())
+    })
 }
 
-fn tokens(text: &str) -> Vec<String> {
-    let mut tokens = Vec::new();
-    for line in text.lines() {
-        let line = line.split('#').next().unwrap_or_default();
-        let mut spaced = String::with_capacity(line.len() + 2);
-        for c in line.chars() {
-            match c {
-                ';' | '(' | ')' => {
-                    let _ = write!(spaced, " {c} ");
-                }
-                c => spaced.push(c),
-            }
-        }
-        tokens.extend(spaced.split_whitespace().map(String::from));
-        tokens.push(";".into());
-    }
-    tokens
-}
-
-struct Reader {
-    tokens: Vec<String>,
-    at: usize,
-}
-
-impl Reader {
-    fn peek(&self) -> Option<&str> {
-        self.tokens.get(self.at).map(String::as_str)
-    }
-
-    fn next(&mut self) -> Option<String> {
-        let token = self.tokens.get(self.at).cloned();
-        self.at += 1;
-        token
-    }
-
-    /// The rest of the call at hand.
-    fn words(&mut self) -> Vec<String> {
-        let mut words = Vec::new();
-        while let Some(token) = self.peek() {
-            if matches!(token, ";" | "(" | ")") {
-                break;
-            }
-            words.push(token.into());
-            self.at += 1;
-        }
-        words
-    }
-
-    fn calls(&mut self) -> Result<Vec<Call<'static>>, String> {
-        let mut calls = Vec::new();
-        loop {
-            match self.peek() {
-                None | Some(")") => return Ok(calls),
-                Some(";") => self.at += 1,
-                Some(token) if token.starts_with(|c: char| c.is_ascii_digit()) => {
-                    let group = self.group()?;
-                    calls.extend(group);
-                }
-                Some(_) => {
-                    let words = self.words();
-                    let words: Vec<&str> = words.iter().map(String::as_str).collect();
-                    push_call(&mut calls, &words)
-                        .ok_or_else(|| format!("'{}' is no call", words.join(" ")))?;
-                }
-            }
-        }
-    }
-
-    fn group(&mut self) -> Result<Vec<Call<'static>>, String> {
-        let count = self.next().and_then(|token| number(&token));
-        let count = count.ok_or("a group's count is no number")?;
-        if self.next().as_deref() != Some("(") {
-            return Err("a group's count is not followed by '('".into());
-        }
-        let calls = self.calls()?;
-        if self.next().as_deref() != Some(")") {
-            return Err("a group is not closed".into());
-        }
-        Ok((0..count).flat_map(|_| calls.iter().cloned()).collect())
-    }
-}
-
-fn push_call(calls: &mut Vec<Call<'static>>, words: &[&str]) -> Option<()> {
-    let call = match words {
-        ["b", hex @ ..] => {
-            push_bytes(calls, &bytes(hex)?);
-            return Some(());
-        }
-        ["z", count] => {
-            push_zeros(calls, number(count)?);
-            return Some(());
-        }
-        ["n"] => Call::NewLabel,
-        ["l", label] => Call::Bind(number(label)?),
-        ["a", multiple] => Call::Align(number(multiple)?),
-        ["u", offset, label, code] => Call::Use {
-            offset: number(offset)?,
-            label: number(label)?,
-            code: number(code)?,
+fn append_call(read: Read, calls: &mut Vec<Call<'static>>) {
+    let call = match read {
+        Read::Bytes(bytes) => return append_bytes(&bytes, calls),
+        Read::NewLabel => Call::NewLabel,
+        Read::Bind(label) => Call::Bind(label),
+        Read::Align(multiple) => Call::Align(multiple),
+        Read::Use {
+            offset,
+            label,
+            code,
+        } => Call::Use {
+            offset,
+            label,
+            code,
         },
-        ["r", offset, label, code, addend] => Call::Ref {
-            offset: number(offset)?,
-            label: number(label)?,
-            code: number(code)?,
-            addend: addend.parse().ok()?,
+        Read::Ref {
+            offset,
+            label,
+            code,
+            addend,
+        } => Call::Ref {
+            offset,
+            label,
+            code,
+            addend,
         },
-        ["j", start, length, label, condition] => Call::Jump {
-            start: number(start)?,
-            length: number(length)?,
-            label: number(label)?,
-            condition: number(condition)?,
+        Read::Jump {
+            start,
+            length,
+            label,
+            condition,
+        } => Call::Jump {
+            start,
+            length,
+            label,
+            condition,
         },
-        ["c", hex @ ..] => Call::Constant(Cow::Owned(bytes(hex)?)),
-        ["k", constant] => Call::ConstantLabel(number(constant)?),
-        ["o", offset, kind, target, addend] => Call::Relocation {
-            offset: number(offset)?,
-            kind: number(kind)?,
-            target: relocation_target(target)?,
-            addend: addend.parse().ok()?,
+        Read::Constant(bytes) => Call::Constant(Cow::Owned(bytes.to_vec())),
+        Read::ConstantLabel(constant) => Call::ConstantLabel(constant),
+        Read::Relocation {
+            offset,
+            kind,
+            target,
+            addend,
+        } => Call::Relocation {
+            offset,
+            kind,
+            target,
+            addend,
         },
-        ["f"] => Call::Finish,
-        _ => return None,
     };
     calls.push(call);
-    Some(())
 }
 
 /// One call at least, so that `b` alone is a call of no bytes.
-fn push_bytes(calls: &mut Vec<Call<'static>>, bytes: &[u8]) {
+fn append_bytes(bytes: &[u8], calls: &mut Vec<Call<'static>>) {
     let (first, rest) = bytes.split_at(bytes.len().min(SHEET_BYTES));
     calls.push(Call::Bytes(Cow::Owned(first.to_vec())));
     for part in rest.chunks(SHEET_BYTES) {
@@ -176,39 +90,15 @@ fn push_bytes(calls: &mut Vec<Call<'static>>, bytes: &[u8]) {
     }
 }
 
-fn push_zeros(calls: &mut Vec<Call<'static>>, count: u32) {
+fn append_zeros(count: usize, calls: &mut Vec<Call<'static>>) {
     const ZEROS: [u8; SHEET_BYTES] = [0; SHEET_BYTES];
-    let mut left = count as usize;
-    while left > 0 {
-        let part = left.min(SHEET_BYTES);
-        calls.push(Call::Bytes(Cow::Borrowed(&ZEROS[..part])));
-        left -= part;
+    for _ in 0..count / SHEET_BYTES {
+        calls.push(Call::Bytes(Cow::Borrowed(&ZEROS)));
     }
-}
-
-fn number(word: &str) -> Option<u32> {
-    match word.strip_prefix("0x") {
-        Some(hex) => u32::from_str_radix(hex, 16).ok(),
-        None => word.parse().ok(),
+    let rest = count % SHEET_BYTES;
+    if rest > 0 {
+        calls.push(Call::Bytes(Cow::Borrowed(&ZEROS[..rest])));
     }
-}
-
-fn relocation_target(word: &str) -> Option<u32> {
-    match word.strip_prefix('l') {
-        Some(label) => number(label)?.checked_add(LABEL_TARGET),
-        None => number(word.strip_prefix('s')?),
-    }
-}
-
-fn bytes(words: &[&str]) -> Option<Vec<u8>> {
-    let digits = words.concat();
-    if !digits.is_ascii() || digits.len() % 2 != 0 {
-        return None;
-    }
-    (0..digits.len())
-        .step_by(2)
-        .map(|at| u8::from_str_radix(&digits[at..at + 2], 16).ok())
-        .collect()
 }
 
 /// Writes calls, one after the other with `; ` between; runs of zeros are

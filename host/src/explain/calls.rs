@@ -1,17 +1,16 @@
 //! Refused recording calls.
 
 use super::{NO_REASON, named_event};
-use crate::call::Call;
+use crate::call::broken_form;
 use crate::error::counted;
-use crate::kinds::{Condition, LabelUse, Reloc};
 use crate::recording::{Label, RelocTarget};
 use crate::tables::Tables;
-use crate::{MOST_CONSTANT, MOST_ENTRIES};
+use crate::{Call, Condition, LabelUse, MOST_CONSTANT, MOST_ENTRIES, Reloc};
 
 /// Why a recording call was turned down.
 pub(crate) fn explain_call(tables: &Tables, call: &Call, number: u32) -> String {
     let sentence = match number {
-        1 => call.broken_form(),
+        1 => broken_form(call),
         3 => Some("the call was lent more than a limit".into()),
         4 => Some("the recording has finished and takes no more calls".into()),
         5 => unfit_alignment(call),

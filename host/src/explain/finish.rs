@@ -3,10 +3,9 @@
 use super::{NO_REASON, named_event};
 use crate::error::counted;
 use crate::ffi::Segment;
-use crate::kinds::{LabelUse, Reach};
 use crate::recording::{AsmFixup, Label, LabelRef, LayoutEvent, Pooled, Recording, RelocTarget};
 use crate::relax::map;
-use crate::{CodeOffset, Entry, UNBOUND};
+use crate::{CodeOffset, Entry, LabelUse, Reach, UNBOUND};
 
 /// Why finish was turned down, and the entry that it was turned down for. `segments` is what finish left there.
 pub(crate) fn explain_finish(

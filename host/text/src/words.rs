@@ -2,17 +2,20 @@
 
 use std::sync::Arc;
 
-use crate::{Arch, Condition, Label, LabelUse, Reloc, RelocTarget, Sym};
+use crate::{Arch, Condition, LabelUse, Reloc};
 
-pub(super) fn architecture(word: &str) -> Result<Arch, String> {
+/// What is added to a label's number where it is the target of a relocation. Symbols and labels have numbers below it.
+const LABEL_TARGET: u32 = 1 << 31;
+
+pub(crate) fn architecture(word: &str) -> Result<Arch, String> {
     Arch::from_name(word).ok_or_else(|| format!("'{word}' is none of x86, x64, aarch64"))
 }
 
-pub(super) fn starts_number(word: &str) -> bool {
+pub(crate) fn starts_number(word: &str) -> bool {
     word.starts_with(|c: char| c.is_ascii_digit())
 }
 
-pub(super) fn number(word: &str) -> Result<u32, String> {
+pub(crate) fn number(word: &str) -> Result<u32, String> {
     let wide = unsigned(word)?;
     u32::try_from(wide).map_err(|_| format!("{word} is above 4294967295"))
 }
@@ -28,7 +31,7 @@ fn unsigned(word: &str) -> Result<u64, String> {
     u64::from_str_radix(digits, radix).map_err(|_| format!("{word} is too large"))
 }
 
-pub(super) fn signed(word: &str) -> Result<i64, String> {
+pub(crate) fn signed(word: &str) -> Result<i64, String> {
     let too_large = || format!("{word} passes 64 bits");
     match word.strip_prefix('-') {
         Some(rest) => 0i64
@@ -39,7 +42,7 @@ pub(super) fn signed(word: &str) -> Result<i64, String> {
 }
 
 /// A number passes as it stands: whether there is such a code is for the verified library to say.
-pub(super) fn field_code(word: &str) -> Result<u32, String> {
+pub(crate) fn field_code(word: &str) -> Result<u32, String> {
     if starts_number(word) {
         return number(word);
     }
@@ -48,7 +51,7 @@ pub(super) fn field_code(word: &str) -> Result<u32, String> {
         .ok_or_else(|| format!("'{word}' is no code: write 0 to 16, or a name such as X86JmpRel32"))
 }
 
-pub(super) fn relocation_kind(word: &str) -> Result<u32, String> {
+pub(crate) fn relocation_kind(word: &str) -> Result<u32, String> {
     if starts_number(word) {
         return number(word);
     }
@@ -57,7 +60,7 @@ pub(super) fn relocation_kind(word: &str) -> Result<u32, String> {
         .ok_or_else(|| format!("'{word}' is no kind: write 0 to 27, or a name such as X86PCRel4"))
 }
 
-pub(super) fn condition(word: &str) -> Result<u32, String> {
+pub(crate) fn condition(word: &str) -> Result<u32, String> {
     if starts_number(word) {
         return number(word);
     }
@@ -72,26 +75,25 @@ pub(super) fn condition(word: &str) -> Result<u32, String> {
         })
 }
 
-pub(super) fn relocation_target(word: &str) -> Result<u32, String> {
-    let target = match word.split_at_checked(1) {
-        Some(("s", id)) => RelocTarget::Sym(Sym::from_id(number(id)?)),
-        Some(("l", id)) => RelocTarget::Label(Label::from_id(number(id)?)),
+pub(crate) fn relocation_target(word: &str) -> Result<u32, String> {
+    let (first, id) = match word.split_at_checked(1) {
+        Some(("s", id)) => (0, number(id)?),
+        Some(("l", id)) => (LABEL_TARGET, number(id)?),
         _ => {
             return Err(format!(
                 "'{word}' is no target: write s and a symbol's number, or l and a label's"
             ));
         }
     };
-    let named = target.to_word();
-    if RelocTarget::from_word(named) != target {
+    if id >= LABEL_TARGET {
         return Err(format!(
-            "'{word}' can't be named: targets have numbers below 2147483648"
+            "'{word}' can't be named: targets have numbers below {LABEL_TARGET}"
         ));
     }
-    Ok(named)
+    Ok(first + id)
 }
 
-pub(super) fn bytes(words: &[&str]) -> Result<Arc<[u8]>, String> {
+pub(crate) fn bytes(words: &[&str]) -> Result<Arc<[u8]>, String> {
     let digits = words.concat();
     if let Some(c) = digits.chars().find(|c| !c.is_ascii_hexdigit()) {
         return Err(format!(

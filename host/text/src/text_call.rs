@@ -1,12 +1,34 @@
 //! Calls, from a name and its arguments.
 
-use super::words::{
+use crate::words::{
     bytes, condition, field_code, number, relocation_kind, relocation_target, signed,
 };
 use crate::{Call, Condition};
 
-/// A call of the text form but zeros.
-pub(super) fn read_call(name: &str, words: &[&str]) -> Result<Call, String> {
+/// What a text may say in the place of a call.
+#[derive(Clone, Debug, PartialEq, Eq)]
+pub enum TextCall {
+    /// A call.
+    Call(Call),
+    /// So many zeros, for as many calls as are to carry them.
+    Zeros(u32),
+    /// A finish amid the calls, which no sheet can hold.
+    Finish,
+}
+
+/// What a name and its arguments say, or what is wrong with them.
+pub(crate) fn read_text_call(name: &str, words: &[&str]) -> Result<TextCall, String> {
+    match name {
+        "zeros" | "z" => one_number("zeros", "COUNT", words).map(TextCall::Zeros),
+        "finish" | "f" => match words {
+            [] => Ok(TextCall::Finish),
+            _ => Err("finish takes no arguments".into()),
+        },
+        _ => read_call(name, words).map(TextCall::Call),
+    }
+}
+
+fn read_call(name: &str, words: &[&str]) -> Result<Call, String> {
     match name {
         "label" | "n" => match words {
             [] => Ok(Call::NewLabel),
@@ -23,9 +45,6 @@ pub(super) fn read_call(name: &str, words: &[&str]) -> Result<Call, String> {
             one_number("constant-label", "CONSTANT", words).map(Call::ConstantLabel)
         }
         "relocation" | "o" => read_relocation(words),
-        "finish" | "f" => {
-            Err("finish is no call of a sheet: it follows by itself after the last call".into())
-        }
         _ => Err(format!("'{name}' is no call")),
     }
 }
@@ -37,7 +56,7 @@ fn one_number(name: &str, argument: &str, words: &[&str]) -> Result<u32, String>
     }
 }
 
-pub(super) fn wrong_arguments(name: &str, arguments: &str, words: &[&str]) -> String {
+fn wrong_arguments(name: &str, arguments: &str, words: &[&str]) -> String {
     format!("{name} takes {arguments}, and {} stand here", words.len())
 }
 

@@ -1,0 +1,99 @@
+//! Calls on a recording.
+
+use std::sync::Arc;
+
+/// A call on a recording, its numbers as they stand in a sheet.
+#[derive(Clone, Debug, PartialEq, Eq)]
+pub enum Call {
+    /// Appends bytes, any number of them.
+    Bytes(Arc<[u8]>),
+    /// Makes a label.
+    NewLabel,
+    /// Binds a label to the current offset.
+    Bind(u32),
+    /// Pads to a multiple.
+    Align(u32),
+    /// Records a use of a label.
+    Use {
+        /// Where the field starts.
+        offset: u32,
+        /// What it refers to.
+        label: u32,
+        /// The code of its [`LabelUse`](crate::LabelUse).
+        code: u32,
+    },
+    /// Records a ref to a label.
+    Ref {
+        /// Where the field starts.
+        offset: u32,
+        /// What it refers to.
+        label: u32,
+        /// The code of its [`LabelUse`](crate::LabelUse).
+        code: u32,
+        /// What is added to the label's offset.
+        addend: i32,
+    },
+    /// Records a jump that finish may resize.
+    Jump {
+        /// Offset of the opcode.
+        start: u32,
+        /// Bytes recorded for it.
+        length: u32,
+        /// Where it goes.
+        label: u32,
+        /// The number of its condition, 16 for none.
+        condition: u32,
+    },
+    /// Adds a constant, of at most 64 bytes.
+    Constant(Arc<[u8]>),
+    /// Asks for the label of a constant.
+    ConstantLabel(u32),
+    /// Records a relocation.
+    Relocation {
+        /// Where it applies.
+        offset: u32,
+        /// The number of its [`Reloc`](crate::Reloc).
+        kind: u32,
+        /// A symbol, or a label plus 2^31.
+        target: u32,
+        /// What is added to the target.
+        addend: i64,
+    },
+}
+
+/// What the calls are named in the text form, by kind from 1 on.
+pub const CALL_NAMES: [&str; 10] = [
+    "bytes",
+    "label",
+    "bind",
+    "align",
+    "use",
+    "ref",
+    "jump",
+    "constant",
+    "constant-label",
+    "relocation",
+];
+
+impl Call {
+    /// The kind of the call in a sheet.
+    pub const fn kind(&self) -> u8 {
+        match self {
+            Self::Bytes(_) => 1,
+            Self::NewLabel => 2,
+            Self::Bind(_) => 3,
+            Self::Align(_) => 4,
+            Self::Use { .. } => 5,
+            Self::Ref { .. } => 6,
+            Self::Jump { .. } => 7,
+            Self::Constant(_) => 8,
+            Self::ConstantLabel(_) => 9,
+            Self::Relocation { .. } => 10,
+        }
+    }
+
+    /// What the call is named in the text form.
+    pub const fn name(&self) -> &'static str {
+        CALL_NAMES[self.kind() as usize - 1]
+    }
+}
