@@ -87,7 +87,7 @@ impl CodeBuffer {
 
     /// Everything recorded so far but the bytes, as typed entries. After finish, labels and relocations have their final offsets.
     pub fn recording(&self) -> Recording {
-        Recording::read(&self.tables)
+        self.tables.recording()
     }
 
     /// Appends a byte.

@@ -1,6 +1,5 @@
 //! A recording as typed entries, to be shown and explained. Types after asmkit's core/buffer.rs and core/relax.rs (see NOTICE).
 
-use crate::tables::Tables;
 use crate::{Arch, Call, CodeOffset, Condition, LabelUse, Reloc, UNBOUND};
 
 /// What is added to a label's number where a relocation's target is one word.
@@ -234,20 +233,6 @@ pub struct Recording {
 }
 
 impl Recording {
-    pub(crate) fn read(tables: &Tables) -> Self {
-        Self {
-            arch: tables.arch(),
-            code_len: u32::try_from(tables.code().len()).expect("code is below 2^32 bytes"),
-            labels: tables.labels().collect(),
-            events: tables.events().collect(),
-            uses: tables.uses().collect(),
-            refs: tables.refs().collect(),
-            constants: tables.constants().collect(),
-            asked: tables.asked().map(Constant::from_id).collect(),
-            relocs: tables.relocs().collect(),
-        }
-    }
-
     /// Whether finish has jumps to relax.
     pub fn has_jump(&self) -> bool {
         self.jumps().next().is_some()

@@ -1,8 +1,10 @@
 //! The tables of a recording, as the C functions are lent them: bytes that grow before a call could be refused for room, up to document 01's limits
-//! and never beyond. include/wargnifla.h says what their entries hold.
+//! and never beyond. include/wargnifla.h says what their entries hold; here they are read.
 
-use crate::recording::{AsmConstant, AsmFixup, AsmReloc, Label, LabelRef, LayoutEvent};
-use crate::recording::{RelaxableJump, RelocTarget};
+use crate::recording::{
+    AsmConstant, AsmFixup, AsmReloc, Constant, Label, LabelRef, LayoutEvent, Recording,
+    RelaxableJump, RelocTarget,
+};
 use crate::{Arch, Condition, LabelUse, MOST_CODE, MOST_ENTRIES, Reloc};
 
 /// The counts of a recording: 12 words.
@@ -118,6 +120,21 @@ impl Tables {
         self.constants.make_room(counts.count(9), room.constants);
         self.asked.make_room(counts.count(10), room.asked);
         self.relocs.make_room(counts.count(11), room.relocs);
+    }
+
+    /// All that the tables hold, but for the bytes of code.
+    pub fn recording(&self) -> Recording {
+        Recording {
+            arch: self.arch(),
+            code_len: u32::try_from(self.code().len()).expect("code is below 2^32 bytes"),
+            labels: self.labels().collect(),
+            events: self.events().collect(),
+            uses: self.uses().collect(),
+            refs: self.refs().collect(),
+            constants: self.constants().collect(),
+            asked: self.asked().map(Constant::from_id).collect(),
+            relocs: self.relocs().collect(),
+        }
     }
 
     pub fn arch(&self) -> Arch {
