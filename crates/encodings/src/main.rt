@@ -5,56 +5,17 @@ ghost use Prim.Native.Nat.{_≤_};
 ghost use lib.ListN.{length};
 use fields::Decoded;
 use fields::LabelUse;
+use tally::Tally;
 
 // The input, in little-endian words: the number of sections; of each, what it is (0 fields, 1 NOPs), the code or the NOP's length, and its
 // number of rows; and its rows of 44 bytes: the field's offset, the label's, the addend, what is done, the field's size, and a pair of
 // windows of 12 bytes, before and after. A window's field, or NOP, starts at its byte 2. What is done: 0 `patch`, 1 `patch_with_addend`,
 // 2 nothing, as the label is out of reach and GNU as or ld refuses it.
 
-// What rows showed.
-struct Counts {
-    rows: u64,
-    agreeing: u64,
-    // The input ended before its last row.
-    cut_short: bool,
-}
-
-const NONE: Counts = Counts {
-    rows: 0,
-    agreeing: 0,
-    cut_short: false,
-};
-
-const CUT_SHORT: Counts = Counts {
-    rows: 0,
-    agreeing: 0,
-    cut_short: true,
-};
-
-impl Counts {
-    fn of(agrees: bool) -> Counts {
-        Counts {
-            rows: 1,
-            agreeing: if agrees { 1 } else { 0 },
-            cut_short: false,
-        }
-    }
-
-    fn plus(self, row: Counts) -> Counts {
-        Counts {
-            rows: std::num::wrapping_add_u64(self.rows, row.rows),
-            agreeing: std::num::wrapping_add_u64(self.agreeing, row.agreeing),
-            cut_short: row.cut_short,
-        }
-    }
-
-    fn print(self) {
-        io::write_all(1, b" ");
-        io::print_decimal(1, self.rows);
-        io::write_all(1, b" ");
-        io::print_decimal(1, self.agreeing);
-        io::write_all(1, b"\n");
-    }
+fn print_counts(sum: Tally) {
+    tally::print_number(sum.cases);
+    tally::print_number(sum.agreeing);
+    io::write_all(1, b"\n");
 }
 
 // What a section is about.
@@ -73,11 +34,6 @@ fn subject_of(what: u32, code: u32) -> Subject {
         Decoded::Unsupported => Subject::Unknown,
         Decoded::Unknown => Subject::Unknown,
     }
-}
-
-fn halves_agree(pair: &[u8]) -> bool {
-    let half = pair.len() / 2;
-    check::same(&pair[..half], &pair[half..])
 }
 
 // Whether the label with the addend is in reach of the field.
@@ -101,7 +57,7 @@ fn field_agrees(kind: LabelUse, row: &mut [u8], end: usize) -> bool
             return false;
         }
         kind.patch_with_addend(&mut row[22..end], offset, label, addend);
-        return halves_agree(&row[20..44]);
+        return tally::halves_agree(&row[20..44]);
     }
     if done != 0 {
         return false;
@@ -110,14 +66,14 @@ fn field_agrees(kind: LabelUse, row: &mut [u8], end: usize) -> bool
         return false;
     }
     kind.patch(&mut row[22..end], offset, label);
-    halves_agree(&row[20..44])
+    tally::halves_agree(&row[20..44])
 }
 
 fn nop_agrees(row: &mut [u8], end: usize) -> bool
     requires { ⌜ (length (now row) ≡ 44) × (22 ≤ end) × (end ≤ 44) ⌝ }
 {
     encoder::push_nops(&mut row[22..end]);
-    halves_agree(&row[20..44])
+    tally::halves_agree(&row[20..44])
 }
 
 fn row_agrees(subject: Subject, row: &mut [u8]) -> bool
@@ -135,31 +91,28 @@ fn row_agrees(subject: Subject, row: &mut [u8]) -> bool
     }
 }
 
-fn read_row(subject: Subject) -> Counts {
+fn read_row(subject: Subject) -> Tally {
     let mut row = [0u8; 44];
-    if io::read_full(0, &mut row) != 44 {
-        return CUT_SHORT;
+    if !tally::fill(&mut row) {
+        return tally::cut_short();
     }
-    Counts::of(row_agrees(subject, &mut row))
+    tally::compared(row_agrees(subject, &mut row))
 }
 
-fn read_rows(subject: Subject, rows: u32) -> Counts {
-    let mut sum = NONE;
+fn read_rows(subject: Subject, rows: u32) -> Tally {
+    let mut sum = tally::NONE;
     let mut left = rows;
     while left > 0 {
         sum = sum.plus(read_row(subject));
-        if sum.cut_short {
-            return sum;
-        }
-        left -= 1;
+        left = sum.left_after(left);
     }
     sum
 }
 
-fn read_section() -> Counts {
+fn read_section() -> Tally {
     let mut head = [0u8; 12];
-    if io::read_full(0, &mut head) != 12 {
-        return CUT_SHORT;
+    if !tally::fill(&mut head) {
+        return tally::cut_short();
     }
     let what = words::word_at(&head, 0);
     let code = words::word_at(&head, 1);
@@ -169,43 +122,31 @@ fn read_section() -> Counts {
         io::write_all(1, b"nop ");
     }
     io::print_decimal(1, code as u64);
-    sum.print();
+    print_counts(sum);
     sum
 }
 
-fn read_sections(sections: u32) -> Counts {
-    let mut sum = NONE;
+fn read_sections(sections: u32) -> Tally {
+    let mut sum = tally::NONE;
     let mut left = sections;
     while left > 0 {
         sum = sum.plus(read_section());
-        if sum.cut_short {
-            return sum;
-        }
-        left -= 1;
+        left = sum.left_after(left);
     }
     sum
 }
 
-fn read_all() -> Counts {
+fn read_all() -> Tally {
     let mut head = [0u8; 4];
-    if io::read_full(0, &mut head) != 4 {
-        return CUT_SHORT;
+    if !tally::fill(&mut head) {
+        return tally::cut_short();
     }
     read_sections(words::word_at(&head, 0))
 }
 
-fn at_end() -> bool {
-    let mut more = [0u8; 1];
-    io::read_full(0, &mut more) == 0
-}
-
 fn main() {
     let sum = read_all();
-    if sum.cut_short {
-        io::write_all(1, b"input cut short\n");
-    } else if !at_end() {
-        io::write_all(1, b"input goes on\n");
-    }
+    sum.print_end();
     io::write_all(1, b"total");
-    sum.print();
+    print_counts(sum);
 }

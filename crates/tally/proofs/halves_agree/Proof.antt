@@ -1,9 +1,9 @@
--- `reach_limits::halves_agree` is safe: the first half of a list is as long as half the list.
+-- `tally::halves_agree` is safe: the first half of a list is as long as half the list.
 use native.Mathlib.Omega.{arith}
 use lib.ListN.{length-take}
 use borrow.Author.Needs.{needs}
-use Rattle.reach_limits.proofs.halves_agree.Statement.{statement}
-use Rattle.reach_limits.proofs.halves_agree.Tie as tie
+use Rattle.tally.proofs.halves_agree.Statement.{statement}
+use Rattle.tally.proofs.halves_agree.Tie as tie
 
 slice-aggregate-same : tie.Need-slice-aggregate-same
 slice-aggregate-same c = simp length-take (omega arith)
