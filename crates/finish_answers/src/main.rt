@@ -7,7 +7,6 @@ ghost use Prim.Native.Nat.{_*_, _≤_};
 use buffer::CodeBuffer;
 use finish::CodeBufferFinalized;
 use finish::Finished;
-use relax::Segment;
 use tally::Tally;
 
 // A recording, in little-endian words: bytes that follow, architecture, symbols, bytes of the sheet, the sheet, and the answer: error and index;
@@ -199,45 +198,6 @@ fn judge_finished(
     tally::compared(same_record(finished.code, labels, relocs, output, stored))
 }
 
-fn table() -> [Segment; 8192] {
-    let zero = Segment {
-        old_start: 0,
-        old_end: 0,
-        new_start: 0,
-        new_end: 0,
-    };
-    [zero; 8192]
-}
-
-// Finishes with a table of 8,192 segments.
-fn finish_with_table(
-    recording: CodeBuffer,
-    code: &[u8],
-    labels: &mut [u8],
-    events: &[u8],
-    uses: &[u8],
-    refs: &[u8],
-    constants: &[u8],
-    asked: &[u8],
-    relocs: &mut [u8],
-    output: &mut [u8],
-) -> Finished {
-    let mut segments = table();
-    finish::finish(
-        recording,
-        code,
-        labels,
-        events,
-        uses,
-        refs,
-        constants,
-        asked,
-        relocs,
-        &mut segments,
-        output,
-    )
-}
-
 // Room for code, recorded or finished.
 type Code = [u8; 3145728];
 
@@ -273,7 +233,7 @@ fn replay(
     if ran.refusal != 0 {
         return judge_refusal(ran.refusal, ran.index, answer);
     }
-    let finished = finish_with_table(
+    let finished = own_segments::finish_with_table(
         ran.buffer,
         code,
         &mut labels,

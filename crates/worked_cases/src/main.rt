@@ -1,7 +1,7 @@
 // Cases A to D of document 01, run through the recording calls and finish: each letter, then the finished length, layouts and long jumps, in decimal.
+ghost use Prim.Native.Nat.{_<_, _≤_};
 use buffer::CodeBuffer;
 use finish::Finished;
-use relax::Segment;
 
 const ZEROS: [u8; 128] = [0; 128];
 
@@ -101,100 +101,57 @@ fn record(
     }
 }
 
-// A finish, and the segments that it left.
-struct Laid {
-    finished: Finished,
-    first: Segment,
-    second: Segment,
-}
-
-fn table() -> [Segment; 2] {
-    let zero = Segment {
-        old_start: 0,
-        old_end: 0,
-        new_start: 0,
-        new_end: 0,
-    };
-    [zero; 2]
-}
-
-// A short jump has 2 bytes.
-fn is_short(start: u32, end: u32) -> bool {
-    start as u64 + 2 == end as u64
-}
-
-// 1 for event `i`, where it is a jump and its segment says that it is long.
-fn long(events: &[u8; 40], segment: Segment, i: usize) -> u64 {
-    if i > 1 {
-        return 0;
+// 1 where the finished code has a long jump at `at`, by its opcode.
+fn long_at(output: &[u8; 256], at: usize) -> u64
+    requires { ⌜ at < 256 ⌝ }
+    ensures { λ r. ⌜ r ≤ 1 ⌝ }
+{
+    if output[at] == 0xe9 {
+        return 1;
     }
-    if words::word_at(events, i * 5) != 1 {
-        return 0;
-    }
-    if is_short(segment.new_start, segment.new_end) {
-        return 0;
-    }
-    1
+    0
 }
 
-// Finishes with a table of two segments. No uses, refs, constants or relocations are recorded: `none` stands for their tables.
-fn finish_recording(
-    recording: CodeBuffer,
-    code: &[u8],
-    labels: &mut [u8],
-    events: &[u8],
-    none: &[u8],
-    relocs: &mut [u8],
-    output: &mut [u8],
-) -> Laid {
-    let mut segments = table();
-    let finished = finish::finish(
-        recording,
-        code,
-        labels,
-        events,
-        none,
-        none,
-        none,
-        none,
-        relocs,
-        &mut segments,
-        output,
-    );
-    let first = layout::segment_at(&segments, 0);
-    let second = layout::segment_at(&segments, 1);
-    Laid {
-        finished,
-        first,
-        second,
+// How many jumps are long: the finished code starts with them. A short one has 2 bytes, a long one 5.
+fn long_jumps(recipe: Recipe, output: &[u8; 256]) -> u64 {
+    let first = long_at(output, 0);
+    let second = (2 + 3 * first) as usize;
+    match recipe {
+        Recipe::Forward(zeros) => first,
+        Recipe::Chain => first + long_at(output, second),
+        Recipe::Aligned => first,
     }
 }
 
+// No uses, refs, constants or relocations are recorded.
 fn finish_recipe(
     recording: CodeBuffer,
     code: &[u8; 256],
     labels: &mut [u8; 8],
     events: &[u8; 40],
-) -> Laid {
+    output: &mut [u8; 256],
+) -> Finished {
     let mut relocs = [0u8; 24];
-    let mut output = [0u8; 256];
-    finish_recording(
+    own_segments::finish_with_table(
         recording,
         code,
         labels,
         events,
         b"",
+        b"",
+        b"",
+        b"",
         &mut relocs,
-        &mut output,
+        output,
     )
 }
 
-// Records and finishes; the events stay with the caller.
-fn run_recipe(recipe: Recipe, events: &mut [u8; 40]) -> Laid {
+fn run_recipe(recipe: Recipe, output: &mut [u8; 256]) -> Finished {
     let mut code = [0u8; 256];
     let mut labels = [0u8; 8];
-    let recording = record(recipe, &mut code, &mut labels, events);
-    finish_recipe(recording, &code, &mut labels, events)
+    let mut events = [0u8; 40];
+    let recording = record(recipe, &mut code, &mut labels, &mut events);
+    finish_recipe(recording, &code, &mut labels, &events, output)
 }
 
 fn print_number(n: u64) {
@@ -202,32 +159,25 @@ fn print_number(n: u64) {
     io::print_decimal(1, n);
 }
 
-fn print_refusal(refusal: u32) {
-    io::write_all(1, b" refused");
-    print_number(refusal as u64);
-}
-
-// The finished length, layouts and long jumps.
-fn run_layout(name: &[u8], recipe: Recipe) {
-    let mut events = [0u8; 40];
-    let laid = run_recipe(recipe, &mut events);
-    let finished = laid.finished;
+// The finished length, layouts and long jumps, or the refusal's number.
+fn run(name: &[u8], recipe: Recipe) {
+    let mut output = [0u8; 256];
+    let finished = run_recipe(recipe, &mut output);
     io::write_all(1, name);
     if finished.refusal == 0 {
         print_number(finished.code.len as u64);
         print_number(finished.code.layouts as u64);
-        let first = long(&events, laid.first, 0);
-        let second = long(&events, laid.second, 1);
-        print_number(std::num::wrapping_add_u64(first, second));
+        print_number(long_jumps(recipe, &output));
     } else {
-        print_refusal(finished.refusal);
+        io::write_all(1, b" refused");
+        print_number(finished.refusal as u64);
     }
     io::write_all(1, b"\n");
 }
 
 fn main() {
-    run_layout(b"A", Recipe::Forward(127));
-    run_layout(b"B", Recipe::Forward(128));
-    run_layout(b"C", Recipe::Chain);
-    run_layout(b"D", Recipe::Aligned);
+    run(b"A", Recipe::Forward(127));
+    run(b"B", Recipe::Forward(128));
+    run(b"C", Recipe::Chain);
+    run(b"D", Recipe::Aligned);
 }
