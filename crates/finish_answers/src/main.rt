@@ -45,10 +45,8 @@ struct Answer {
 
 // A call, or finish, was refused.
 fn judge_refusal(refusal: u32, index: u32, answer: Answer) -> Tally {
-    if index == answer.index {
-        if error_of(refusal) == answer.error {
-            return tally::compared(true);
-        }
+    if index == answer.index && error_of(refusal) == answer.error {
+        return tally::compared(true);
     }
     if is_for_room(refusal) {
         return tally::passed_over();
@@ -189,20 +187,19 @@ fn judge_finished(
     if finished.refusal != 0 {
         return judge_refusal(finished.refusal, index, answer);
     }
-    if answer.error != 0 {
-        return tally::compared(false);
-    }
-    if answer.index != index {
-        return tally::compared(false);
-    }
-    tally::compared(same_record(finished.code, labels, relocs, output, stored))
+    let agrees = answer.error == 0
+        && answer.index == index
+        && same_record(finished.code, labels, relocs, output, stored);
+    tally::compared(agrees)
 }
 
-// Room for code, recorded or finished.
-type Code = [u8; 3145728];
+// Room for code, recorded or finished. One stored recording has more, 16 MiB.
+const ROOM: usize = 3145728;
 
-// Runs a sheet and finishes what it recorded; `stored` is what follows the answer. No table is clear at the start: nothing in it is read before it is
-// written.
+type Code = [u8; ROOM];
+
+// Runs a sheet and finishes what it recorded; `stored` is what follows the answer. A table of 1,024 entries, or 2,048 events, is enough for each
+// recording that has room for its code. None is clear at the start: nothing is read before it is written.
 fn replay(
     start: CodeBuffer,
     sheet: &[u8],
@@ -211,13 +208,13 @@ fn replay(
     code: &mut Code,
     output: &mut Code,
 ) -> Tally {
-    let mut labels = [255u8; 4096];
-    let mut events = [255u8; 40960];
-    let mut uses = [255u8; 12288];
-    let mut refs = [255u8; 16384];
-    let mut constants = [255u8; 73728];
-    let mut asked = [255u8; 4096];
-    let mut relocs = [255u8; 24576];
+    let mut labels = [255u8; 1024 * 4];
+    let mut events = [255u8; 2048 * 20];
+    let mut uses = [255u8; 1024 * 12];
+    let mut refs = [255u8; 1024 * 16];
+    let mut constants = [255u8; 1024 * 72];
+    let mut asked = [255u8; 1024 * 4];
+    let mut relocs = [255u8; 1024 * 24];
     let ran = sheet::run_sheet(
         start,
         sheet,
@@ -288,7 +285,7 @@ fn try_recording(stored: &[u8], code: &mut Code, output: &mut Code) -> Tally {
     one.marked_if(answer.error != 0)
 }
 
-// A recording that is too long for what is lent here counts as the input's end.
+// A recording of more bytes than `stored` has counts as the input's end.
 fn read_recording(code: &mut Code, output: &mut Code) -> Tally {
     let mut head = [0u8; 4];
     if !tally::fill(&mut head) {
@@ -312,8 +309,8 @@ fn print_line(word: &[u8], n: u64) {
     io::write_all(1, b"\n");
 }
 
-// Adds a recording, and tells of it if it disagrees.
-fn told(sum: Tally, one: Tally) -> Tally {
+// Tells which recording it is that disagrees.
+fn add_recording(sum: Tally, one: Tally) -> Tally {
     if one.disagreeing != 0 {
         print_line(b"disagrees: recording", sum.cases);
     }
@@ -321,12 +318,12 @@ fn told(sum: Tally, one: Tally) -> Tally {
 }
 
 fn read_recordings(recordings: u32) -> Tally {
-    let mut code = [0u8; 3145728];
-    let mut output = [0u8; 3145728];
+    let mut code = [0u8; ROOM];
+    let mut output = [0u8; ROOM];
     let mut sum = tally::NONE;
     let mut left = recordings;
     while left > 0 {
-        sum = told(sum, read_recording(&mut code, &mut output));
+        sum = add_recording(sum, read_recording(&mut code, &mut output));
         left = sum.left_after(left);
     }
     sum

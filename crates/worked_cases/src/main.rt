@@ -123,7 +123,7 @@ fn long_jumps(recipe: Recipe, output: &[u8; 256]) -> u64 {
     }
 }
 
-// No uses, refs, constants or relocations are recorded.
+// There are no uses, refs, constants and relocations.
 fn finish_recipe(
     recording: CodeBuffer,
     code: &[u8; 256],
@@ -131,7 +131,7 @@ fn finish_recipe(
     events: &[u8; 40],
     output: &mut [u8; 256],
 ) -> Finished {
-    let mut relocs = [0u8; 24];
+    let mut relocs = [0u8; 1];
     own_segments::finish_with_table(
         recording,
         code,
@@ -146,6 +146,7 @@ fn finish_recipe(
     )
 }
 
+// Records and finishes.
 fn run_recipe(recipe: Recipe, output: &mut [u8; 256]) -> Finished {
     let mut code = [0u8; 256];
     let mut labels = [0u8; 8];
