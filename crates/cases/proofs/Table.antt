@@ -5,20 +5,20 @@ use Rattle.seqs.specs.Over.{over}
 use Rattle.words.specs.Words.{wordAt}
 use Rattle.encoder.specs.Nops as nop
 use Rattle.encoder.specs.Padding.{paddingLength}
-use Rattle.fields.specs.Words64.{range}
+use Rattle.fields.specs.Words64.{signExtend, range}
 use Rattle.fields.specs.Bits.{insertBits}
 use Rattle.fields.specs.Kinds.{decoded}
 use Rattle.fields.specs.Reach.{reachRefusal, canReach, canReachDelta, pagesReach}
 use Rattle.fields.specs.Patch.{patched, heldAddend}
-use Rattle.fresh.specs.Forms.{form, width}
-use Rattle.fresh.specs.Fresh.{items, writes, ends, stands, moved}
-use Rattle.fresh.specs.Rounds.{reaches, isFar, farOf, any, join, settle}
-use Rattle.fresh.specs.Fill.{fillRefs, displacement, fillJump, fillJumps, fillPool, fill, assembled}
+use Rattle.fresh.specs.Forms.{form, width, roleOf}
+use Rattle.fresh.specs.Fresh.{items, writes, starts, stands, moved}
+use Rattle.fresh.specs.Rounds.{jumps, reaches, isFar, farOf, any, join, settle}
+use Rattle.fresh.specs.Fill.{fillField, fillRefs, fillJump, fillJumps, fillPool, fill, assembled}
 use Rattle.cases.specs.Cases.{Row, answer, table}
 
 -- Every case of the table is answered as document 01 says.
 pub cases-hold : map (λ (r : Row). answer (r .question)) table ≡ map (λ (r : Row). r .expected) table
-unfolding table decoded reachRefusal canReach canReachDelta pagesReach range insertBits patched heldAddend wordAt over nop.form nop.nopsBy nop.nops
-    paddingLength form width items writes ends stands moved reaches isFar farOf any join settle fillRefs displacement fillJump fillJumps fillPool fill
-    assembled
+unfolding table decoded reachRefusal canReach canReachDelta pagesReach signExtend range insertBits patched heldAddend wordAt over nop.form nop.nopsBy nop.nops
+    paddingLength form width roleOf items writes starts stands moved jumps reaches isFar farOf any join settle fillField fillRefs fillJump fillJumps fillPool
+    fill assembled
 cases-hold = refl

@@ -68,7 +68,7 @@ jmp start label = Jump (record { start = start; len = 5; label = label; cc = Alw
 
 -- events over n zeros
 abbrev pub zeros : ℕ → List LayoutEvent → List ℕ → Pooled
-zeros n es labels = record { code = replicate n 0; events = es; labels = labels; uses = []; refs = []; pool = [] }
+zeros n es labels = record { arch = 2; code = replicate n 0; events = es; labels = labels; uses = []; refs = []; pool = [] }
 
 -- A to L
 unfoldable pub table : List Row
@@ -77,7 +77,7 @@ table =
     ∷ record { question = finish (zeros 133 (jmp 0 0 ∷ []) (133 ∷ [])) 133; expected = finished 133 2 1 [] }
     ∷ record { question = finish (zeros 138 (jmp 0 0 ∷ jmp 5 1 ∷ []) (135 ∷ 138 ∷ [])) 138; expected = finished 138 3 2 [] }
     ∷ record {
-      question = finish (zeros 16 (jmp 0 0 ∷ Align 5 11 16 ∷ []) (16 ∷ [])) 0;
+      question = finish (zeros 16 (jmp 0 0 ∷ Align (record { start = 5; len = 11; align = 16 }) ∷ []) (16 ∷ [])) 0;
       expected = finished 16 1 0 (0xEB ∷ 0x0E ∷ 0x66 ∷ 0x0F ∷ 0x1F ∷ 0x84 ∷ 0 ∷ 0 ∷ 0 ∷ 0 ∷ 0 ∷ 0x0F ∷ 0x1F ∷ 0x44 ∷ 0 ∷ 0 ∷ []);
     }
     ∷ record { question = finish (zeros 131 (jmp 126 0 ∷ []) (0 ∷ [])) 126; expected = finished 128 1 0 (0xEB ∷ 0x80 ∷ []) }

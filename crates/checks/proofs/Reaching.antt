@@ -1,14 +1,13 @@
 -- Labels that are named, fields that are clear, and the first use that does not reach.
 use mathlib.Core.Path.{_≡_, refl, sym, _∙_}
 use mathlib.Core.Logic.{_≢_, ⊎-elim}
-use mathlib.Core.Bool.{Bool, true, false, not}
+use mathlib.Core.Bool.{true, false}
 use mathlib.Core.List.{List}
 use Prim.Native.Nat.{ℕ, zero, suc, _+_, _-_, _*_, _≤_, _<_}
 use native.Mathlib.Nat.{not-suc-le-zero}
 use native.Mathlib.Numerals.{add-one}
 use native.Mathlib.Omega.{arith}
 use borrow.Author.Tests.{eq-eqb, ne-eqb, lt-ltb, le-ltb, le-leb, lt-leb}
-use lib.Dec.{eqb}
 use Rattle.seqs.proofs.Numbers.{eq-or-ne}
 use Rattle.seqs.proofs.Picking.{yes-eq, no-eq}
 use Rattle.words.specs.Words.{wordAt}
@@ -28,26 +27,8 @@ use Rattle.fields.specs.declared.LabelUse.the-variants.{
   A64AddAbsLo12,
 }
 use Rattle.pool.specs.Pool.{poolStart}
-use Rattle.checks.specs.Entries.{all}
-use Rattle.checks.specs.Fields.{isBound, hasJump, sizeOf, clearOfEvents, clearOfPool, refClear, whyUnreached, whyUses}
+use Rattle.checks.specs.Fields.{isBound, sizeOf, clearOfEvents, clearOfPool, refClear, whyUnreached, whyUses}
 use Rattle.checks.specs.Handed.{jumpBound, targetBound}
-use Rattle.checks.proofs.Scans.{all-fails, all-step}
-
--- the first n events are no jumps
-abbrev pub still : List ℕ → ℕ → Bool
-still events i = not (eqb (wordAt events (i * 5)) 1)
-
-pub one-jump : (events : List ℕ) (n i kind : ℕ) → i < n → kind ≡ wordAt events (i * 5) → kind ≡ 1 → true ≡ hasJump events n
-unfolding hasJump
-one-jump events n i kind l e h =
-    rw (all-fails (still events) n i l (rw (eq-eqb (wordAt events (i * 5)) 1 (sym e ∙ h))))
-
-pub no-jump-yet : (events : List ℕ) (i kind : ℕ) → all (still events) i ≡ true → kind ≡ wordAt events (i * 5) → kind ≢ 1 → all (still events) (i + 1) ≡ true
-no-jump-yet events i kind a e h = all-step (still events) i a (rw (ne-eqb (wordAt events (i * 5)) 1 (λ (q : wordAt events (i * 5) ≡ 1). h (e ∙ q))))
-
-pub no-jump : (events : List ℕ) (n i : ℕ) → i ≤ n → n ≤ i → all (still events) i ≡ true → false ≡ hasJump events n
-unfolding hasJump
-no-jump events n i h l a = let same : n ≡ i = omega arith in rw (same, a)
 
 pub jump-none : (events labels : List ℕ) (i kind : ℕ) → kind ≡ wordAt events (i * 5) → kind ≢ 1 → true ≡ jumpBound events labels i
 jump-none events labels i kind e h = rw (ne-eqb (wordAt events (i * 5)) 1 (λ (q : wordAt events (i * 5) ≡ 1). h (e ∙ q)))

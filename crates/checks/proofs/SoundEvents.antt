@@ -9,15 +9,13 @@ use native.Mathlib.Omega.{arith}
 use borrow.Author.Tests.{eq-eqb, le-leb, lt-ltb, eqb-true, leb-true, ltb-true}
 use lib.Dec.{eqb, leb, ltb}
 use lib.ListN.{length}
-use Rattle.seqs.specs.Pick.{pick}
 use Rattle.seqs.proofs.Numbers.{eq-or-ne}
 use Rattle.seqs.proofs.Booleans.{both-true}
 use Rattle.seqs.proofs.Picking.{yes-eq, no-eq}
 use Rattle.words.specs.Words.{wordAt}
 use Rattle.encoder.specs.Padding.{paddingLength}
-use Rattle.relax.specs.declared.RelaxableJump.{RelaxableJump}
-use Rattle.relax.specs.declared.LayoutEvent.the-variants.{Jump, Align}
-use Rattle.relax.specs.Events.{conditionOf, eventOf, eventAt, endOf}
+use Rattle.relax.specs.Events.{eventAt, endOf}
+use Rattle.relax.proofs.Columns.{end-at}
 use Rattle.buffer.specs.Refusals.{isAlignment, lastEnd}
 use Rattle.recording.specs.Sound.{startAt, endAt, FormOf, EventSound, EventsSound}
 use Rattle.checks.specs.Entries.{all, formFits, eventFits, keptOnly, eventsFit}
@@ -69,26 +67,11 @@ module _ (labels kind start len what cc : ℕ) where
       (or-second (eqb kind 1 && (leb 2 len && leb len 15 && (ltb what labels && leb cc 16))) true refl))
       f
 
--- the end of an event, as a variant
-end-by : (t : Bool) (j : RelaxableJump) (start len what : ℕ) → j .start ≡ start → j .len ≡ len → endOf (pick t (Jump j) (Align start len what)) ≡ start + len
-unfolding pick
-end-by true j start len what e f = rw (e, f)
-end-by false j start len what e f = refl
-
 last-end-at : (events : List ℕ) (j : ℕ) → lastEnd events (suc j) ≡ endAt events j
-unfolding lastEnd eventAt eventOf
+unfolding lastEnd
 last-end-at events j =
     let same : suc j - 1 ≡ j = omega arith in
-    no-eq (suc j) 0 0 (endOf (eventAt events (suc j - 1))) (λ e. omega arith)
-    ∙ rw same
-    (end-by
-    (eqb (wordAt events (j * 5)) 1)
-    (record { start = startAt events j; len = wordAt events (j * 5 + 2); label = wordAt events (j * 5 + 3); cc = conditionOf (wordAt events (j * 5 + 4)) })
-    (startAt events j)
-    (wordAt events (j * 5 + 2))
-    (wordAt events (j * 5 + 3))
-    refl
-    refl)
+    no-eq (suc j) 0 0 (endOf (eventAt events (suc j - 1))) (λ e. omega arith) ∙ rw same (end-at events j)
 
 last-end-none : (events : List ℕ) → lastEnd events 0 ≡ 0
 unfolding lastEnd

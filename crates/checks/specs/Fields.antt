@@ -34,10 +34,6 @@ unfoldable pub relocsBound : List ℕ → ℕ → List ℕ → Bool
 relocsBound relocs n labels =
     all (λ (i : ℕ). ltb (wordAt relocs (i * 6 + 2)) 2147483648 || isBound labels (wordAt relocs (i * 6 + 2) - 2147483648)) n
 
--- one of the events is a jump
-unfoldable pub hasJump : List ℕ → ℕ → Bool
-hasJump events n = not (all (λ (i : ℕ). not (eqb (wordAt events (i * 5)) 1)) n)
-
 -- a field's size, by its code
 abbrev pub sizeOf : Decoded → ℕ
 sizeOf (Use k) = patchSize k

@@ -4,11 +4,15 @@ ghost use Prim.Native.Nat.{_+_, _-_, _*_, _≤_};
 ghost use lib.ListN.{length};
 ghost use Rattle.words.specs.Words.{wordAt};
 ghost use Rattle.fields.specs.Kinds.{decoded};
+ghost use Rattle.relax.specs.Events.{eventAt};
+ghost use Rattle.recording.specs.View.{entries};
 ghost use Rattle.recording.specs.Sound.{startAt, endAt};
+ghost use Rattle.fresh.specs.Forms.{isMoving, moves};
 ghost use Rattle.pool.specs.Pool.{poolStart};
-ghost use Rattle.checks.specs.Fields.{isBound, usesBound, refsBound, jumpsBound, relocsBound, hasJump, sizeOf, refClear, refsClear, reachOf, whyUnreached, whyUses};
+ghost use Rattle.checks.specs.Fields.{isBound, usesBound, refsBound, jumpsBound, relocsBound, sizeOf, refClear, refsClear, reachOf, whyUnreached, whyUses};
 ghost use Rattle.checks.specs.Search.{Ordered, Placed};
 ghost use Rattle.checks.specs.Handed.{useLabel, refLabel, Named, JumpsNamed, TargetsNamed, jumpBound, targetBound};
+use relax::LayoutEvent;
 
 fn is_bound(labels: &[u8], label: u32) -> bool
     requires { ⌜ label * 4 + 4 ≤ length (now labels) ⌝ }
@@ -98,15 +102,23 @@ pub fn relocs_bound(relocs: &[u8], n: usize, labels: &[u8]) -> bool
     true
 }
 
-// Whether one of the events is a jump.
-pub fn has_jump(events: &[u8], n: usize) -> bool
+fn is_moving(event: LayoutEvent) -> bool
+    ensures { λ r. ⌜ r ≡ isMoving event ⌝ }
+{
+    match event {
+        LayoutEvent::Jump(_) => true,
+        LayoutEvent::Align(_) => false,
+    }
+}
+
+// Whether one of the first `n` events makes finish lay out anew.
+pub fn moves(events: &[u8], n: usize) -> bool
     requires { ⌜ n * 20 ≤ length (now events) ⌝ }
-    ensures { λ r. ⌜ r ≡ hasJump (now (events .entry)) n ⌝ }
+    ensures { λ r. ⌜ r ≡ moves (entries (eventAt (now (events .entry))) n) ⌝ }
 {
     let mut i: usize = 0;
     while i < n {
-        let kind = words::word_at(events, i * 5);
-        if kind == 1 {
+        if is_moving(relax::event_at(events, i)) {
             return true;
         }
         i += 1;

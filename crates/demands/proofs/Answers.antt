@@ -25,12 +25,13 @@ use Rattle.fresh.specs.Fresh.{moved}
 use Rattle.fresh.specs.Rounds.{settled}
 use Rattle.fresh.specs.Fill.{assembled, inPlace}
 use Rattle.fresh.proofs.Fill.{length-inPlace}
+use Rattle.fresh.specs.Forms.{moves}
 use Rattle.checks.specs.Entries.{entriesFit}
 use Rattle.checks.proofs.Sound.{fits-sound}
 use Rattle.finish.specs.declared.Finished.{Finished}
 use Rattle.finish.specs.declared.Outcome.{Outcome}
 use Rattle.checks.specs.Lent.{countsFit, withinLimits}
-use Rattle.finish.specs.Refusals.{every, poolBoundBefore, allBound, hasJump, refClear, refReaches, whyNotLaid, whyNotWritten, usesRefusal, whyNotInPlace, whyUnfit}
+use Rattle.finish.specs.Refusals.{every, poolBoundBefore, allBound, refClear, refReaches, whyNotLaid, whyNotWritten, usesRefusal, whyNotInPlace, whyUnfit}
 use Rattle.finish.specs.Finish.{overWords, Left, relaxed, unrelaxed, finishedWith, placedBy, finish}
 use Rattle.demands.specs.Demand2.{finishedCode}
 
@@ -228,10 +229,10 @@ unrelaxed-leaves p labels relocs ss output e =
 pub record Answered (r : Recording) (ss : List Segment) (output : List ℕ) : Type 0 where
   pub fit : Fit r ss output
   pub bound : allBound (pooled (r .buffer .arch) (view r)) (view r .relocs) ≡ true
-  pub jumped : hasJump (pooled (r .buffer .arch) (view r)) ≡ true
+  pub jumped : moves (pooled (r .buffer .arch) (view r) .events) ≡ true
       → Assembled (pooled (r .buffer .arch) (view r)) (overWords (r .labels) (pooled (r .buffer .arch) (view r) .labels)) output (finishedCode r ss output)
       (finish r ss output .1 .0) (finish r ss output .0 .code .layouts)
-  pub straight : hasJump (pooled (r .buffer .arch) (view r)) ≡ false → Kept (pooled (r .buffer .arch) (view r)) output (finishedCode r ss output)
+  pub straight : moves (pooled (r .buffer .arch) (view r) .events) ≡ false → Kept (pooled (r .buffer .arch) (view r)) output (finishedCode r ss output)
 
 pub finish-answered : (r : Recording) (ss : List Segment) (output : List ℕ) → finish r ss output .0 .refusal ≡ 0 → Answered r ss output
 unfolding finish placedBy
@@ -248,7 +249,7 @@ finish-answered r ss output e =
     let bound : allBound p (view r .relocs) ≡ true =
     chosen-zero (λ (x : Outcome × Left). x .0 .refusal) (allBound p (view r .relocs)) _ _ (λ q z. omega arith) (eqb-true (placed .0 .refusal) 0 done) in
     let is : finish r ss output ≡ (finishedWith b (placed .0), placed .1) = pick-yes (eqb why 0) _ _ fit ∙ pick-yes (eqb (placed .0 .refusal) 0) _ _ done in
-    let inner : placed ≡ pick (hasJump p) (relaxed p (b .relocs) labels (r .relocs) ss output) (unrelaxed p labels (r .relocs) ss output) =
+    let inner : placed ≡ pick (moves (p .events)) (relaxed p (b .relocs) labels (r .relocs) ss output) (unrelaxed p labels (r .relocs) ss output) =
     pick-yes (allBound p (view r .relocs)) _ _ bound in
     let code : finishedCode r ss output ≡ codeOf placed = ap (λ (x : Finished × Left). take (x .0 .code .len) (x .1 .1 .1 .1)) is in
     let zero : placed .0 .refusal ≡ 0 = eqb-true (placed .0 .refusal) 0 done in
@@ -256,12 +257,12 @@ finish-answered r ss output e =
       fit = unfit-fit r ss output (eqb-true why 0 fit);
       bound = bound;
       jumped = λ jump.
-          let all = inner ∙ pick-yes (hasJump p) (relaxed p (b .relocs) labels (r .relocs) ss output) (unrelaxed p labels (r .relocs) ss output) jump in
+          let all = inner ∙ pick-yes (moves (p .events)) (relaxed p (b .relocs) labels (r .relocs) ss output) (unrelaxed p labels (r .relocs) ss output) jump in
           subst (λ (x : Finished × Left). Assembled p labels output (take (x .0 .code .len) (x .1 .1 .1 .1)) (x .1 .0) (x .0 .code .layouts))
           (sym (is ∙ ap (λ (x : Outcome × Left). (finishedWith b (x .0), x .1)) all))
           (relaxed-leaves p (b .relocs) labels (r .relocs) ss output (subst (λ (x : Outcome × Left). x .0 .refusal ≡ 0) all zero));
       straight = λ none.
-          let all = inner ∙ pick-no (hasJump p) (relaxed p (b .relocs) labels (r .relocs) ss output) (unrelaxed p labels (r .relocs) ss output) none in
+          let all = inner ∙ pick-no (moves (p .events)) (relaxed p (b .relocs) labels (r .relocs) ss output) (unrelaxed p labels (r .relocs) ss output) none in
           subst (Kept p output) (sym (code ∙ ap codeOf all))
           (unrelaxed-leaves p labels (r .relocs) ss output (subst (λ (x : Outcome × Left). x .0 .refusal ≡ 0) all zero));
     }

@@ -122,11 +122,18 @@ bytes-padding arch n = by (eqb arch 6)
     by true = bytes-zeros n
     by false = bytes-nopsBy (n / 9) (n % 9) (omega arith)
 
+-- pooling keeps the architecture
+pub pooled-arch : (arch : ℕ) (v : tables.View) (n : ℕ) → pooledTo arch v n .arch ≡ arch
+unfolding pooledOne
+pooled-arch arch v zero = refl
+pooled-arch arch v (suc n) = pooled-arch arch v n
+
 -- Pooled code is bytes where the recorded code is.
 pub bytes-pooled : (arch : ℕ) (v : tables.View) (n : ℕ) → Bytes (v .code) → Bytes (pooledTo arch v n .code)
 unfolding pooledOne
 bytes-pooled arch v zero b = b
 bytes-pooled arch v (suc n) b =
     let zeros : List ℕ = replicate (length (askedConstant v n .bytes)) 0 in
-    bytes-append (pooledTo arch v n .code) (padding arch (padLength arch v n) ++ zeros) (bytes-pooled arch v n b)
-    (bytes-append (padding arch (padLength arch v n)) zeros (bytes-padding arch (padLength arch v n)) (bytes-zeros (length (askedConstant v n .bytes))))
+    rw (pooled-arch arch v n)
+    (bytes-append (pooledTo arch v n .code) (padding arch (padLength arch v n) ++ zeros) (bytes-pooled arch v n b)
+    (bytes-append (padding arch (padLength arch v n)) zeros (bytes-padding arch (padLength arch v n)) (bytes-zeros (length (askedConstant v n .bytes)))))

@@ -6,13 +6,10 @@ use mathlib.Core.List.{List, [], _∷_, map}
 use Prim.Native.Nat.{ℕ, _*_, _≤_, _<_}
 use native.Mathlib.Omega.{arith}
 use lib.ListN.{length, getD}
-use Rattle.seqs.proofs.Booleans.{both-true}
 use Rattle.seqs.proofs.Numbers.{eq-or-ne}
 use Rattle.seqs.proofs.Overwrites.{length-over}
 use Rattle.words.specs.Words.{wordAt}
 use Rattle.relax.specs.declared.Segment.{Segment}
-use Rattle.relax.specs.declared.LayoutEvent.{LayoutEvent}
-use Rattle.relax.specs.declared.LayoutEvent.the-variants.{Jump, Align}
 use Rattle.buffer.specs.State.{none}
 use Rattle.recording.specs.Calls.{Recording}
 use Rattle.recording.specs.View.{entries, view}
@@ -21,25 +18,17 @@ use Rattle.fresh.specs.Pooled.{Pooled, pooled}
 use Rattle.fresh.specs.Fresh.{Choice, moved, target}
 use Rattle.fresh.specs.Rounds.{settled}
 use Rattle.fresh.specs.Segments.{mapOffset, segmentsOf}
-use Rattle.fresh.specs.Demand.{Bound, Demand3}
+use Rattle.fresh.specs.Demand.{Demand3}
 use Rattle.fresh.proofs.Within.{moved-le}
 use Rattle.fresh.proofs.Fill.{built-assembled, labels-same}
 use Rattle.fresh.proofs.Demand.{demand3}
-use Rattle.finish.specs.Refusals.{every, isBound, jumpBound, hasJump}
+use Rattle.fresh.specs.Forms.{moves}
 use Rattle.finish.specs.Finish.{bytesOfAll, overWords, finish}
 use Rattle.finish.proofs.Mapped.{word-over, map-entries}
 use Rattle.demands.specs.Demand2.{finishedCode}
 use Rattle.demands.proofs.Relaxing.{Fitting}
 use Rattle.demands.proofs.Answers.{finish-answered}
-use Rattle.demands.proofs.Discharged.{is-bound, all-jumps-bound, x64, labelled, fitting}
-
--- every jump's label is bound
-bounds : (labels : List ℕ) (es : List LayoutEvent) → every (jumpBound labels) es ≡ true → Bound labels es
-unfolding every Bound
-bounds labels [] h = tt
-bounds labels (Jump j ∷ es) h =
-    let both = both-true (isBound labels (j .label)) (every (jumpBound labels) es) h in (is-bound labels (j .label) (both .0), bounds labels es (both .1))
-bounds labels (Align start len align ∷ es) h = bounds labels es h
+use Rattle.demands.proofs.Discharged.{x64, labelled, fitting}
 
 -- words written over a table are read from it
 words-read : (f : ℕ → ℕ) (t : List ℕ) (n : ℕ) → n * 4 ≤ length t → ((i : ℕ) → i < n → f i < 4294967296)
@@ -62,7 +51,7 @@ target-small p c fitting l =
 
 -- With a jump: the finished bytes, the label table as it is left, and the layouts reported.
 pub demand3-holds : (r : Recording) (ss : List Segment) (output : List ℕ) → finish r ss output .0 .refusal ≡ 0
-    → hasJump (pooled (r .buffer .arch) (view r)) ≡ true
+    → moves (pooled (r .buffer .arch) (view r) .events) ≡ true
     → Demand3 (pooled (r .buffer .arch) (view r)) (finishedCode r ss output) (entries (wordAt (finish r ss output .1 .0)) (r .buffer .labels))
     (finish r ss output .0 .code .layouts)
 demand3-holds r ss output e jump =
@@ -87,4 +76,4 @@ demand3-holds r ss output e jump =
     subst (Demand3 p (finishedCode r ss output) (entries (wordAt (finish r ss output .1 .0)) (b .labels))) (sym (done .rounds))
     (subst (λ (l : List ℕ). Demand3 p (finishedCode r ss output) l (settled p .rounds)) (labels-same p c (fits .formed) ∙ sym read)
     (subst (λ (l : List ℕ). Demand3 p l (map (mapOffset (segmentsOf p c)) (p .labels)) (settled p .rounds)) (built-assembled p c (fits .formed) ∙ sym (done .is))
-    (demand3 p (fits .formed) (bounds (p .labels) (p .events) (all-jumps-bound p (view r .relocs) (a .bound))))))
+    (demand3 p (fits .formed) (fits .bound))))

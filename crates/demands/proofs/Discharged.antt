@@ -8,7 +8,6 @@ use native.Mathlib.Omega.{arith}
 use lib.Dec.{eqb, ltb}
 use lib.ListN.{length, getD, take, length-append, List·getD-eq-default}
 use borrow.Author.Tests.{ne-eqb, eqb-false, ltb-false, not-true}
-use Rattle.seqs.specs.Pick.{pick}
 use Rattle.seqs.proofs.Booleans.{both-true, true-is-not-false}
 use Rattle.seqs.proofs.Numbers.{lt-or-ge, eq-or-ne}
 use Rattle.seqs.proofs.Picking.{passed, neither}
@@ -20,60 +19,37 @@ use Rattle.fields.specs.Words64.{modulus}
 use Rattle.fields.specs.Kinds.{info, patchSize, isArch, decoded}
 use Rattle.fields.specs.Reach.{canReach, reachRefusal}
 use Rattle.relax.specs.declared.LayoutEvent.{LayoutEvent}
-use Rattle.relax.specs.declared.LayoutEvent.the-variants.{Jump, Align}
-use Rattle.relax.specs.declared.RelaxableJump.{RelaxableJump}
 use Rattle.relax.specs.declared.Segment.{Segment}
-use Rattle.relax.specs.Events.{conditionOf, eventOf, eventAt, endOf}
+use Rattle.relax.specs.Events.{eventOf, eventAt, endOf, startOf, noEvent}
+use Rattle.relax.proofs.Columns.{end-at}
 use Rattle.buffer.specs.declared.CodeBuffer.{CodeBuffer}
 use Rattle.buffer.specs.State.{none}
 use Rattle.buffer.specs.Refusals.{foreign}
 use Rattle.recording.specs.Calls.{Recording}
-use Rattle.recording.specs.Sound.{FormOf, Sound}
+use Rattle.recording.specs.Sound.{Sound}
 use Rattle.recording.specs.View as tables
 use Rattle.recording.proofs.Views.{length-entries, getD-entries}
 use Rattle.fresh.specs.Pooled.{Pooled, pooled}
-use Rattle.fresh.specs.Fresh.{startOf}
 use Rattle.fresh.specs.Rounds.{jumps, settled}
-use Rattle.fresh.proofs.Shape.{Apart, WellFormed}
+use Rattle.fresh.proofs.Shape.{Apart, WellFormed, Bound}
 use Rattle.fresh.proofs.Rounds.{rounds-settle, rounds-last, none-fits}
 use Rattle.fresh.proofs.Fill.{length-assembled}
+use Rattle.fresh.specs.Forms.{Branch, branches, roleOf, moves}
 use Rattle.pool.specs.Pool.{poolOffset, poolEvent, poolBound}
 use Rattle.pool.proofs.Pool.{poolStart-suc, poolStart-grows, from-poolStart}
 use Rattle.checks.specs.Fields.{sizeOf, reachOf}
+use Rattle.emit.specs.Emit.{Writes}
 use Rattle.finish.specs.Tables.{poolPlaced, tablesPooled}
 use Rattle.finish.specs.Ready.{Landed, Ready}
-use Rattle.finish.specs.Refusals.{every, isBound, jumpBound, relocBound, allBound, hasJump, refClear, refReaches, useRefusal, usesRefusal}
-use Rattle.finish.proofs.Checked.{end-at}
+use Rattle.finish.specs.Refusals.{every, isBound, jumpBound, relocBound, allBound, refClear, refReaches, useRefusal, usesRefusal}
 use Rattle.finish.proofs.Sounds.{tied, offsets-small, pooled-is, ready}
-use Rattle.finish.proofs.Formed.{AtTable, AtPool, event-at, every-at, ref-apart, pooled-length, well-formed}
+use Rattle.finish.proofs.Formed.{AtTable, AtPool, event-at, every-at, ref-apart, pooled-length, well-formed, recorded-writes}
 use Rattle.demands.specs.Demand2 as demand
 use Rattle.demands.specs.Demand2.{Bytes, useOf, refOf, constantOf}
-use Rattle.demands.proofs.Jumping.{Known}
 use Rattle.demands.proofs.Bytes.{bytes-take, bytes-pooled}
 use Rattle.demands.proofs.Relaxing.{Fitting}
 use Rattle.demands.proofs.Staying.{Reaching}
 use Rattle.demands.proofs.Answers.{Fit, Assembled, Kept}
-
--- conditions up to 16 are known: 16 is none
-known-condition : (n : ℕ) → n ≤ 16 → Known (conditionOf n)
-unfolding conditionOf pick
-known-condition n h =
-    ⊎-elim
-    (λ (e : n ≡ 16). rw e tt)
-    (λ (ne : n ≢ 16). rw (ne-eqb n 16 ne, pick) (omega arith))
-    (eq-or-ne n 16)
-
-abbrev KnownEvent : LayoutEvent → Type 0
-KnownEvent (Jump v) = Known (v .cc)
-KnownEvent (Align start len align) = Unit {0}
-
-known-event : (labels kind start len what cc : ℕ) → FormOf labels kind start len what cc → KnownEvent (eventOf kind start len what cc)
-unfolding eventOf pick
-known-event labels kind start len what cc form =
-    ⊎-elim
-    (λ (jump : (kind ≡ 1) × (2 ≤ len) × (len ≤ 15) × (what < labels) × (cc ≤ 16)). rw (jump .0) (known-condition cc (jump .4)))
-    (λ align. rw (align .0) tt)
-    form
 
 -- a kind that is not foreign to X64 is one of x86
 x86-alone : (t : Bool) → not (isArch t 2) ≡ false → t ≡ true
@@ -86,10 +62,10 @@ x86-kind d k is h = x86-alone (info k .x86) (rw is at h)
 pub is-bound : (labels : List ℕ) (l : ℕ) → isBound labels l ≡ true → getD labels l none ≢ none
 is-bound labels l h = eqb-false (getD labels l none) none (not-true (eqb (getD labels l none) none) h)
 
-jump-bound : (labels : List ℕ) (e : LayoutEvent) (v : RelaxableJump) → e ≡ Jump v → jumpBound labels e ≡ true → getD labels (v .label) none ≢ none
-jump-bound labels e v is h = is-bound labels (v .label) (rw is at h)
+jump-bound : (labels : List ℕ) (e : LayoutEvent) (b : Branch) → roleOf e ≡ branches b → jumpBound labels e ≡ true → getD labels (b .label) none ≢ none
+jump-bound labels e b r h = is-bound labels (b .label) (rw r at h)
 
-pub all-jumps-bound : (p : Pooled) (relocs : List tables.Relocation) → allBound p relocs ≡ true → every (jumpBound (p .labels)) (p .events) ≡ true
+all-jumps-bound : (p : Pooled) (relocs : List tables.Relocation) → allBound p relocs ≡ true → every (jumpBound (p .labels)) (p .events) ≡ true
 unfolding allBound
 all-jumps-bound p relocs h =
     let refs = every (λ (f : tables.Ref). isBound (p .labels) (f .label)) (p .refs) in
@@ -97,6 +73,11 @@ all-jumps-bound p relocs h =
     let relocs·bound = every (relocBound (p .labels)) relocs in
     let uses = every (λ (u : tables.Use). isBound (p .labels) (u .label)) (p .uses) in
     both-true refs jumps (both-true relocs·bound (refs && jumps) (both-true uses (relocs·bound && (refs && jumps)) h .1) .1) .1
+
+-- every jump's label is bound
+pub jumps-bound : (p : Pooled) (relocs : List tables.Relocation) → allBound p relocs ≡ true → Bound (p .labels) (p .events)
+jumps-bound p relocs h i b l r =
+    jump-bound (p .labels) (getD (p .events) i noEvent) b r (every-at (jumpBound (p .labels)) (p .events) noEvent (all-jumps-bound p relocs h) i l)
 
 use-refused : (p : Pooled) (us : List tables.Use) (z : tables.Use) → usesRefusal p us ≡ 0 → (i : ℕ) → i < length us → useRefusal p (getD us i z) ≡ 0
 unfolding usesRefusal
@@ -176,18 +157,20 @@ module _ (r : Recording) (s : Sound r) (few : r .buffer .asked ≤ 65536) where
         reach = λ i k h is. use-fits p (useOf p i) k is (use-refused p (p .uses) _ (kept .none-refused) i h) .1;
       }
 
-  -- only X64 has jumps
-  no-events : (t : Bool) (xs : List LayoutEvent) → b .events ≡ 0 → t ≡ false → jumps (tables.entries (eventAt (r .events)) (b .events) ++ cond t xs []) ≡ 0
+  -- only X64 keeps events
+  no-events : (t : Bool) (xs : List LayoutEvent) → b .events ≡ 0 → t ≡ false
+      → moves (tables.entries (eventAt (r .events)) (b .events) ++ cond t xs []) ≡ false
+  unfolding moves
   no-events t xs none e = rw (none, e) refl
 
-  pub x64 : hasJump p ≡ true → b .arch ≡ 2
+  pub x64 : moves (p .events) ≡ true → b .arch ≡ 2
   x64 jump =
       ⊎-elim
       (λ (e : b .arch ≡ 2). e)
       (λ (ne : b .arch ≢ 2).
       let none : b .events ≡ 0 = ⊎-elim (λ (e : b .arch ≡ 2). absurd (ne e)) (λ (z : b .events ≡ 0). z) (s .events .tracked) in
-      let zero : jumps (p .events) ≡ 0 = ap (λ (q : Pooled). jumps (q .events)) (pooled-is r s few) ∙ no-events (eqb (b .arch) 2) _ none (ne-eqb (b .arch) 2 ne) in
-      absurd (eqb-false (jumps (p .events)) 0 (not-true (eqb (jumps (p .events)) 0) jump) zero))
+      let still : moves (p .events) ≡ false = ap (λ (q : Pooled). moves (q .events)) (pooled-is r s few) ∙ no-events (eqb (b .arch) 2) _ none (ne-eqb (b .arch) 2 ne) in
+      absurd (true-is-not-false (sym jump ∙ still)))
       (eq-or-ne (b .arch) 2)
 
   module _ (is64 : b .arch ≡ 2) where
@@ -214,21 +197,20 @@ module _ (r : Recording) (s : Sound r) (few : r .buffer .asked ≤ 65536) where
         (well-formed (r .code) bound (r .events) (r .constants) (r .asked) (b .code) (b .labels) (b .events) (b .asked) ready64 (q .uses) (q .refs)
         (subst (λ (x : Pooled). every (refClear x) (x .refs) ≡ true) pooled-q clear))
 
-    table-known : (i : ℕ) → i < b .events → KnownEvent (eventAt (r .events) i)
-    unfolding eventAt
-    table-known i h = known-event (b .labels) _ _ _ _ _ (s .events .entry i h .form)
+    table-known : (i : ℕ) → i < b .events → Writes (eventAt (r .events) i)
+    table-known i h = recorded-writes (r .events) (b .events) (b .labels) (b .code) (b .arch) (s .events) i h
 
     many : length (q .events) ≡ b .events + b .asked
     many =
         length-append (tables.entries (eventAt (r .events)) (b .events)) (tables.entries (poolEvent (b .code) (r .constants) (r .asked)) (b .asked))
         ∙ rw (length-entries (eventAt (r .events)) (b .events), length-entries (poolEvent (b .code) (r .constants) (r .asked)) (b .asked)) refl
 
-    event-known : (i : ℕ) → i < length (q .events) → KnownEvent (getD (q .events) i (Align 0 0 0))
+    event-known : (i : ℕ) → i < length (q .events) → Writes (getD (q .events) i noEvent)
     event-known i h =
         ⊎-elim
-        (λ (a : AtTable (r .events) (b .events) i (getD (q .events) i (Align 0 0 0))). rw (a .is) (table-known i (a .below)))
-        (λ (a : AtPool (r .constants) (r .asked) (b .code) (b .events) (b .asked) i (getD (q .events) i (Align 0 0 0))). rw (a .is) tt)
-        (event-at (r .events) (r .constants) (r .asked) (b .code) (b .events) (b .asked) i (Align 0 0 0) (omega (arith, many)))
+        (λ (a : AtTable (r .events) (b .events) i (getD (q .events) i noEvent)). rw (a .is) (table-known i (a .below)))
+        (λ (a : AtPool (r .constants) (r .asked) (b .code) (b .events) (b .asked) i (getD (q .events) i noEvent)). rw (a .is) tt)
+        (event-at (r .events) (r .constants) (r .asked) (b .code) (b .events) (b .asked) i noEvent (omega (arith, many)))
 
     -- a constant of the pool lies apart from the events
     constant-apart : (i : ℕ) → i < length (q .pool) → Apart q (constantOf q i .offset) (length (constantOf q i .bytes))
@@ -248,9 +230,9 @@ module _ (r : Recording) (s : Sound r) (few : r .buffer .asked ≤ 65536) where
           ),
           λ j l.
               ⊎-elim
-              (λ (a : AtTable (r .events) (b .events) j (getD (q .events) j (Align 0 0 0))).
+              (λ (a : AtTable (r .events) (b .events) j (getD (q .events) j noEvent)).
               inr (omega (arith, ap endOf (a .is) ∙ end-at (r .events) j, s .events .entry j (a .below) .ends, from-poolStart from ks order i)))
-              (λ (a : AtPool ks order from (b .events) (b .asked) j (getD (q .events) j (Align 0 0 0))).
+              (λ (a : AtPool ks order from (b .events) (b .asked) j (getD (q .events) j noEvent)).
               ⊎-elim
               (λ (before : i < a .number).
               inl (omega (arith, ap startOf (a .is), next, poolStart-grows from ks order (suc i) (a .number) (omega arith))))
@@ -261,11 +243,11 @@ module _ (r : Recording) (s : Sound r) (few : r .buffer .asked ≤ 65536) where
               inr (omega (arith, ap endOf (a .is), poolStart-suc from ks order (a .number), poolStart-grows from ks order (suc (a .number)) i (omega arith))))
               (eq-or-ne (a .number) i))
               (lt-or-ge i (a .number)))
-              (event-at (r .events) ks order from (b .events) (b .asked) j (Align 0 0 0) (omega (arith, many))),
+              (event-at (r .events) ks order from (b .events) (b .asked) j noEvent (omega (arith, many))),
         )
 
-    all-known : (i : ℕ) → i < length (p .events) → KnownEvent (demand.eventOf p i)
-    all-known = subst (λ (x : Pooled). (i : ℕ) → i < length (x .events) → KnownEvent (demand.eventOf x i)) (sym pooled-q) event-known
+    all-known : (i : ℕ) → i < length (p .events) → Writes (demand.eventOf p i)
+    all-known = subst (λ (x : Pooled). (i : ℕ) → i < length (x .events) → Writes (demand.eventOf x i)) (sym pooled-q) event-known
 
     ref-native : (i : ℕ) (k : LabelUse) → i < length (p .refs) → decoded (refOf p i .code) ≡ Use k → info k .x86 ≡ true
     ref-native i k h is =
@@ -284,10 +266,9 @@ module _ (r : Recording) (s : Sound r) (few : r .buffer .asked ≤ 65536) where
           recorded = omega (arith, fit .small);
           small = omega (arith, length-assembled p c, done .fits, fit .room);
           fits = none-fits p c (rounds-last (rounds-settle p));
-          bound = λ i v h is.
-              jump-bound (p .labels) (demand.eventOf p i) v is
-              (every-at (jumpBound (p .labels)) (p .events) (Align 0 0 0) (all-jumps-bound p (tables.view r .relocs) bounds) i h);
-          known = λ i v h is. subst KnownEvent is (all-known i h);
+          padded = λ e. omega (arith, ap (λ (x : Pooled). x .arch) pooled-q, e);
+          bound = jumps-bound p (tables.view r .relocs) bounds;
+          known = λ i v h is. subst Writes is (all-known i h);
           native = ref-native;
           apart = λ i h. ref-apart p (refOf p i) (every-at (refClear p) (p .refs) _ (done .clear) i h);
           pool-apart = subst (λ (x : Pooled). (i : ℕ) → i < length (x .pool) → Apart x (constantOf x i .offset) (length (constantOf x i .bytes))) (sym pooled-q) constant-apart;

@@ -3,6 +3,7 @@ use mathlib.Core.Path.{_≡_, refl}
 use mathlib.Core.List.{List, [], _∷_}
 use Prim.Native.Nat.{ℕ}
 use lib.ListN.{length}
+use Rattle.fields.specs.Words64.{signExtend}
 use Rattle.recording.specs.Calls.{Recording}
 use Rattle.fields.specs.declared.LabelUse.the-variants.{X86JmpRel32}
 use Rattle.fields.specs.Patch.{patched}
@@ -13,10 +14,10 @@ use Rattle.relax.specs.declared.Segment.{Segment}
 use Rattle.relax.specs.Events.{conditionOf, eventOf, eventAt}
 use Rattle.buffer.specs.Refusals.{standing, lastEnd}
 use Rattle.checks.specs.Entries.{all, formFits, eventFits, keptOnly, eventsFit, outside, labelFits, labelsFit, usesFit, refsFit, relocsFit, constantsFit, orderFits, entriesFit}
-use Rattle.fresh.specs.Forms.{form, width}
-use Rattle.fresh.specs.Fresh.{items, writes, ends, stands, moved}
-use Rattle.fresh.specs.Rounds.{reaches, isFar, farOf, any, settle}
-use Rattle.fresh.specs.Fill.{fillRefs, displacement, fillJump, fillJumps, fillPool, fill, assembled}
+use Rattle.fresh.specs.Forms.{form, width, roleOf, moves}
+use Rattle.fresh.specs.Fresh.{items, writes, starts, stands, moved}
+use Rattle.fresh.specs.Rounds.{jumps, reaches, isFar, farOf, any, settle}
+use Rattle.fresh.specs.Fill.{fillField, fillRefs, fillJump, fillJumps, fillPool, fill, assembled}
 use Rattle.fresh.specs.Segments.{segments}
 use Rattle.checks.specs.Lent.{countsFit, withinLimits}
 use Rattle.finish.specs.Refusals.{every, poolBoundBefore, allBound, whyNotLaid, whyNotWritten, whyUnfit}
@@ -47,12 +48,12 @@ settled-table = record { «old_start» = 0; «old_end» = 2; «new_start» = 0; 
 
 -- Finish takes it, and its code is JMP -2.
 pub met : (finish jumping table (0 ∷ 0 ∷ 0 ∷ []) .0 .refusal ≡ 0) × (finishedCode jumping table (0 ∷ 0 ∷ 0 ∷ []) ≡ 0xEB ∷ 0xFE ∷ [])
-unfolding over pick wordAt conditionOf eventOf eventAt standing lastEnd all formFits eventFits keptOnly eventsFit outside labelFits labelsFit usesFit refsFit relocsFit constantsFit orderFits entriesFit form width items writes ends stands moved reaches isFar farOf any settle fillRefs displacement fillJump fillJumps fillPool fill assembled segments every countsFit withinLimits poolBoundBefore allBound whyNotLaid whyNotWritten whyUnfit relocated relaxed placedBy finish
+unfolding over pick wordAt conditionOf eventOf eventAt standing lastEnd all formFits eventFits keptOnly eventsFit outside labelFits labelsFit usesFit refsFit relocsFit constantsFit orderFits entriesFit form width roleOf moves items writes starts stands moved jumps reaches isFar farOf any settle signExtend fillField patched fillRefs fillJump fillJumps fillPool fill assembled segments every countsFit withinLimits poolBoundBefore allBound whyNotLaid whyNotWritten whyUnfit relocated relaxed placedBy finish
 met = (refl, refl)
 
 -- Into an output of one byte it is refused with 23, after the layout: the settled segment stands in the table, and the output is as it was.
 pub refused-after-the-layout : (finish jumping table (7 ∷ []) .0 .refusal ≡ 23) × (finish jumping table (7 ∷ []) .1 .1 .1 ≡ (settled-table, (7 ∷ [])))
-unfolding over pick wordAt conditionOf eventOf eventAt standing lastEnd all formFits eventFits keptOnly eventsFit outside labelFits labelsFit usesFit refsFit relocsFit constantsFit orderFits entriesFit form width items writes ends stands moved reaches isFar farOf any settle fillRefs displacement fillJump fillJumps fillPool fill assembled segments every countsFit withinLimits poolBoundBefore allBound whyNotLaid whyNotWritten whyUnfit relocated relaxed placedBy finish
+unfolding over pick wordAt conditionOf eventOf eventAt standing lastEnd all formFits eventFits keptOnly eventsFit outside labelFits labelsFit usesFit refsFit relocsFit constantsFit orderFits entriesFit form width roleOf moves items writes starts stands moved jumps reaches isFar farOf any settle signExtend fillField patched fillRefs fillJump fillJumps fillPool fill assembled segments every countsFit withinLimits poolBoundBefore allBound whyNotLaid whyNotWritten whyUnfit relocated relaxed placedBy finish
 refused-after-the-layout = (refl, refl)
 
 -- A ref "ignores the field": what its four bytes held before makes no difference, so a program that adds it is refused.

@@ -3,7 +3,7 @@ use mathlib.Core.Path.{_≡_, refl, sym, ap, _∙_}
 use mathlib.Core.Logic.{_≢_, ⊎-elim}
 use mathlib.Core.Bool.{Bool, false}
 use mathlib.Core.List.{List, [], _∷_}
-use Prim.Native.Nat.{ℕ, zero, suc, _+_, _-_, _≤_, _<_}
+use Prim.Native.Nat.{ℕ, zero, suc, _+_, _≤_, _<_}
 use native.Mathlib.Omega.{arith}
 use lib.ListN.{length, getD, take, drop, length-drop, length-take}
 use lib.Seq.{length-take-le}
@@ -18,17 +18,18 @@ use Rattle.fields.specs.Kinds.{decoded, patchSize}
 use Rattle.fields.specs.Patch.{patched, patchedUse, heldAddend}
 use Rattle.fields.proofs.Patching.{patched-other}
 use Rattle.relax.specs.declared.LayoutEvent.{LayoutEvent}
-use Rattle.relax.specs.declared.LayoutEvent.the-variants.{Jump, Align}
-use Rattle.relax.specs.declared.RelaxableJump.{RelaxableJump}
+use Rattle.relax.specs.Events.{noEvent}
 use Rattle.buffer.specs.State.{none}
 use Rattle.recording.specs.View as tables
 use Rattle.fresh.specs.Pooled.{Placed}
 use Rattle.fresh.specs.Fresh.{Choice, isLong, others}
-use Rattle.fresh.specs.Rounds.{firstEnd, otherEnds}
-use Rattle.fresh.specs.Fill.{part, fillField, fillRefs, displacementSize, displacement, fillJump, fillJumps, fillPool, fillUse, fillUses}
-use Rattle.fresh.proofs.Choices.{isLong-getD, others-getD, firstEnd-getD, otherEnds-getD}
-use Rattle.fresh.proofs.Fill.{length-fillField, length-fillUse}
-use Rattle.fresh.proofs.Past.{length-patched, length-displacement}
+use Rattle.fresh.specs.Rounds.{firstStart, otherStarts}
+use Rattle.fresh.specs.Fill.{part, fillField, fillRefs, fillJump, fillJumps, fillPool, fillUse, fillUses}
+use Rattle.fresh.proofs.Choices.{isLong-getD, others-getD, firstStart-getD, otherStarts-getD}
+use Rattle.fresh.proofs.Fill.{length-fillField, length-fillUse, fillJump-pads, fillJump-branch, length-fillJump}
+use Rattle.fresh.proofs.Past.{length-patched}
+use Rattle.fresh.specs.Forms.{Branch, fieldOf, branches, roleOf}
+use Rattle.fresh.proofs.Tests.{by-role}
 use Rattle.checks.specs.Fields.{sizeOf}
 use Rattle.demands.specs.Demand2.{Disjoint}
 
@@ -106,25 +107,25 @@ pool-kept at (k ∷ ks) l a n z miss =
     pool-kept at ks _ a n z (λ j h. miss (suc j) (omega arith))
     ∙ part-kept l (at (k .offset)) (k .bytes) (length (k .bytes)) a n (omega arith) (miss 0 (omega arith))
 
-jump-kept : (at : ℕ → ℕ) (labels : List ℕ) (e : LayoutEvent) (long : Bool) (end a n : ℕ) (l : List ℕ)
-    → ((v : RelaxableJump) → e ≡ Jump v → Disjoint a n (end - displacementSize long) (displacementSize long))
-    → part (fillJump at labels e long end l) a n ≡ part l a n
-unfolding fillJump
-jump-kept at labels (Jump v) long end a n l miss =
-    part-kept l (end - displacementSize long) _ (displacementSize long) a n
-    (omega (arith, length-displacement long end (at (getD labels (v .label) none)))) (miss v refl)
-jump-kept at labels (Align start len align) long end a n l miss = refl
+-- the field of a jump
+abbrev pub FieldMisses : LayoutEvent → Bool → ℕ → ℕ → ℕ → Type 0
+FieldMisses e long start a n = (b : Branch) → roleOf e ≡ branches b → Disjoint a n (start + fieldOf b long .place) (patchSize (fieldOf b long .kind))
 
-pub jumps-kept : (at : ℕ → ℕ) (labels : List ℕ) (es : List LayoutEvent) (c : Choice) (ends l : List ℕ) (a n : ℕ)
-    → ((j : ℕ) (v : RelaxableJump) → j < length es → getD es j (Align 0 0 0) ≡ Jump v
-    → Disjoint a n (getD ends j 0 - displacementSize (getD c j false)) (displacementSize (getD c j false)))
-    → part (fillJumps at labels es c ends l) a n ≡ part l a n
+jump-kept : (at : ℕ → ℕ) (e : LayoutEvent) (long : Bool) (start a n : ℕ) (l : List ℕ) → FieldMisses e long start a n
+    → part (fillJump at e long start l) a n ≡ part l a n
+jump-kept at e long start a n l miss = by-role e
+    (λ r. ap (λ (x : List ℕ). part x a n) (fillJump-pads at e long start l r))
+    (λ b r. ap (λ (x : List ℕ). part x a n) (fillJump-branch at e b long start l r)
+    ∙ field-kept (Use (fieldOf b long .kind)) (start + fieldOf b long .place) (at (b .label)) 0 a n l (miss b r))
+
+pub jumps-kept : (at : ℕ → ℕ) (es : List LayoutEvent) (c : Choice) (starts l : List ℕ) (a n : ℕ)
+    → ((j : ℕ) → j < length es → FieldMisses (getD es j noEvent) (getD c j false) (getD starts j 0) a n)
+    → part (fillJumps at es c starts l) a n ≡ part l a n
 unfolding fillJumps
-jumps-kept at labels [] c ends l a n miss = refl
-jumps-kept at labels (e ∷ es) c ends l a n miss =
-    jumps-kept at labels es (others c) (otherEnds ends) _ a n
-    (λ j v h is. rw (others-getD c j, otherEnds-getD ends j) (miss (suc j) v (omega arith) is))
-    ∙ jump-kept at labels e (isLong c) (firstEnd ends) a n l (λ v is. rw (isLong-getD c, firstEnd-getD ends) (miss 0 v (omega arith) is))
+jumps-kept at [] c starts l a n miss = refl
+jumps-kept at (e ∷ es) c starts l a n miss =
+    jumps-kept at es (others c) (otherStarts starts) _ a n (λ j h. rw (others-getD c j, otherStarts-getD starts j) (miss (suc j) (omega arith)))
+    ∙ jump-kept at e (isLong c) (firstStart starts) a n l (rw (isLong-getD c, firstStart-getD starts) (miss 0 (omega arith)))
 
 -- what fills the field of a ref: the patched bytes of a field of its kind
 pub record Filled (k : LabelUse) (offset target : ℕ) (now : List ℕ) : Type 0 where
@@ -208,24 +209,39 @@ take-inner (x ∷ l) (suc n) (suc q) ys = ap (λ (t : List ℕ). x ∷ t) (take-
 part-inner : (l : List ℕ) (a n q : ℕ) (ys : List ℕ) → part (over l (a + q) ys) a n ≡ over (part l a n) q ys
 part-inner l a n q ys = ap (take n) (drop-inner l a q ys) ∙ take-inner (drop a l) n q ys
 
--- The bytes of a jump that no other jump's displacement covers are those that stood there, its own displacement written at their end.
-pub jump-filled : (at : ℕ → ℕ) (labels : List ℕ) (es : List LayoutEvent) (c : Choice) (ends l : List ℕ) (i start n : ℕ) (v : RelaxableJump)
-    → i < length es → getD es i (Align 0 0 0) ≡ Jump v → getD ends i 0 ≡ start + n → displacementSize (getD c i false) ≤ n
-    → ((j : ℕ) (w : RelaxableJump) → j ≢ i → j < length es → getD es j (Align 0 0 0) ≡ Jump w
-    → Disjoint start n (getD ends j 0 - displacementSize (getD c j false)) (displacementSize (getD c j false)))
-    → part (fillJumps at labels es c ends l) start n
-    ≡ over (part l start n) (n - displacementSize (getD c i false)) (displacement (getD c i false) (start + n) (at (getD labels (v .label) none)))
-unfolding fillJumps fillJump
-jump-filled at labels [] c ends l i start n v h is end room miss = absurd (omega arith)
-jump-filled at labels (e ∷ es) c ends l zero start n v h is end room miss =
-    let place : start + n - displacementSize (getD c 0 false) ≡ start + (n - displacementSize (getD c 0 false)) = omega arith in
-    jumps-kept at labels es (others c) (otherEnds ends) _ start n
-    (λ j w q t. rw (others-getD c j, otherEnds-getD ends j) (miss (suc j) w (λ z. omega arith) (omega arith) t))
-    ∙ rw (is, isLong-getD c, firstEnd-getD ends, end, place)
-    (part-inner l start n (n - displacementSize (getD c 0 false)) (displacement (getD c 0 false) (start + n) (at (getD labels (v .label) none))))
-jump-filled at labels (e ∷ es) c ends l (suc i) start n v h is end room miss =
-    rw (← others-getD c i)
-    (jump-filled at labels es (others c) (otherEnds ends) _ i start n v (omega arith) is (otherEnds-getD ends i ∙ end) (rw (others-getD c i) room)
-    (λ j w q t u. rw (others-getD c j, otherEnds-getD ends j) (miss (suc j) w (λ z. q (omega arith)) (omega arith) u))
-    ∙ ap (λ (x : List ℕ). over x (n - displacementSize (getD (others c) i false)) (displacement (getD (others c) i false) (start + n) (at (getD labels (v .label) none))))
-    (jump-kept at labels e (isLong c) (firstEnd ends) start n l (λ w t. rw (isLong-getD c, firstEnd-getD ends) (miss 0 w (λ z. omega arith) (omega arith) t))))
+-- The bytes of a jump that no other jump's field covers are those that stood there, its own field patched.
+pub record JumpFilled (b : Branch) (long : Bool) (start n label : ℕ) (before now : List ℕ) : Type 0 where
+  pub held : List ℕ
+  pub size : length held ≡ patchSize (fieldOf b long .kind)
+  pub is : now ≡ over before (fieldOf b long .place) (patched (fieldOf b long .kind) (start + fieldOf b long .place) (plus label 0) held)
+
+one-filled : (at : ℕ → ℕ) (e : LayoutEvent) (b : Branch) (long : Bool) (start n : ℕ) (l : List ℕ) → roleOf e ≡ branches b
+    → start + fieldOf b long .place + patchSize (fieldOf b long .kind) ≤ length l
+    → JumpFilled b long start n (at (b .label)) (part l start n) (part (fillJump at e long start l) start n)
+unfolding fillField signExtend
+one-filled at e b long start n l r room =
+    record {
+      held = part l (start + fieldOf b long .place) (patchSize (fieldOf b long .kind));
+      size = length-part l (start + fieldOf b long .place) (patchSize (fieldOf b long .kind)) room;
+      is = ap (λ (x : List ℕ). part x start n) (fillJump-branch at e b long start l r) ∙ part-inner l start n (fieldOf b long .place) _;
+    }
+
+pub jump-filled : (at : ℕ → ℕ) (es : List LayoutEvent) (c : Choice) (starts l : List ℕ) (i n : ℕ) (b : Branch) → i < length es
+    → roleOf (getD es i noEvent) ≡ branches b
+    → getD starts i 0 + fieldOf b (getD c i false) .place + patchSize (fieldOf b (getD c i false) .kind) ≤ length l
+    → ((j : ℕ) → j ≢ i → j < length es → FieldMisses (getD es j noEvent) (getD c j false) (getD starts j 0) (getD starts i 0) n)
+    → JumpFilled b (getD c i false) (getD starts i 0) n (at (b .label)) (part l (getD starts i 0) n) (part (fillJumps at es c starts l) (getD starts i 0) n)
+unfolding fillJumps
+jump-filled at [] c starts l i n b h r room miss = absurd (omega arith)
+jump-filled at (e ∷ es) c starts l zero n b h r room miss =
+    rw (jumps-kept at es (others c) (otherStarts starts) (fillJump at e (isLong c) (firstStart starts) l) (getD starts 0 0) n
+    (λ j q. rw (others-getD c j, otherStarts-getD starts j) (miss (suc j) (λ z. omega arith) (omega arith))))
+    (rw (isLong-getD c, firstStart-getD starts) (one-filled at e b (getD c 0 false) (getD starts 0 0) n l r room))
+jump-filled at (e ∷ es) c starts l (suc i) n b h r room miss =
+    let rest =
+    jump-filled at es (others c) (otherStarts starts) (fillJump at e (isLong c) (firstStart starts) l) i n b (omega arith) r
+    (rw (others-getD c i, otherStarts-getD starts i, length-fillJump at e (isLong c) (firstStart starts) l) room)
+    (λ j q w. rw (others-getD c j, otherStarts-getD starts j, otherStarts-getD starts i) (miss (suc j) (λ z. q (omega arith)) (omega arith))) in
+    let same = jump-kept at e (isLong c) (firstStart starts) (getD starts (suc i) 0) n l
+    (rw (isLong-getD c, firstStart-getD starts) (miss 0 (λ z. omega arith) (omega arith))) in
+    rw same at (rw (others-getD c i, otherStarts-getD starts i) at rest)

@@ -54,7 +54,7 @@ use Rattle.recording.proofs.Steps.{either}
 use Rattle.recording.proofs.Laws.{see-align, see-align-elsewhere}
 use Rattle.fresh.specs.Pooled.{pooledOne, pooledTo, pooled}
 use Rattle.fresh.specs.Fill.{part}
-use Rattle.finish.specs.Refusals.{hasJump}
+use Rattle.fresh.specs.Forms.{moves}
 use Rattle.finish.specs.Finish.{finish}
 use Rattle.demands.specs.Demand2.{AlignPadded, finishedCode}
 use Rattle.demands.proofs.Placing.{part-between}
@@ -165,7 +165,7 @@ aligned r s m e =
 -- Without a jump: the padding of an alignment recorded by a call, whatever calls follow, where no use and no constant covers it.
 pub recorded-padding : (r : Recording) → Sound r → (m : Word) → answered (align m) r ≡ 0 → (later : List Call) (ss : List Segment) (output : List ℕ)
     → finish (afterAll later (after (align m) r)) ss output .0 .refusal ≡ 0
-    → hasJump (pooled (afterAll later (after (align m) r) .buffer .arch) (view (afterAll later (after (align m) r)))) ≡ false
+    → moves (pooled (afterAll later (after (align m) r) .buffer .arch) (view (afterAll later (after (align m) r))) .events) ≡ false
     → AlignPadded r (m .value) (pooled (afterAll later (after (align m) r) .buffer .arch) (view (afterAll later (after (align m) r))))
     (finishedCode (afterAll later (after (align m) r)) ss output)
 recorded-padding r s m e later ss output done none uses constants =

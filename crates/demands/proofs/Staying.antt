@@ -39,7 +39,7 @@ use Rattle.fresh.proofs.Fill.{length-fillUses}
 use Rattle.demands.specs.Demand2.{Bytes, useOf, UseMisses, ConstantMisses, Means, heldBy, InPlace, IsPadding, padStart, padLength, PoolPadded}
 use Rattle.demands.proofs.Kept.{length-part, uses-kept, pool-kept, use-filled}
 use Rattle.demands.proofs.Placing.{part-between}
-use Rattle.demands.proofs.Bytes.{bytes-part, bytes-filled}
+use Rattle.demands.proofs.Bytes.{bytes-part, bytes-filled, pooled-arch}
 
 abbrev here : ℕ → ℕ
 here offset = offset
@@ -141,16 +141,18 @@ unfolding pooledOne
 padded arch v j zero h = absurd (omega arith)
 padded arch v j (suc n) h =
     ⊎-elim
-    (λ (e : j ≡ n). rw e (record { after = replicate (length (askedConstant v n .bytes)) 0; is = refl }))
+    (λ (e : j ≡ n).
+    rw e (record { after = replicate (length (askedConstant v n .bytes)) 0; is = rw (pooled-arch arch v n) refl }))
     (λ (ne : j ≢ n).
     let q = padded arch v j n (omega arith) in
     let more : List ℕ = padding arch (padLength arch v n) ++ replicate (length (askedConstant v n .bytes)) 0 in
     record {
       after = q .after ++ more;
       is =
-          ap (λ (l : List ℕ). l ++ more) (q .is)
+          rw (pooled-arch arch v n)
+          (ap (λ (l : List ℕ). l ++ more) (q .is)
           ∙ append-assoc (pooledTo arch v j .code) (padding arch (padLength arch v j) ++ q .after) more
-          ∙ ap (λ (l : List ℕ). pooledTo arch v j .code ++ l) (append-assoc (padding arch (padLength arch v j)) (q .after) more);
+          ∙ ap (λ (l : List ℕ). pooledTo arch v j .code ++ l) (append-assoc (padding arch (padLength arch v j)) (q .after) more));
     })
     (eq-or-ne j n)
 

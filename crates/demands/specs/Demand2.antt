@@ -4,7 +4,7 @@ use mathlib.Core.Path.{_≡_}
 use mathlib.Core.Logic.{_≢_}
 use mathlib.Core.Bool.{true, false}
 use mathlib.Core.List.{List, [], _∷_}
-use Prim.Native.Nat.{ℕ, suc, _+_, _-_, _%_, _≤_, _<_}
+use Prim.Native.Nat.{ℕ, _+_, _-_, _%_, _≤_, _<_}
 use lib.ListN.{length, getD, take, replicate}
 use Rattle.words.specs.Words.{wordAt}
 use Rattle.encoder.specs.Padding.{paddingLength}
@@ -18,16 +18,17 @@ use Rattle.relax.specs.declared.LayoutEvent.{LayoutEvent}
 use Rattle.relax.specs.declared.LayoutEvent.the-variants.{Jump, Align}
 use Rattle.relax.specs.declared.Segment.{Segment}
 use Rattle.relax.specs.declared.RelaxableJump.{RelaxableJump}
+use Rattle.relax.specs.Events.{noEvent}
+use Rattle.relax.specs.declared.Alignment.{Alignment}
 use Rattle.buffer.specs.State.{none}
 use Rattle.recording.specs.Calls.{Recording}
 use Rattle.recording.specs.View as tables
 use Rattle.fresh.specs.Pooled.{constantAlignment, Placed, Pooled, askedConstant, pooledTo, pooled}
-use Rattle.fresh.specs.Forms.{width}
-use Rattle.fresh.specs.Fresh.{Choice, isLong, others, Item, plain, event, ends, walk, moved, target}
+use Rattle.fresh.specs.Forms.{width, moves}
+use Rattle.fresh.specs.Fresh.{Choice, walk, moved, target, starts}
 use Rattle.fresh.specs.Rounds.{settled}
 use Rattle.fresh.specs.Fill.{part, fillUses}
 use Rattle.checks.specs.Fields.{sizeOf}
-use Rattle.finish.specs.Refusals.{hasJump}
 use Rattle.finish.specs.Finish.{finish}
 use Rattle.demands.specs.Reading.{Reads}
 
@@ -47,23 +48,17 @@ abbrev pub refOf : Pooled → ℕ → tables.Ref
 refOf p i = getD (p .refs) i (record { offset = 0; label = 0; code = 0; addend = 0 })
 
 abbrev pub eventOf : Pooled → ℕ → LayoutEvent
-eventOf p i = getD (p .events) i (Align 0 0 0)
+eventOf p i = getD (p .events) i noEvent
 
 abbrev pub constantOf : Pooled → ℕ → Placed
 constantOf p i = getD (p .pool) i (record { offset = 0; bytes = [] })
 
--- the new offset at which each event starts, in order
-unfoldable pub starts : ℕ → List Item → Choice → List ℕ
-starts n [] c = []
-starts n (plain b ∷ is) c = starts (suc n) is c
-starts n (event e ∷ is) c = n ∷ starts (n + width e (isLong c) n) is (others c)
-
--- where event i starts and ends in the code of a choice
+-- where event i starts and ends in the code of a choice: it takes the bytes of its form, a jump those of its short or long one as the choice says
 abbrev pub newStart : Pooled → Choice → ℕ → ℕ
 newStart p c i = getD (starts 0 (walk p) c) i 0
 
 abbrev pub newEnd : Pooled → Choice → ℕ → ℕ
-newEnd p c i = getD (ends 0 (walk p) c) i 0
+newEnd p c i = newStart p c i + width (eventOf p i) (getD c i false) (newStart p c i)
 
 -- the field of ref j, the field of use j, or the bytes of constant j cover none of the n bytes from a on
 abbrev pub RefMisses : Pooled → Choice → ℕ → ℕ → ℕ → Type 0
@@ -92,10 +87,9 @@ pub record Relaxed (p : Pooled) (c : Choice) (code : List ℕ) : Type 0 where
   pub jumps : (i : ℕ) (v : RelaxableJump) → i < length (p .events) → eventOf p i ≡ Jump v → (base : ℕ)
       → Reads (plus base (newStart p c i)) (part code (newStart p c i) (newEnd p c i - newStart p c i)) (v .cc) (plus base (target p c (v .label)))
   -- all padding, an alignment's or a pooled constant's, is NOPs; nothing covers it
-  pub padding : (i start len align : ℕ) → i < length (p .events) → eventOf p i ≡ Align start len align
+  pub padding : (i : ℕ) (a : Alignment) → i < length (p .events) → eventOf p i ≡ Align a
       → AreNops (part code (newStart p c i) (newEnd p c i - newStart p c i))
-  -- an event takes the bytes from its new start to its new end, a jump those of its short or long form as the choice says
-  pub widths : (i : ℕ) → i < length (p .events) → newEnd p c i ≡ newStart p c i + width (eventOf p i) (getD c i false) (newStart p c i)
+  -- and all of it lies within the code
   pub within : (i : ℕ) → i < length (p .events) → newEnd p c i ≤ length code
 
 -- what stands in the field of use i, of kind k, when its turn comes
@@ -152,7 +146,7 @@ finishedCode r ss output = take (finish r ss output .0 .code .len) (finish r ss 
 
 -- of the finished code of a recording
 pub record Demand2 (r : Recording) (code : List ℕ) : Type 0 where
-  pub jumped : hasJump (pooled (r .buffer .arch) (tables.view r)) ≡ true
+  pub jumped : moves (pooled (r .buffer .arch) (tables.view r) .events) ≡ true
       → Relaxed (pooled (r .buffer .arch) (tables.view r)) (settled (pooled (r .buffer .arch) (tables.view r)) .choice) code
-  pub straight : hasJump (pooled (r .buffer .arch) (tables.view r)) ≡ false
+  pub straight : moves (pooled (r .buffer .arch) (tables.view r) .events) ≡ false
       → InPlace (pooled (r .buffer .arch) (tables.view r)) code × PoolPadded (r .buffer .arch) (tables.view r) code

@@ -1,22 +1,19 @@
--- Fields: a part that was lent, patched and is back, and a jump's displacement as a field of its size.
-use mathlib.Core.Path.{_≡_, refl, sym, ap, _∙_}
-use mathlib.Core.Bool.{Bool, true, false}
+-- Fields: a part that was lent, patched and is back.
+use mathlib.Core.Path.{_≡_, ap, _∙_}
 use mathlib.Core.List.{List, [], _∷_, _++_}
 use Prim.Native.Nat.{ℕ, _+_, _-_, _%_, _≤_, _<_}
-use native.Mathlib.Nat.{mod-eq-of-lt, mod-add-mod, add-mod-right}
 use native.Mathlib.Omega.{arith}
 use lib.ListN.{length, take, drop, length-take, length-drop}
 use Rattle.seqs.specs.Over.{over}
-use Rattle.seqs.proofs.Overwrites.{over-mid, length-over}
+use Rattle.seqs.proofs.Overwrites.{over-mid}
 use Rattle.fields.specs.declared.LabelUse.{LabelUse}
-use Rattle.fields.specs.declared.LabelUse.the-variants.{X86JmpRel32, X86BranchRel8}
 use Rattle.fields.specs.declared.Decoded.{Decoded}
 use Rattle.fields.specs.declared.Decoded.the-variants.{Use, Unsupported, Unknown}
-use Rattle.fields.specs.Words64.{plus, minus, signExtend, modulus}
+use Rattle.fields.specs.Words64.{plus, signExtend}
 use Rattle.fields.specs.Kinds.{patchSize}
 use Rattle.fields.specs.Patch.{patched, patchedUse, heldAddend}
-use Rattle.fresh.specs.Fill.{part, fillField, fillUse, displacementSize, displacement}
-use Rattle.fresh.proofs.Past.{length-patched, length-displacement}
+use Rattle.fresh.specs.Fill.{part, fillField, fillUse}
+use Rattle.fresh.proofs.Past.{length-patched}
 use Rattle.emit.specs.Emit.{Within}
 
 part-length : (xs : List ℕ) (at k : ℕ) → at + k ≤ length xs → length (take k (drop at xs)) ≡ k
@@ -69,53 +66,3 @@ used-unknown d offset label l e = rw e
 
 pub within-of : (d : Decoded) (kind : LabelUse) (offset room : ℕ) → d ≡ Use kind → Within d offset room → offset + patchSize kind ≤ room
 within-of d kind offset room e h = rw e at h
-
--- lengths stay
-pub length-fillField : (d : Decoded) (offset label addend : ℕ) (l : List ℕ) → length (fillField d offset label addend l) ≡ length l
-unfolding fillField
-length-fillField (Use k) offset label addend l = length-over l offset (patched k offset (plus label (signExtend 32 addend)) (part l offset (patchSize k)))
-length-fillField Unsupported offset label addend l = refl
-length-fillField Unknown offset label addend l = refl
-
-pub length-fillUse : (d : Decoded) (offset label : ℕ) (l : List ℕ) → length (fillUse d offset label l) ≡ length l
-unfolding fillUse
-length-fillUse (Use k) offset label l = length-over l offset (patchedUse k offset label (part l offset (patchSize k)))
-length-fillUse Unsupported offset label l = refl
-length-fillUse Unknown offset label l = refl
-
--- a displacement counts from the end of its field
-two-steps : (label end k : ℕ) → k ≤ 4 → k ≤ end → end < 4294967296 → label < 4294967296
-    → minus (minus (plus label 0) (end - k)) k ≡ minus label end
-two-steps label end k a b h g =
-    let t : plus label 0 ≡ label = mod-eq-of-lt {n = label + 0} {m = modulus} (omega arith) ∙ omega arith in
-    let s : label + (modulus - (end - k)) + (modulus - k) ≡ label + (modulus - end) + modulus = omega arith in
-    rw t (mod-add-mod (label + (modulus - (end - k))) modulus (modulus - k) ∙ ap (λ (n : ℕ). n % modulus) s ∙ add-mod-right (label + (modulus - end)) modulus)
-
-pub long-displacement : (end label : ℕ) (bytes : List ℕ) → length bytes ≡ 4 → 4 ≤ end → end < 4294967296 → label < 4294967296
-    → patched X86JmpRel32 (end - 4) (plus label 0) bytes ≡ displacement true end label
-unfolding patched displacement
-long-displacement end label bytes l h e g = rw (l, two-steps label end 4 (omega arith) h e g)
-
-pub short-displacement : (end label : ℕ) (bytes : List ℕ) → length bytes ≡ 1 → 1 ≤ end → end < 4294967296 → label < 4294967296
-    → patched X86BranchRel8 (end - 1) (plus label 0) bytes ≡ displacement false end label
-unfolding patched displacement
-short-displacement end label bytes l h e g =
-    let m : minus label end % 256 % 256 ≡ minus label end % 4294967296 % 256 = omega arith in
-    rw (l, two-steps label end 1 (omega arith) h e g) (ap (λ (n : ℕ). n ∷ []) m)
-
--- lent as the last bytes before the end
-pub displaced : (xs field : List ℕ) (long : Bool) (kind : LabelUse) (end label : ℕ) → displacementSize long ≤ end → end ≤ length xs
-    → ((bytes : List ℕ) → length bytes ≡ displacementSize long → patched kind (end - displacementSize long) (plus label 0) bytes ≡ displacement long end label)
-    → let at = end - displacementSize long in field ≡ patched kind at (plus label 0) (take (end - at) (drop at xs))
-    → take at xs ++ (field ++ drop (end - at) (drop at xs)) ≡ over xs at (displacement long end label)
-displaced xs field long kind end label h r is f =
-    let at = end - displacementSize long in
-    let k : end - at ≡ displacementSize long = omega arith in
-    let e : field ≡ displacement long end label = f ∙ is (take (end - at) (drop at xs)) (part-length xs at (end - at) (omega arith) ∙ k) in
-    rw e (over-mid xs at (end - at) (displacement long end label) (length-displacement long end label ∙ sym k) (omega arith))
-
-pub long-end : (long : Bool) (end : ℕ) → long ≡ true → displacementSize long ≤ end → 4 ≤ end
-long-end long end e h = rw e at h
-
-pub short-end : (long : Bool) (end : ℕ) → long ≡ false → displacementSize long ≤ end → 1 ≤ end
-short-end long end e h = rw e at h

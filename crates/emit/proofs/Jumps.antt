@@ -6,15 +6,16 @@ use Prim.Native.Nat.{ℕ, _+_, _≤_, _<_}
 use borrow.Author.Count.{below-none, below-more}
 use lib.Dec.{lit≤}
 use lib.ListN.{length, getD, set, replicate, length-replicate}
+use Rattle.relax.specs.declared.Alignment.{Alignment}
 use Rattle.relax.specs.declared.Condition.{Condition}
 use Rattle.relax.specs.declared.Condition.the-variants.{Always, On}
 use Rattle.relax.specs.declared.RelaxableJump.{RelaxableJump}
 use Rattle.relax.specs.declared.LayoutEvent.{LayoutEvent}
 use Rattle.relax.specs.declared.LayoutEvent.the-variants.{Jump, Align}
 use Rattle.fresh.specs.Forms.{shortForm, longForm, form, width}
-use Rattle.encoder.specs.Nops.{nops}
 use Rattle.encoder.specs.Padding.{paddingLength}
-use Rattle.encoder.proofs.Nops.{nops-length}
+use Rattle.buffer.specs.Calls.{padding}
+use Rattle.fresh.proofs.Forms.{length-form}
 use Rattle.emit.specs.Emit.{jumpForm, Encodes, Writes}
 
 -- the opcodes of the long conditional jumps
@@ -83,16 +84,16 @@ put-on cc c part zeros e o f h =
 pub jump-writes : (event : LayoutEvent) (j : RelaxableJump) → event ≡ Jump j → Writes event → Encodes (j .cc)
 jump-writes event j e h = rw e at h
 
-pub jump-form : (event : LayoutEvent) (j : RelaxableJump) (long : Bool) (at : ℕ) → event ≡ Jump j → jumpForm (j .cc) long ≡ form event long at
+pub jump-form : (event : LayoutEvent) (j : RelaxableJump) (long : Bool) (at arch : ℕ) (bytes : List ℕ) → event ≡ Jump j
+    → jumpForm (j .cc) long ≡ form arch event bytes long at
 unfolding form
-jump-form event j true at e = rw e
-jump-form event j false at e = rw e
+jump-form event j true at arch bytes e = rw e
+jump-form event j false at arch bytes e = rw e
 
 pub jump-width : (event : LayoutEvent) (j : RelaxableJump) (long : Bool) (at n : ℕ) → event ≡ Jump j → n ≡ width event long at → n ≡ length (jumpForm (j .cc) long)
-unfolding width
-jump-width event j long at n e h = h ∙ ap length (sym (jump-form event j long at e))
+jump-width event j long at n e h = h ∙ (sym (length-form 0 event [] long at) ∙ ap length (sym (jump-form event j long at 0 [] e)))
 
-pub align-form : (event : LayoutEvent) (start len align : ℕ) (long : Bool) (at : ℕ) (part : List ℕ) → event ≡ Align start len align
-    → length part ≡ width event long at → nops (length part) ≡ form event long at
+pub align-form : (event : LayoutEvent) (a : Alignment) (long : Bool) (at arch : ℕ) (bytes part : List ℕ) → event ≡ Align a
+    → length part ≡ width event long at → padding arch (length part) ≡ form arch event bytes long at
 unfolding form width
-align-form event start len align long at part e h = let l : length part ≡ paddingLength at align = (rw e at h) ∙ nops-length (paddingLength at align) in rw (l, e)
+align-form event a long at arch bytes part e h = let l : length part ≡ paddingLength at (a .align) = rw e at h in rw (l, e)

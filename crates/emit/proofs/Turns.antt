@@ -3,23 +3,18 @@ use mathlib.Core.Path.{_≡_, refl, _∙_}
 use mathlib.Core.Logic.{_≢_, ⊎-elim}
 use mathlib.Core.Bool.{Bool, true, false, _&&_}
 use mathlib.Core.List.{List}
-use Prim.Native.Nat.{ℕ, zero, suc, _+_, _*_, _-_, _≤_, _<_}
+use Prim.Native.Nat.{ℕ, zero, suc, _+_, _*_, _≤_, _<_}
 use native.Mathlib.Nat.{not-suc-le-zero, mul-lt-mul-of-pos-right}
 use native.Mathlib.Numerals.{add-one}
 use native.Mathlib.Omega.{arith}
-use lib.ListN.{length, getD}
-use Rattle.seqs.specs.Over.{over}
+use lib.ListN.{getD}
 use Rattle.seqs.proofs.Numbers.{eq-or-ne}
-use Rattle.seqs.proofs.Overwrites.{length-over}
 use Rattle.words.specs.Words.{wordAt, setWord}
 use Rattle.words.proofs.Laws.{wordAt-other}
-use Rattle.relax.specs.declared.RelaxableJump.{RelaxableJump}
-use Rattle.relax.specs.declared.LayoutEvent.{LayoutEvent}
-use Rattle.relax.specs.declared.LayoutEvent.the-variants.{Jump, Align}
 use Rattle.relax.specs.declared.Segment.{Segment}
 use Rattle.relax.specs.Events.{eventAt}
-use Rattle.fresh.specs.Fill.{displacementSize, displacement}
-use Rattle.emit.specs.Emit.{useFilled, usesFilled, refAt, refFilled, refsFilled, refReaches, refsReach, jumpFilled, jumpsFilled, endAt, JumpWithin, mappedWords}
+use Rattle.fresh.specs.Fill.{fillJump}
+use Rattle.emit.specs.Emit.{useFilled, usesFilled, refAt, refFilled, refsFilled, refReaches, refsReach, jumpsFilled, startAt, mappedWords}
 
 pub uses-turn : (output uses labels : List ℕ) (i : ℕ) (now next : List ℕ) → now ≡ usesFilled output uses labels i → next ≡ useFilled uses labels i now
     → next ≡ usesFilled output uses labels (i + 1)
@@ -32,15 +27,10 @@ unfolding refsFilled
 refs-turn output refs labels ss n i now next e f = f ∙ rw (e, add-one i)
 
 pub jumps-turn : (output events labels : List ℕ) (long : List Bool) (ss : List Segment) (i : ℕ) (now next : List ℕ)
-    → now ≡ jumpsFilled output events labels long ss i → next ≡ jumpFilled labels (eventAt events i) (getD long i false) (endAt ss i) now
+    → now ≡ jumpsFilled output events labels long ss i → next ≡ fillJump (wordAt labels) (eventAt events i) (getD long i false) (startAt ss i) now
     → next ≡ jumpsFilled output events labels long ss (i + 1)
 unfolding jumpsFilled
 jumps-turn output events labels long ss i now next e f = f ∙ rw (e, add-one i)
-
-pub length-jumpFilled : (labels : List ℕ) (event : LayoutEvent) (long : Bool) (end : ℕ) (l : List ℕ) → length (jumpFilled labels event long end l) ≡ length l
-unfolding jumpFilled
-length-jumpFilled labels (Jump j) long end l = length-over l (end - displacementSize long) (displacement long end (wordAt labels (j .label)))
-length-jumpFilled labels (Align start len align) long end l = refl
 
 and-false : (t : Bool) → (t && false) ≡ false
 and-false true = refl
@@ -81,18 +71,3 @@ unfolding mappedWords
 mapped-turn f t stride i now next offset mapped e h o m n =
     let k : offset ≡ wordAt t (i * stride) = o ∙ mapped-next f t stride i now e h in
     n ∙ rw (m, k, e, add-one i)
-
--- a jump's label and displacement, and an alignment, which is passed over
-pub jump-fits : (event : LayoutEvent) (j : RelaxableJump) (long : Bool) (end : ℕ) (labels : List ℕ) (room : ℕ) → event ≡ Jump j
-    → JumpWithin event long end labels room → (j .label * 4 + 4 ≤ length labels) × (displacementSize long ≤ end) × (end ≤ room)
-jump-fits event j long end labels room e h = rw e at h
-
-pub jump-filled : (labels : List ℕ) (event : LayoutEvent) (j : RelaxableJump) (long : Bool) (end : ℕ) (l : List ℕ) → event ≡ Jump j
-    → over l (end - displacementSize long) (displacement long end (wordAt labels (j .label))) ≡ jumpFilled labels event long end l
-unfolding jumpFilled
-jump-filled labels event j long end l e = rw e
-
-pub align-filled : (labels : List ℕ) (event : LayoutEvent) (start len align : ℕ) (long : Bool) (end : ℕ) (l : List ℕ) → event ≡ Align start len align
-    → l ≡ jumpFilled labels event long end l
-unfolding jumpFilled
-align-filled labels event start len align long end l e = rw e

@@ -4,9 +4,8 @@ use mathlib.Core.Path.{_≡_}
 use mathlib.Core.Logic.{_≢_}
 use mathlib.Core.Bool.{Bool, true, false, _&&_}
 use mathlib.Core.List.{List}
-use Prim.Native.Nat.{ℕ, zero, suc, _+_, _*_, _-_, _≤_, _<_}
+use Prim.Native.Nat.{ℕ, zero, suc, _+_, _*_, _≤_, _<_}
 use lib.ListN.{length, getD, take}
-use Rattle.seqs.specs.Over.{over}
 use Rattle.words.specs.Words.{wordAt, setWord}
 use Rattle.fields.specs.declared.Decoded.{Decoded}
 use Rattle.fields.specs.declared.Decoded.the-variants.{Use, Unsupported, Unknown}
@@ -21,9 +20,9 @@ use Rattle.relax.specs.declared.Segment.{Segment}
 use Rattle.relax.specs.Events.{eventAt}
 use Rattle.buffer.specs.State.{none}
 use Rattle.recording.specs.View.{entries}
-use Rattle.fresh.specs.Forms.{shortForm, longForm}
+use Rattle.fresh.specs.Forms.{shortForm, longForm, Branch, fieldOf, branches, roleOf}
 use Rattle.fresh.specs.Segments.{segments, mapOffset}
-use Rattle.fresh.specs.Fill.{fillField, fillUse, displacementSize, displacement}
+use Rattle.fresh.specs.Fill.{fillField, fillUse, fillJump}
 use Rattle.fresh.proofs.Shape.{Ordered, runs}
 use Rattle.layout.specs.Layout.{zeroSegment}
 
@@ -40,7 +39,7 @@ Encodes (On c) = c < 16
 -- an event whose form can be written
 abbrev pub Writes : LayoutEvent → Type 0
 Writes (Jump j) = Encodes (j .cc)
-Writes (Align start len align) = Unit {0}
+Writes (Align a) = Unit {0}
 
 -- a field of a kind at an offset lies within `room` bytes
 abbrev pub Within : Decoded → ℕ → ℕ → Type 0
@@ -53,14 +52,14 @@ abbrev pub Recorded : ℕ → Type 0
 Recorded offset = offset ≢ none → offset ≤ 300000000
 
 -- the events and the runs between them are written: the table of segments is the layout of a choice of long jumps
-pub record Emits (output code events : List ℕ) (long : List Bool) (ss : List Segment) (n len : ℕ) : Type 0 where
+pub record Emits (output code events : List ℕ) (long : List Bool) (ss : List Segment) (n len arch : ℕ) : Type 0 where
   pub recorded : n * 20 ≤ length events
   pub chosen : n ≤ length long
   pub laid : take n ss ≡ segments 0 0 (entries (eventAt events) n) long
   pub ordered : Ordered 0 len (entries (eventAt events) n)
   pub coded : len ≤ length code
   pub writes : (i : ℕ) → i < n → Writes (eventAt events i)
-  pub room : length (runs 0 0 (take len code) (entries (eventAt events) n) long) ≤ length output
+  pub room : length (runs arch 0 0 (take len code) (entries (eventAt events) n) long) ≤ length output
 
 -- The uses. An entry is offset, label and code.
 abbrev pub useFilled : List ℕ → List ℕ → ℕ → List ℕ → List ℕ
@@ -127,34 +126,27 @@ pub record RefKnown (refs labels : List ℕ) (i : ℕ) : Type 0 where
 pub record RefsKnown (refs labels : List ℕ) (count : ℕ) : Type 0 where
   pub each : (i : ℕ) → i < count → RefKnown refs labels i
 
--- The jumps: an event, long or not, that ends at `end`.
-unfoldable pub jumpFilled : List ℕ → LayoutEvent → Bool → ℕ → List ℕ → List ℕ
-jumpFilled labels (Jump j) long end l = over l (end - displacementSize long) (displacement long end (wordAt labels (j .label)))
-jumpFilled labels (Align start len align) long end l = l
-
--- where event i ends
-abbrev pub endAt : List Segment → ℕ → ℕ
-endAt ss i = (getD ss i zeroSegment) .«new_end»
+-- The jumps. Where event i starts:
+abbrev pub startAt : List Segment → ℕ → ℕ
+startAt ss i = (getD ss i zeroSegment) .«new_start»
 
 -- the output with the first n jumps' displacements
 unfoldable pub jumpsFilled : List ℕ → List ℕ → List ℕ → List Bool → List Segment → ℕ → List ℕ
 jumpsFilled output events labels long ss zero = output
 jumpsFilled output events labels long ss (suc i) =
-    jumpFilled labels (eventAt events i) (getD long i false) (endAt ss i) (jumpsFilled output events labels long ss i)
+    fillJump (wordAt labels) (eventAt events i) (getD long i false) (startAt ss i) (jumpsFilled output events labels long ss i)
 
--- a jump's label is in the table, and its displacement in the output
-abbrev pub JumpWithin : LayoutEvent → Bool → ℕ → List ℕ → ℕ → Type 0
-JumpWithin (Jump j) long end labels room = (j .label * 4 + 4 ≤ length labels) × (displacementSize long ≤ end) × (end ≤ room)
-JumpWithin (Align start len align) long end labels room = Unit {0}
-
-pub record JumpFits (room : ℕ) (events labels : List ℕ) (long : Bool) (end i : ℕ) : Type 0 where
+-- a jump, long or not, that starts at `start`: its label is in the table, and its field in the output
+pub record JumpFits (room : ℕ) (events labels : List ℕ) (long : Bool) (start i : ℕ) : Type 0 where
   pub entry : i * 20 + 20 ≤ length events
-  pub within : JumpWithin (eventAt events i) long end labels room
+  pub known : (b : Branch) → roleOf (eventAt events i) ≡ branches b → b .label * 4 + 4 ≤ length labels
+  pub within : (b : Branch) → roleOf (eventAt events i) ≡ branches b → start + fieldOf b long .place + patchSize (fieldOf b long .kind) ≤ room
+  pub small : start ≤ 300000000
 
 pub record JumpsFit (room : ℕ) (events labels : List ℕ) (long : List Bool) (ss : List Segment) (n : ℕ) : Type 0 where
   pub chosen : n ≤ length long
   pub laid : n ≤ length ss
-  pub each : (i : ℕ) → i < n → JumpFits room events labels (getD long i false) (endAt ss i) i
+  pub each : (i : ℕ) → i < n → JumpFits room events labels (getD long i false) (startAt ss i) i
 
 -- The words 0, stride, 2 stride, .. of a table, mapped: labels (stride 1), and relocations' offsets (stride 6).
 unfoldable pub mappedWords : (ℕ → ℕ) → List ℕ → ℕ → ℕ → List ℕ

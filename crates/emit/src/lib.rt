@@ -1,26 +1,28 @@
 // The finished code: events and the runs between them, and the fields, labels and relocations that name offsets. After asmkit's core/buffer.rs and
 // core/relax.rs (see NOTICE).
 ghost use mathlib.Core.Path.{_≡_};
-ghost use mathlib.Core.List.{[], _∷_};
-ghost use Prim.Native.Nat.{_+_, _-_, _*_, _≤_, _<_};
+ghost use mathlib.Core.List.{List, [], _∷_};
+ghost use Prim.Native.Nat.{ℕ, _+_, _-_, _*_, _≤_};
 ghost use lib.ListN.{length, take, drop};
 ghost use Rattle.seqs.specs.Over.{over};
 ghost use Rattle.words.specs.Words.{wordAt};
+ghost use Rattle.fields.specs.declared.Decoded.the-variants.{Use};
 ghost use Rattle.fields.specs.Kinds.{decoded, patchSize};
 ghost use Rattle.fields.specs.Words64.{plus, minus, signExtend};
 ghost use Rattle.fields.specs.Patch.{patched, patchedUse};
 ghost use Rattle.relax.specs.Events.{eventAt};
 ghost use Rattle.recording.specs.View.{entries};
-ghost use Rattle.fresh.specs.Forms.{shortForm, longForm, form, width};
-ghost use Rattle.fresh.specs.Fill.{part, displacementSize, displacement};
+ghost use Rattle.fresh.specs.Forms.{shortForm, longForm, form, width, fieldOf, branchOf};
+ghost use Rattle.fresh.specs.Fill.{part, fillField, fillJump};
 ghost use Rattle.fresh.specs.Segments.{mapOffset};
-ghost use Rattle.fresh.proofs.Shape.{runs};
+ghost use Rattle.fresh.proofs.Shape.{formAt, runs};
 ghost use Rattle.layout.specs.Layout.{Rising};
-ghost use Rattle.emit.specs.Emit.{jumpForm, Encodes, Writes, Emits, useFilled, usesFilled, UseFits, UsesFit, refFilled, refsFilled, RefFits, RefsFit, fieldReaches, refsReach, RefsKnown, jumpFilled, jumpsFilled, JumpFits, JumpsFit, mappedWords, WordsFit};
+ghost use Rattle.emit.specs.Emit.{jumpForm, Encodes, Writes, Emits, useFilled, usesFilled, UseFits, UsesFit, refFilled, refsFilled, RefFits, RefsFit, fieldReaches, refsReach, RefsKnown, jumpsFilled, JumpFits, JumpsFit, mappedWords, WordsFit};
 use fields::Decoded;
 use fields::LabelUse;
 use relax::Condition;
 use relax::LayoutEvent;
+use relax::RelaxableJump;
 use relax::Segment;
 
 // The opcodes of the long conditional jumps, by condition.
@@ -90,22 +92,18 @@ pub fn put_jump(part: &mut [u8], cc: Condition, long: bool)
     put_short(part, cc);
 }
 
-// Fills `part` with what an event takes.
-fn put_event(part: &mut [u8], event: LayoutEvent, long: bool, at: u32)
+// Fills `part` with what an event takes, whatever its recorded bytes.
+fn put_event(part: &mut [u8], event: LayoutEvent, long: bool, at: u32, arch: u32)
     requires { ⌜ Writes event ⌝ ∗ ⌜ length (now part) ≡ width event long at ⌝ }
-    ensures { λ _. ⌜ now (part .exit) ≡ form event long at ⌝ }
+    ensures { λ _. ⌜ ((bytes : List ℕ) → now (part .exit) ≡ form arch event bytes long at) ⌝ }
 {
     match event {
         LayoutEvent::Jump(jump) => {
             let cc = jump.cc;
             put_jump(part, cc, long);
         }
-        LayoutEvent::Align {
-            start: _,
-            len: _,
-            align: _,
-        } => {
-            encoder::push_nops(part);
+        LayoutEvent::Align(_) => {
+            buffer::bytes::pad(arch, part);
         }
     }
 }
@@ -119,16 +117,19 @@ pub fn copy_run(output: &mut [u8], code: &[u8], old: usize, start: usize, new: u
     seqs::copy(&code[old..start], &mut output[new..end]);
 }
 
-// Writes an event from its new start up to its new end.
-fn emit_event(output: &mut [u8], event: LayoutEvent, long: bool, start: u32, end: u32)
-    requires { ⌜ Writes event ⌝ ∗ ⌜ (end ≡ start + width event long start) × (end ≤ length (now output)) ⌝ }
-    ensures { λ _. ⌜ now (output .exit) ≡ over (now (output .entry)) start (form event long start) ⌝ }
+// Writes an event where its segment says.
+fn emit_event(output: &mut [u8], event: LayoutEvent, long: bool, segment: Segment, arch: u32)
+    requires { ⌜ Writes event ⌝ ∗ ⌜ (segment .«new_end» ≡ segment .«new_start» + width event long (segment .«new_start»)) × (segment .«new_end» ≤ length (now output)) ⌝ }
+    ensures { λ _. ⌜ ((bytes : List ℕ) → now (output .exit) ≡ over (now (output .entry)) (segment .«new_start») (form arch event bytes long (segment .«new_start»))) ⌝ }
 {
+    let start = segment.new_start;
+    let end = segment.new_end;
     put_event(
         &mut output[start as usize..end as usize],
         event,
         long,
         start,
+        arch,
     );
 }
 
@@ -142,13 +143,14 @@ fn emit_segment(
     segment: Segment,
     old: usize,
     new: usize,
+    arch: u32,
 )
     requires { ⌜ (i * 20 + 20 ≤ length (now events)) × Writes (eventAt (now events) i) ⌝ ∗ ⌜ (old ≤ segment .«old_start») × (segment .«old_start» ≤ length (now code)) × (new + (segment .«old_start» - old) ≤ length (now output)) ⌝ ∗ ⌜ (segment .«new_end» ≡ segment .«new_start» + width (eventAt (now events) i) long (segment .«new_start»)) × (segment .«new_end» ≤ length (now output)) ⌝ }
-    ensures { λ _. ⌜ now (output .exit) ≡ over (over (now (output .entry)) new (take (segment .«old_start» - old) (drop old (now (code .entry))))) (segment .«new_start») (form (eventAt (now (events .entry)) i) long (segment .«new_start»)) ⌝ }
+    ensures { λ _. ⌜ now (output .exit) ≡ over (over (now (output .entry)) new (take (segment .«old_start» - old) (drop old (now (code .entry))))) (segment .«new_start») (formAt arch (now (code .entry)) (eventAt (now (events .entry)) i) long (segment .«new_start»)) ⌝ }
 {
     let event = relax::event_at(events, i);
     copy_run(output, code, old, segment.old_start as usize, new);
-    emit_event(output, event, long, segment.new_start, segment.new_end);
+    emit_event(output, event, long, segment, arch);
 }
 
 // Writes the first `len` bytes of the code, events as their segments say, displacements 0.
@@ -160,16 +162,17 @@ pub fn emit_events(
     segments: &[Segment],
     n: usize,
     len: usize,
+    arch: u32,
 )
-    requires { ⌜ Emits (now output) (now code) (now events) (now long) (now segments) n len ⌝ }
-    ensures { λ _. ⌜ now (output .exit) ≡ over (now (output .entry)) 0 (runs 0 0 (take len (now (code .entry))) (entries (eventAt (now (events .entry))) n) (now (long .entry))) ⌝ }
+    requires { ⌜ Emits (now output) (now code) (now events) (now long) (now segments) n len arch ⌝ }
+    ensures { λ _. ⌜ now (output .exit) ≡ over (now (output .entry)) 0 (runs arch 0 0 (take len (now (code .entry))) (entries (eventAt (now (events .entry))) n) (now (long .entry))) ⌝ }
 {
     let mut old: usize = 0;
     let mut new: usize = 0;
     let mut i: usize = 0;
     while i < n {
         let segment = layout::segment_at(segments, i);
-        emit_segment(output, code, events, i, long[i], segment, old, new);
+        emit_segment(output, code, events, i, long[i], segment, old, new, arch);
         old = segment.old_end as usize;
         new = segment.new_end as usize;
         i += 1;
@@ -306,40 +309,39 @@ pub fn refs_reach(refs: &[u8], labels: &[u8], segments: &[Segment], count: usize
     true
 }
 
-fn put_displacement(output: &mut [u8], long: bool, end: u32, label: u32)
-    requires { ⌜ (displacementSize long ≤ end) × (end ≤ length (now output)) ⌝ }
-    ensures { λ _. ⌜ now (output .exit) ≡ over (now (output .entry)) (end - displacementSize long) (displacement long end label) ⌝ }
+// A jump's displacement is a field: its last byte where it is short, else its last four. `start` is the jump's.
+fn patch_displacement(output: &mut [u8], jump: RelaxableJump, long: bool, start: u32, label: u32)
+    requires { ⌜ start + fieldOf (branchOf jump) long .place + patchSize (fieldOf (branchOf jump) long .kind) ≤ length (now output) ⌝ ∗ ⌜ start ≤ 300000000 ⌝ }
+    ensures { λ _. ⌜ now (output .exit) ≡ fillField (Use (fieldOf (branchOf jump) long .kind)) (start + fieldOf (branchOf jump) long .place) label 0 (now (output .entry)) ⌝ }
 {
     if long {
-        let at = end - 4;
-        LabelUse::X86JmpRel32.patch_with_addend(
-            &mut output[at as usize..end as usize],
-            at,
-            label,
-            0,
-        );
+        let at = start + (jump.long_len() - 4);
+        patch_field(output, LabelUse::X86JmpRel32, at, label, 0);
         return;
     }
-    let at = end - 1;
-    LabelUse::X86BranchRel8.patch_with_addend(&mut output[at as usize..end as usize], at, label, 0);
+    let at = start + (relax::SHORT_LEN - 1);
+    patch_field(output, LabelUse::X86BranchRel8, at, label, 0);
 }
 
-// Writes the displacement of event `i`, long or not, that ends at `end`, if it is a jump.
-fn patch_jump(output: &mut [u8], events: &[u8], labels: &[u8], long: bool, end: u32, i: usize)
-    requires { ⌜ JumpFits (length (now output)) (now events) (now labels) long end i ⌝ }
-    ensures { λ _. ⌜ now (output .exit) ≡ jumpFilled (now (labels .entry)) (eventAt (now (events .entry)) i) long end (now (output .entry)) ⌝ }
+// Writes the displacement of event `i`, long or not, where its segment says, if it is a jump.
+fn patch_jump(
+    output: &mut [u8],
+    events: &[u8],
+    labels: &[u8],
+    long: bool,
+    segment: Segment,
+    i: usize,
+)
+    requires { ⌜ JumpFits (length (now output)) (now events) (now labels) long (segment .«new_start») i ⌝ }
+    ensures { λ _. ⌜ now (output .exit) ≡ fillJump (wordAt (now (labels .entry))) (eventAt (now (events .entry)) i) long (segment .«new_start») (now (output .entry)) ⌝ }
 {
     let event = relax::event_at(events, i);
     match event {
         LayoutEvent::Jump(jump) => {
             let label = words::word_at(labels, jump.label as usize);
-            put_displacement(output, long, end, label);
+            patch_displacement(output, jump, long, segment.new_start, label);
         }
-        LayoutEvent::Align {
-            start: _,
-            len: _,
-            align: _,
-        } => {}
+        LayoutEvent::Align(_) => {}
     }
 }
 
@@ -358,7 +360,7 @@ pub fn patch_jumps(
     let mut i: usize = 0;
     while i < n {
         let segment = layout::segment_at(segments, i);
-        patch_jump(output, events, labels, long[i], segment.new_end, i);
+        patch_jump(output, events, labels, long[i], segment, i);
         i += 1;
     }
 }

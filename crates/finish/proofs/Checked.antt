@@ -1,7 +1,7 @@
 -- What the scans of crate checks find of the tables, as the definitions say it of the pooled recording.
 use mathlib.Core.Path.{_≡_, refl, sym, ap, _∙_}
 use mathlib.Core.Logic.{_≢_, ⊎-elim}
-use mathlib.Core.Bool.{Bool, true, false, not, _&&_, _||_, cond}
+use mathlib.Core.Bool.{Bool, true, false, not, _&&_, _||_, or-false}
 use mathlib.Core.List.{List, [], _∷_, _++_}
 use Prim.Native.Nat.{ℕ, zero, suc, _+_, _-_, _*_, _≤_, _<_}
 use native.Mathlib.Omega.{arith}
@@ -15,19 +15,21 @@ use Rattle.words.specs.Words.{wordAt}
 use Rattle.fields.specs.declared.Decoded.the-variants.{Use}
 use Rattle.fields.specs.Kinds.{decoded}
 use Rattle.relax.specs.declared.LayoutEvent.{LayoutEvent}
-use Rattle.relax.specs.declared.LayoutEvent.the-variants.{Jump, Align}
-use Rattle.relax.specs.Events.{eventOf, eventAt, endOf}
+use Rattle.relax.specs.declared.LayoutEvent.the-variants.{Align}
+use Rattle.relax.specs.Events.{eventOf, eventAt, endOf, startOf}
+use Rattle.relax.proofs.Columns.{start-at, end-at}
+use Rattle.relax.specs.declared.Alignment.{Alignment}
 use Rattle.buffer.specs.State.{none}
 use Rattle.recording.specs.Sound.{startAt, endAt}
 use Rattle.recording.specs.View as tables
 use Rattle.recording.proofs.Views.{getD-entries}
-use Rattle.fresh.specs.Pooled.{constantAlignment, Pooled}
-use Rattle.fresh.specs.Fresh.{startOf}
-use Rattle.fresh.specs.Rounds.{jumps}
-use Rattle.pool.specs.Pool.{sizeAt, labelAt, poolStart, poolPadding, poolOffset, poolEvent, poolIsBound}
+use Rattle.fresh.specs.Pooled.{Pooled}
+use Rattle.fresh.specs.Forms.{moves, roleOf}
+use Rattle.fresh.proofs.Moves.{moves-append, still-all}
+use Rattle.pool.specs.Pool.{labelAt, poolStart, poolOffset, poolEvent, poolIsBound}
 use Rattle.checks.specs.Entries.{all}
 use Rattle.checks.specs.Fields as checked
-use Rattle.finish.specs.Refusals.{every, isBound, poolBoundBefore, jumpBound, relocBound, hasJump, refClear, useRefusal, usesRefusal}
+use Rattle.finish.specs.Refusals.{every, isBound, poolBoundBefore, jumpBound, relocBound, refClear, useRefusal, usesRefusal}
 
 and-assoc : (a b c : Bool) → (a && (b && c)) ≡ ((a && b) && c)
 and-assoc true b c = refl
@@ -90,28 +92,20 @@ pool-bound v labels constants asked count known n el ec ea listed named =
 -- the columns of an event: a jump where its kind is 1
 jump-at : (labels : List ℕ) (count kind start len what cc : ℕ) → (kind ≡ 1 → what < count)
     → jumpBound (tables.entries (wordAt labels) count) (eventOf kind start len what cc) ≡ (not (eqb kind 1) || checked.isBound labels what)
-unfolding eventOf pick
+unfolding eventOf pick roleOf
 jump-at labels count kind start len what cc known =
     ⊎-elim
     (λ (e : kind ≡ 1). rw e (bound-entries labels count what (known e)))
     (λ (ne : kind ≢ 1). rw (ne-eqb kind 1 ne, pick))
     (eq-or-ne kind 1)
 
-jump-kind : (kind start len what cc : ℕ) → jumps (eventOf kind start len what cc ∷ []) ≡ cond (eqb kind 1) 1 0
-unfolding eventOf pick
-jump-kind kind start len what cc =
-    ⊎-elim
-    (λ (e : kind ≡ 1). rw e refl)
-    (λ (ne : kind ≢ 1). rw (ne-eqb kind 1 ne, pick))
-    (eq-or-ne kind 1)
-
-every-aligned : (f : LayoutEvent → Bool) (from : ℕ) (constants asked : List ℕ) (n : ℕ) → ((start len align : ℕ) → f (Align start len align) ≡ true)
+every-aligned : (f : LayoutEvent → Bool) (from : ℕ) (constants asked : List ℕ) (n : ℕ) → ((a : Alignment) → f (Align a) ≡ true)
     → every f (tables.entries (poolEvent from constants asked) n) ≡ true
 unfolding every
 every-aligned f from constants asked zero h = refl
 every-aligned f from constants asked (suc n) h =
     every-append f (tables.entries (poolEvent from constants asked) n) (poolEvent from constants asked n ∷ [])
-    ∙ rw (every-aligned f from constants asked n h, h (poolStart from constants asked n) (poolPadding from constants asked n) (constantAlignment (sizeAt constants asked n)))
+    ∙ rw (every-aligned f from constants asked n h, h _)
 
 -- 15, of the jumps
 pub jumps-bound : (p : Pooled) (labels events constants asked : List ℕ) (count from n m : ℕ)
@@ -119,11 +113,11 @@ pub jumps-bound : (p : Pooled) (labels events constants asked : List ℕ) (count
     → p .events ≡ tables.entries (eventAt events) n ++ tables.entries (poolEvent from constants asked) m
     → ((i : ℕ) → i < n → wordAt events (i * 5) ≡ 1 → wordAt events (i * 5 + 3) < count)
     → every (jumpBound (p .labels)) (p .events) ≡ checked.jumpsBound events n labels
-unfolding checked.jumpsBound eventAt eventOf
+unfolding checked.jumpsBound eventAt eventOf roleOf
 jumps-bound p labels events constants asked count from n m el ee known =
     rw (el, ee)
     (every-append (jumpBound (tables.entries (wordAt labels) count)) (tables.entries (eventAt events) n) (tables.entries (poolEvent from constants asked) m)
-    ∙ rw (every-aligned (jumpBound (tables.entries (wordAt labels) count)) from constants asked m (λ start len align. refl))
+    ∙ rw (every-aligned (jumpBound (tables.entries (wordAt labels) count)) from constants asked m (λ a. refl))
     (and-true (every (jumpBound (tables.entries (wordAt labels) count)) (tables.entries (eventAt events) n))
     ∙ every-entries (jumpBound (tables.entries (wordAt labels) count)) (eventAt events) _ n
     (λ i h.
@@ -159,52 +153,13 @@ relocs-bound p labels relocs count n el known =
     (λ ge. rw (bound-entries labels count (wordAt relocs (i * 6 + 2) - 2147483648) (known i h ge)))
     (lt-or-ge (wordAt relocs (i * 6 + 2)) 2147483648)))
 
--- with and without a jump
-jumps-append : (xs ys : List LayoutEvent) → jumps (xs ++ ys) ≡ jumps xs + jumps ys
-jumps-append [] ys = omega arith
-jumps-append (Jump j ∷ xs) ys = omega (arith, jumps-append xs ys)
-jumps-append (Align start len align ∷ xs) ys = jumps-append xs ys
-
-pool-jumps : (from : ℕ) (constants asked : List ℕ) (n : ℕ) → jumps (tables.entries (poolEvent from constants asked) n) ≡ 0
-pool-jumps from constants asked zero = refl
-pool-jumps from constants asked (suc n) =
-    jumps-append (tables.entries (poolEvent from constants asked) n) (poolEvent from constants asked n ∷ []) ∙ rw (pool-jumps from constants asked n)
-
-none-more : (a : ℕ) (t : Bool) → eqb (a + cond t 1 0) 0 ≡ (eqb a 0 && not t)
-none-more a true = ne-eqb (a + 1) 0 (λ e. omega arith) ∙ sym (by (eqb a 0))
-  where
-    by : (t : Bool) → (t && false) ≡ false
-    by true = refl
-    by false = refl
-none-more a false = let e : a + 0 ≡ a = omega arith in rw e (sym (and-true (eqb a 0)))
-
-table-jumps : (events : List ℕ) (n : ℕ) → eqb (jumps (tables.entries (eventAt events) n)) 0 ≡ all (λ (i : ℕ). not (eqb (wordAt events (i * 5)) 1)) n
-unfolding all eventAt
-table-jumps events zero = refl
-table-jumps events (suc n) =
-    rw (
-      jumps-append (tables.entries (eventAt events) n) (eventAt events n ∷ []),
-      jump-kind (wordAt events (n * 5)) (wordAt events (n * 5 + 1)) (wordAt events (n * 5 + 2)) (wordAt events (n * 5 + 3)) (wordAt events (n * 5 + 4)),
-      none-more (jumps (tables.entries (eventAt events) n)) (eqb (wordAt events (n * 5)) 1),
-      table-jumps events n,
-    )
-
-pub has-jump : (p : Pooled) (events constants asked : List ℕ) (from n m : ℕ)
+-- with and without a jump: the pool's alignments move nothing
+pub moves-is : (p : Pooled) (events constants asked : List ℕ) (from n m : ℕ)
     → p .events ≡ tables.entries (eventAt events) n ++ tables.entries (poolEvent from constants asked) m
-    → hasJump p ≡ checked.hasJump events n
-unfolding checked.hasJump
-has-jump p events constants asked from n m ee =
-    rw (ee, jumps-append (tables.entries (eventAt events) n) (tables.entries (poolEvent from constants asked) m), pool-jumps from constants asked m)
-    (let e : jumps (tables.entries (eventAt events) n) + 0 ≡ jumps (tables.entries (eventAt events) n) = omega arith in rw e (ap not (table-jumps events n)))
-
--- where an event of the table starts and ends
-pub start-at : (events : List ℕ) (j : ℕ) → startOf (eventAt events j) ≡ startAt events j
-unfolding eventAt eventOf pick
-start-at events j = ⊎-elim (λ (e : wordAt events (j * 5) ≡ 1). rw e refl) (λ (ne : wordAt events (j * 5) ≢ 1). rw (ne-eqb (wordAt events (j * 5)) 1 ne, pick)) (eq-or-ne (wordAt events (j * 5)) 1)
-
-pub end-at : (events : List ℕ) (j : ℕ) → endOf (eventAt events j) ≡ endAt events j
-unfolding eventAt eventOf pick
-end-at events j = ⊎-elim (λ (e : wordAt events (j * 5) ≡ 1). rw e refl) (λ (ne : wordAt events (j * 5) ≢ 1). rw (ne-eqb (wordAt events (j * 5)) 1 ne, pick)) (eq-or-ne (wordAt events (j * 5)) 1)
+    → moves (p .events) ≡ moves (tables.entries (eventAt events) n)
+moves-is p events constants asked from n m ee =
+    rw (ee, moves-append (tables.entries (eventAt events) n) (tables.entries (poolEvent from constants asked) m), still-all (poolEvent from constants asked) m (λ i l. refl))
+    (or-false (moves (tables.entries (eventAt events) n)))
 
 -- 17
 pub refs-clear : (p : Pooled) (refs events constants asked : List ℕ) (count n m from : ℕ)

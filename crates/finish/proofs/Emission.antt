@@ -7,17 +7,16 @@ use native.Mathlib.Omega.{arith}
 use lib.ListN.{length, getD, take, drop, replicate, length-append, length-drop}
 use lib.Seq.{take-append-seam, drop-append-seam}
 use Rattle.relax.specs.declared.LayoutEvent.{LayoutEvent}
-use Rattle.relax.specs.Events.{endOf}
+use Rattle.relax.specs.Events.{endOf, startOf, extentOf}
 use Rattle.buffer.specs.Calls.{padding}
 use Rattle.buffer.proofs.Appends.{padding-length}
 use Rattle.recording.specs.View.{entries}
-use Rattle.fresh.specs.Forms.{form}
-use Rattle.fresh.specs.Fresh.{Choice, isLong, others, startOf}
+use Rattle.fresh.specs.Forms.{form, width}
+use Rattle.fresh.specs.Fresh.{Choice, isLong, others}
 use Rattle.fresh.specs.Segments.{segment}
-use Rattle.fresh.proofs.Shape.{size, Ordered, runs, after}
-use Rattle.fresh.proofs.Forms.{width-size}
+use Rattle.fresh.proofs.Shape.{Ordered, formAt, runs, after}
 use Rattle.fresh.proofs.Choices.{isLong-getD, others-getD}
-use Rattle.fresh.proofs.Events.{end-is, ordered-le}
+use Rattle.fresh.proofs.Events.{ordered-le}
 use Rattle.fresh.proofs.Loops.{length-runs}
 use Rattle.pool.specs.Pool.{sizeAt, poolStart, poolPadding, poolEvent, poolBytes}
 use Rattle.pool.proofs.Pool.{length-poolBytes, poolStart-suc}
@@ -47,21 +46,22 @@ last-run code more o h =
 -- one event more, past all code that stands there; `more` is what follows the code
 runs-snoc : (es : List LayoutEvent) (o n : ℕ) (code more : List ℕ) (c : Choice) (e : LayoutEvent) → Ordered o (length code) es
     → startOf e ≡ length code
-    → runs o n (code ++ more) (es ++ (e ∷ [])) c
-    ≡ runs o n code es c ++ (form e (getD c (length es) false) ((after (length es) o n es c) .new + (startOf e - (after (length es) o n es c) .old)) ++ drop (endOf e) (code ++ more))
+    → runs 2 o n (code ++ more) (es ++ (e ∷ [])) c
+    ≡ runs 2 o n code es c ++ (formAt 2 (code ++ more) e (getD c (length es) false) ((after (length es) o n es c) .new + (startOf e - (after (length es) o n es c) .old)) ++ drop (endOf e) (code ++ more))
 unfolding runs after Ordered
 runs-snoc [] o n code more c e h s = rw (isLong-getD c, s, last-run code more o h) refl
 runs-snoc (x ∷ es) o n code more c e h s =
     let next = (segment o n x (isLong c)) .«new_end» in
-    let within : o + (startOf x - o) ≤ length code = omega (arith, h .0, end-is x, ordered-le (endOf x) (length code) es (h .1)) in
-    rw (part-append code more o (startOf x - o) within, runs-snoc es (endOf x) next code more (others c) e (h .1) s, others-getD c (length es))
+    let inside : endOf x ≤ length code = ordered-le (endOf x) (length code) es (h .1) in
+    let within : o + (startOf x - o) ≤ length code = omega (arith, h .0, ordered-le (endOf x) (length code) es (h .1)) in
+    rw (part-append code more o (startOf x - o) within, part-append code more (startOf x) (extentOf x) inside, runs-snoc es (endOf x) next code more (others c) e (h .1) s, others-getD c (length es))
     (simp append-assoc)
 
 -- What holds once n constants are pooled after the recorded code, whose runs end at `to`: the runs end with the pool laid out from there, and so does
 -- the layout.
 pub record PoolRuns (code : List ℕ) (es : List LayoutEvent) (constants asked : List ℕ) (c : Choice) (n len to : ℕ) : Type 0 where
-  pub whole : runs 0 0 (code ++ poolBytes 2 len constants asked n) (es ++ entries (poolEvent len constants asked) n) c
-      ≡ runs 0 0 code es c ++ poolBytes 2 to constants asked n
+  pub whole : runs 2 0 0 (code ++ poolBytes 2 len constants asked n) (es ++ entries (poolEvent len constants asked) n) c
+      ≡ runs 2 0 0 code es c ++ poolBytes 2 to constants asked n
   pub here : (after (length (es ++ entries (poolEvent len constants asked) n)) 0 0 (es ++ entries (poolEvent len constants asked) n) c) .new
       + (poolStart len constants asked n
       - (after (length (es ++ entries (poolEvent len constants asked) n)) 0 0 (es ++ entries (poolEvent len constants asked) n) c) .old)
@@ -69,18 +69,18 @@ pub record PoolRuns (code : List ℕ) (es : List LayoutEvent) (constants asked :
   pub ordered : Ordered 0 (poolStart len constants asked n) (es ++ entries (poolEvent len constants asked) n)
 
 module _ (code : List ℕ) (es : List LayoutEvent) (constants asked : List ℕ) (c : Choice) (len to : ℕ) (long : len ≡ length code)
-    (order : Ordered 0 (length code) es) (new : to ≡ length (runs 0 0 code es c)) where
+    (order : Ordered 0 (length code) es) (new : to ≡ length (runs 2 0 0 code es c)) where
   pool-runs-none : PoolRuns code es constants asked c 0 len to
   unfolding poolBytes poolStart
   pool-runs-none =
       record {
-        whole = rw (append-nil code, append-nil es, append-nil (runs 0 0 code es c));
-        here = rw (append-nil es, new, long) (omega (arith, length-runs es 0 0 code c order));
+        whole = rw (append-nil code, append-nil es, append-nil (runs 2 0 0 code es c));
+        here = rw (append-nil es, new, long) (omega (arith, length-runs 2 es 0 0 code c order));
         ordered = rw (append-nil es, long) order;
       }
 
   pool-runs-more : (n : ℕ) → PoolRuns code es constants asked c n len to → PoolRuns code es constants asked c (suc n) len to
-  unfolding form poolBytes size
+  unfolding form width poolBytes
   pool-runs-more n r =
       let pool = poolBytes 2 len constants asked n in
       let before = es ++ entries (poolEvent len constants asked) n in
@@ -100,17 +100,16 @@ module _ (code : List ℕ) (es : List LayoutEvent) (constants asked : List ℕ) 
       ∙ drop-append-seam ((code ++ pool) ++ pad) zeros in
       record {
         whole =
-            ap (λ (l : List ℕ). runs 0 0 l (es ++ (entries (poolEvent len constants asked) n ++ (e ∷ []))) c) (sym (append-assoc code pool (pad ++ zeros)))
-            ∙ ap (λ (l : List LayoutEvent). runs 0 0 ((code ++ pool) ++ (pad ++ zeros)) l c) all-events
+            ap (λ (l : List ℕ). runs 2 0 0 l (es ++ (entries (poolEvent len constants asked) n ++ (e ∷ []))) c) (sym (append-assoc code pool (pad ++ zeros)))
+            ∙ ap (λ (l : List LayoutEvent). runs 2 0 0 ((code ++ pool) ++ (pad ++ zeros)) l c) all-events
             ∙ runs-snoc before 0 0 (code ++ pool) (pad ++ zeros) c e (rw ends (r .ordered)) (sym ends)
             ∙ rw (r .whole, at, rest)
-            (append-assoc (runs 0 0 code es c) (poolBytes 2 to constants asked n) (padding 2 (poolPadding to constants asked n) ++ zeros));
+            (append-assoc (runs 2 0 0 code es c) (poolBytes 2 to constants asked n) (padding 2 (poolPadding to constants asked n) ++ zeros));
         here =
             ap (λ (l : List LayoutEvent). (after (length l) 0 0 l c) .new + (poolStart len constants asked (suc n) - (after (length l) 0 0 l c) .old)) all-events
             ∙ rw (after-snoc before 0 0 c e, at)
             (omega (
               arith,
-              width-size e (getD c (length before) false) (poolStart to constants asked n),
               poolStart-suc len constants asked n,
               poolStart-suc to constants asked n,
             ));

@@ -2,28 +2,29 @@
 use mathlib.Core.Path.{_≡_, refl, sym, ap, _∙_}
 use mathlib.Core.Bool.{Bool, false}
 use mathlib.Core.List.{List, [], _∷_, _++_, append-assoc, append-nil}
-use Prim.Native.Nat.{ℕ, zero, suc, _+_, _-_, _*_, _<_}
+use Prim.Native.Nat.{ℕ, zero, suc, _+_, _*_, _<_}
 use native.Mathlib.Omega.{arith}
 use lib.ListN.{length, getD, take}
 use Rattle.seqs.specs.Over.{over}
 use Rattle.words.specs.Words.{wordAt}
 use Rattle.fields.specs.Kinds.{decoded}
 use Rattle.relax.specs.declared.LayoutEvent.{LayoutEvent}
-use Rattle.relax.specs.declared.LayoutEvent.the-variants.{Jump, Align}
 use Rattle.relax.specs.Events.{eventAt}
-use Rattle.relax.specs.declared.RelaxableJump.{RelaxableJump}
 use Rattle.relax.specs.declared.Segment.{Segment}
 use Rattle.buffer.specs.State.{none}
 use Rattle.recording.specs.View as tables
 use Rattle.recording.proofs.Views.{length-entries}
 use Rattle.fresh.specs.Pooled.{Placed}
 use Rattle.fresh.specs.Fresh.{Choice, others}
-use Rattle.fresh.specs.Rounds.{otherEnds}
+use Rattle.fresh.specs.Rounds.{otherStarts}
 use Rattle.fresh.specs.Segments.{mapOffset}
 use Rattle.fresh.specs.Fill.{fillField, fillRefs, fillJump, fillJumps, fillPool, fillUse, fillUses}
-use Rattle.fresh.proofs.Choices.{isLong-getD, others-getD, firstEnd-getD, otherEnds-getD}
+use Rattle.fresh.proofs.Choices.{isLong-getD, others-getD, firstStart-getD, otherStarts-getD}
+use Rattle.fresh.specs.Forms.{Branch, branches, roleOf}
+use Rattle.fresh.proofs.Fill.{fillJump-pads, fillJump-branch}
+use Rattle.fresh.proofs.Tests.{by-role}
 use Rattle.pool.specs.Pool.{labelAt, poolOffset, poolEvent, poolWritten}
-use Rattle.emit.specs.Emit.{usesFilled, refsFilled, jumpFilled, jumpsFilled, endAt}
+use Rattle.emit.specs.Emit.{usesFilled, refsFilled, jumpsFilled, startAt}
 use Rattle.finish.specs.Tables.{poolPlaced}
 
 fillRefs-more : (at : ℕ → ℕ) (labels : List ℕ) (rs : List tables.Ref) (f : tables.Ref) (l : List ℕ)
@@ -75,50 +76,49 @@ pool-filled output labels constants asked at from (suc n) known =
     rw (pool-filled output labels constants asked at from n (λ j h. known j (omega arith)), known n (omega arith))
     (sym (fillPool-more at (tables.entries (poolPlaced from constants asked) n) (poolPlaced from constants asked n) output))
 
-fillJumps-append : (at : ℕ → ℕ) (labels : List ℕ) (es : List LayoutEvent) (e : LayoutEvent) (c : Choice) (ends l : List ℕ)
-    → fillJumps at labels (es ++ (e ∷ [])) c ends l
-    ≡ fillJump at labels e (getD c (length es) false) (getD ends (length es) 0) (fillJumps at labels es c ends l)
+fillJumps-append : (at : ℕ → ℕ) (es : List LayoutEvent) (e : LayoutEvent) (c : Choice) (starts l : List ℕ)
+    → fillJumps at (es ++ (e ∷ [])) c starts l ≡ fillJump at e (getD c (length es) false) (getD starts (length es) 0) (fillJumps at es c starts l)
 unfolding fillJumps
-fillJumps-append at labels [] e c ends l = rw (isLong-getD c, firstEnd-getD ends)
-fillJumps-append at labels (x ∷ es) e c ends l =
-    fillJumps-append at labels es e (others c) (otherEnds ends) _ ∙ rw (others-getD c (length es), otherEnds-getD ends (length es))
+fillJumps-append at [] e c starts l = rw (isLong-getD c, firstStart-getD starts)
+fillJumps-append at (x ∷ es) e c starts l =
+    fillJumps-append at es e (others c) (otherStarts starts) _ ∙ rw (others-getD c (length es), otherStarts-getD starts (length es))
 
 -- the alignments after them fill nothing
-pool-fills-nothing : (at : ℕ → ℕ) (labels : List ℕ) (es : List LayoutEvent) (c : Choice) (ends l : List ℕ) (from : ℕ) (constants asked : List ℕ) (m : ℕ)
-    → fillJumps at labels (es ++ tables.entries (poolEvent from constants asked) m) c ends l ≡ fillJumps at labels es c ends l
-unfolding fillJump
-pool-fills-nothing at labels es c ends l from constants asked zero = rw (append-nil es)
-pool-fills-nothing at labels es c ends l from constants asked (suc m) =
+pool-fills-nothing : (at : ℕ → ℕ) (es : List LayoutEvent) (c : Choice) (starts l : List ℕ) (from : ℕ) (constants asked : List ℕ) (m : ℕ)
+    → fillJumps at (es ++ tables.entries (poolEvent from constants asked) m) c starts l ≡ fillJumps at es c starts l
+unfolding roleOf
+pool-fills-nothing at es c starts l from constants asked zero = rw (append-nil es)
+pool-fills-nothing at es c starts l from constants asked (suc m) =
     let pool = tables.entries (poolEvent from constants asked) m in
-    ap (λ (xs : List LayoutEvent). fillJumps at labels xs c ends l) (sym (append-assoc es pool (poolEvent from constants asked m ∷ [])))
-    ∙ fillJumps-append at labels (es ++ pool) (poolEvent from constants asked m) c ends l
-    ∙ pool-fills-nothing at labels es c ends l from constants asked m
+    ap (λ (xs : List LayoutEvent). fillJumps at xs c starts l) (sym (append-assoc es pool (poolEvent from constants asked m ∷ [])))
+    ∙ fillJumps-append at (es ++ pool) (poolEvent from constants asked m) c starts l
+    ∙ fillJump-pads at (poolEvent from constants asked m) _ _ _ refl
+    ∙ pool-fills-nothing at es c starts l from constants asked m
 
--- one event
-jump-filled : (at : ℕ → ℕ) (labels recorded : List ℕ) (e : LayoutEvent) (long : Bool) (end : ℕ) (l : List ℕ)
-    → ((j : RelaxableJump) → e ≡ Jump j → wordAt labels (j .label) ≡ at (getD recorded (j .label) none))
-    → jumpFilled labels e long end l ≡ fillJump at recorded e long end l
-unfolding jumpFilled fillJump
-jump-filled at labels recorded (Jump j) long end l known = rw (known j refl)
-jump-filled at labels recorded (Align start len align) long end l known = refl
+-- one event, by labels that are known alike
+jump-filled : (at named : ℕ → ℕ) (e : LayoutEvent) (long : Bool) (start : ℕ) (l : List ℕ)
+    → ((b : Branch) → roleOf e ≡ branches b → at (b .label) ≡ named (b .label)) → fillJump at e long start l ≡ fillJump named e long start l
+jump-filled at named e long start l known = by-role e
+    (λ r. fillJump-pads at e long start l r ∙ sym (fillJump-pads named e long start l r))
+    (λ b r. fillJump-branch at e b long start l r ∙ (rw (known b r) refl ∙ sym (fillJump-branch named e b long start l r)))
 
 -- the jumps of the table, where the table of labels holds new offsets
-table-filled : (output events labels recorded : List ℕ) (c : Choice) (ss : List Segment) (at : ℕ → ℕ) (ends : List ℕ) (n : ℕ)
-    → ((i : ℕ) → i < n → endAt ss i ≡ getD ends i 0)
-    → ((i : ℕ) (j : RelaxableJump) → i < n → eventAt events i ≡ Jump j → wordAt labels (j .label) ≡ at (getD recorded (j .label) none))
-    → jumpsFilled output events labels c ss n ≡ fillJumps at recorded (tables.entries (eventAt events) n) c ends output
+table-filled : (output events labels : List ℕ) (c : Choice) (ss : List Segment) (named : ℕ → ℕ) (starts : List ℕ) (n : ℕ)
+    → ((i : ℕ) → i < n → startAt ss i ≡ getD starts i 0)
+    → ((i : ℕ) (b : Branch) → i < n → roleOf (eventAt events i) ≡ branches b → wordAt labels (b .label) ≡ named (b .label))
+    → jumpsFilled output events labels c ss n ≡ fillJumps named (tables.entries (eventAt events) n) c starts output
 unfolding jumpsFilled fillJumps
-table-filled output events labels recorded c ss at ends zero same known = refl
-table-filled output events labels recorded c ss at ends (suc n) same known =
-    rw (table-filled output events labels recorded c ss at ends n (λ i h. same i (omega arith)) (λ i j h. known i j (omega arith)), same n (omega arith))
-    (jump-filled at labels recorded (eventAt events n) (getD c n false) (getD ends n 0) _ (λ j e. known n j (omega arith) e)
-    ∙ sym (fillJumps-append at recorded (tables.entries (eventAt events) n) (eventAt events n) c ends output ∙ rw (length-entries (eventAt events) n)))
+table-filled output events labels c ss named starts zero same known = refl
+table-filled output events labels c ss named starts (suc n) same known =
+    rw (table-filled output events labels c ss named starts n (λ i h. same i (omega arith)) (λ i b h. known i b (omega arith)), same n (omega arith))
+    (jump-filled (wordAt labels) named (eventAt events n) (getD c n false) (getD starts n 0) _ (λ b r. known n b (omega arith) r)
+    ∙ sym (fillJumps-append named (tables.entries (eventAt events) n) (eventAt events n) c starts output ∙ rw (length-entries (eventAt events) n)))
 
-pub jumps-filled : (output events labels recorded constants asked : List ℕ) (c : Choice) (ss : List Segment) (at : ℕ → ℕ) (ends : List ℕ) (n from m : ℕ)
-    → ((i : ℕ) → i < n → endAt ss i ≡ getD ends i 0)
-    → ((i : ℕ) (j : RelaxableJump) → i < n → eventAt events i ≡ Jump j → wordAt labels (j .label) ≡ at (getD recorded (j .label) none))
+pub jumps-filled : (output events labels constants asked : List ℕ) (c : Choice) (ss : List Segment) (named : ℕ → ℕ) (starts : List ℕ) (n from m : ℕ)
+    → ((i : ℕ) → i < n → startAt ss i ≡ getD starts i 0)
+    → ((i : ℕ) (b : Branch) → i < n → roleOf (eventAt events i) ≡ branches b → wordAt labels (b .label) ≡ named (b .label))
     → jumpsFilled output events labels c ss n
-    ≡ fillJumps at recorded (tables.entries (eventAt events) n ++ tables.entries (poolEvent from constants asked) m) c ends output
-jumps-filled output events labels recorded constants asked c ss at ends n from m same known =
-    table-filled output events labels recorded c ss at ends n same known
-    ∙ sym (pool-fills-nothing at recorded (tables.entries (eventAt events) n) c ends output from constants asked m)
+    ≡ fillJumps named (tables.entries (eventAt events) n ++ tables.entries (poolEvent from constants asked) m) c starts output
+jumps-filled output events labels constants asked c ss named starts n from m same known =
+    table-filled output events labels c ss named starts n same known
+    ∙ sym (pool-fills-nothing named (tables.entries (eventAt events) n) c starts output from constants asked m)

@@ -21,11 +21,12 @@ use Rattle.recording.specs.Calls.{Recording}
 use Rattle.recording.specs.View.{entries, view, relocAt}
 use Rattle.recording.proofs.Views.{word-set}
 use Rattle.fresh.specs.Pooled.{Pooled, pooled}
+use Rattle.fresh.specs.Forms.{moves}
 use Rattle.pool.specs.Pool.{labelAt, poolOffset, poolBound, poolUnbound, poolIsBound}
 use Rattle.pool.proofs.Pool.{length-poolBound, poolUnbound-poolBound, setWord-same}
 use Rattle.finish.specs.declared.Outcome.{Outcome}
 use Rattle.finish.specs.declared.Finished.{Finished}
-use Rattle.finish.specs.Refusals.{allBound, hasJump, whyNotLaid, whyNotWritten, whyNotInPlace, whyUnfit}
+use Rattle.finish.specs.Refusals.{allBound, whyNotLaid, whyNotWritten, whyNotInPlace, whyUnfit}
 use Rattle.finish.specs.Finish.{overWords, Left, refusedWith, relaxed, unrelaxed, finishedWith, unfinished, placedBy, finish}
 use Rattle.finish.specs.Ready.{Ready, Placeable, pooledOf, placedAs, concluded}
 use Rattle.finish.proofs.Sounds.{pool-distinct, offsets-small, pooled-is, ready}
@@ -100,10 +101,10 @@ unrelaxed-refused p labels relocs ss output ne =
     unrelaxed-pick (LeftAlone labels relocs output) (eqb (whyNotInPlace p (length output)) 0) _ _ refl (refl, refl, refl) ne
 
 pub stages-refused : (bound : Bool) (p : Pooled) (count : ℕ) (labels relocs : List ℕ) (ss : List Segment) (output : List ℕ)
-    → pick bound (pick (hasJump p) (relaxed p count labels relocs ss output) (unrelaxed p labels relocs ss output)) (refusedWith 15, (labels, (relocs, (ss, output)))) .0 .refusal ≢ 0
-    → LeftAlone labels relocs output (pick bound (pick (hasJump p) (relaxed p count labels relocs ss output) (unrelaxed p labels relocs ss output)) (refusedWith 15, (labels, (relocs, (ss, output)))) .1)
+    → pick bound (pick (moves (p .events)) (relaxed p count labels relocs ss output) (unrelaxed p labels relocs ss output)) (refusedWith 15, (labels, (relocs, (ss, output)))) .0 .refusal ≢ 0
+    → LeftAlone labels relocs output (pick bound (pick (moves (p .events)) (relaxed p count labels relocs ss output) (unrelaxed p labels relocs ss output)) (refusedWith 15, (labels, (relocs, (ss, output)))) .1)
 stages-refused bound p count labels relocs ss output ne =
-    placed-picks (LeftAlone labels relocs output) bound (hasJump p) _ _ _ (relaxed-refused p count labels relocs ss output) (unrelaxed-refused p labels relocs ss output) (refl, refl, refl) ne
+    placed-picks (LeftAlone labels relocs output) bound (moves (p .events)) _ _ _ (relaxed-refused p count labels relocs ss output) (unrelaxed-refused p labels relocs ss output) (refl, refl, refl) ne
 
 refused-labels : (p : Pooled) (b : CodeBuffer) (labels relocs : List ℕ) (ss : List Segment) (output : List ℕ)
     → placedAs p b labels relocs ss output .0 .refusal ≢ 0 → placedAs p b labels relocs ss output .1 .0 ≡ labels

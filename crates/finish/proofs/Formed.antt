@@ -14,9 +14,9 @@ use Rattle.seqs.proofs.Booleans.{true-is-not-false, both-true}
 use Rattle.seqs.proofs.Numbers.{lt-or-ge, eq-or-ne}
 use Rattle.words.specs.Words.{wordAt}
 use Rattle.relax.specs.declared.LayoutEvent.{LayoutEvent}
-use Rattle.relax.specs.declared.LayoutEvent.the-variants.{Jump, Align}
 use Rattle.relax.specs.declared.RelaxableJump.{RelaxableJump}
-use Rattle.relax.specs.Events.{conditionOf, eventOf, eventAt, endOf}
+use Rattle.relax.specs.Events.{conditionOf, eventOf, eventAt, endOf, startOf, noEvent}
+use Rattle.relax.proofs.Columns.{start-at, extent-at, end-at}
 use Rattle.buffer.specs.State.{none}
 use Rattle.buffer.specs.Refusals.{isAlignment}
 use Rattle.seqs.specs.Pick.{pick}
@@ -24,9 +24,9 @@ use Rattle.recording.specs.Sound.{startAt, endAt, LabelSound, FormOf, EventsSou
 use Rattle.recording.specs.View.{entries, Use, Ref}
 use Rattle.recording.proofs.Views.{length-entries, getD-entries}
 use Rattle.fresh.specs.Pooled.{Pooled}
-use Rattle.fresh.specs.Fresh.{startOf}
-use Rattle.fresh.proofs.Shape.{Ordered, Clear, Lies, Apart, WellFormed, Modest}
+use Rattle.fresh.proofs.Shape.{Ordered, Clear, Lies, Apart, WellFormed, Small, Modest}
 use Rattle.fresh.proofs.Entries.{clear-of, ordered-of, apart-lies, refs-lie, pool-lies, modest-of}
+use Rattle.fresh.specs.Forms.{Branch, pads, branches, branchOf, roleOf}
 use Rattle.pool.specs.Pool.{sizeAt, bytesAt, poolStart, poolOffset, poolEvent, poolBytes, PoolFits}
 use Rattle.pool.proofs.Pool.{length-poolBytes, poolStart-grows, from-poolStart, poolStart-suc, poolOffset-bound}
 use Rattle.fields.specs.Kinds.{decoded}
@@ -35,7 +35,6 @@ use Rattle.checks.specs.Fields.{sizeOf}
 use Rattle.finish.specs.Refusals.{every, refClear}
 use Rattle.finish.specs.Tables.{poolPlaced, tablesPooled}
 use Rattle.finish.specs.Ready.{Landed, Ready}
-use Rattle.finish.proofs.Checked.{start-at, end-at}
 
 -- the events of the table follow one another within the code
 pub recorded-ordered : (events : List ℕ) (n labels len arch : ℕ) → EventsSound events n labels len arch → Ordered 0 len (entries (eventAt events) n)
@@ -43,15 +42,15 @@ recorded-ordered events n labels len arch s =
     ordered-of (entries (eventAt events) n) 0 len (omega arith)
     (λ i h.
     let lt : i < n = omega (arith, length-entries (eventAt events) n) in
-    rw (getD-entries (eventAt events) n i (Align 0 0 0) lt, start-at events i, end-at events i) (omega arith, s .entry i lt .ends))
+    rw (getD-entries (eventAt events) n i noEvent lt, start-at events i, extent-at events i) (omega arith, s .entry i lt .ends))
     (λ i j h k.
     let lt : j < n = omega (arith, length-entries (eventAt events) n) in
     let li : i < n = omega (arith, h, lt) in
-    rw (getD-entries (eventAt events) n i (Align 0 0 0) li, getD-entries (eventAt events) n j (Align 0 0 0) lt, end-at events i, start-at events j)
+    rw (getD-entries (eventAt events) n i noEvent li, getD-entries (eventAt events) n j noEvent lt, end-at events i, start-at events j)
     (s .entry j lt .follows i h))
 
-alignment-range : (n : ℕ) → isAlignment n ≡ true → (0 < n) × (n ≤ 4096) × Modest []
-unfolding isAlignment Modest
+alignment-range : (n : ℕ) → isAlignment n ≡ true → (0 < n) × (n ≤ 4096)
+unfolding isAlignment
 alignment-range n h =
     let f = both-true (not (eqb n 0)) (eqb (4096 % n) 0) h in
     ⊎-elim
@@ -59,14 +58,14 @@ alignment-range n h =
     (λ (some : n ≢ 0).
     ⊎-elim
     (λ (past : 4096 < n). absurd (true-is-not-false (sym (f .1) ∙ rw (mod-eq-of-lt past) refl)))
-    (λ (within : n ≤ 4096). (omega arith, within, tt))
+    (λ (within : n ≤ 4096). (omega arith, within))
     (lt-or-ge 4096 n))
     (eq-or-ne n 0)
 
 -- jumps have 2 to 15 bytes, and alignments are on 1 to 4,096
-column-modest : (labels kind start len what cc : ℕ) → FormOf labels kind start len what cc → Modest (eventOf kind start len what cc ∷ [])
-unfolding Modest eventOf pick
-column-modest labels kind start len what cc (inl j) = rw (j .0) (j .1, j .2, tt)
+column-modest : (labels kind start len what cc : ℕ) → FormOf labels kind start len what cc → Small (eventOf kind start len what cc)
+unfolding eventOf pick
+column-modest labels kind start len what cc (inl j) = rw (j .0) (j .1, j .2)
 column-modest labels kind start len what cc (inr a) = rw (a .0) (alignment-range what (a .1))
 
 pub recorded-modest : (events : List ℕ) (n labels len arch : ℕ) → EventsSound events n labels len arch → Modest (entries (eventAt events) n)
@@ -75,32 +74,26 @@ recorded-modest events n labels len arch s =
     modest-of (entries (eventAt events) n)
     (λ i h.
     let lt : i < n = omega (arith, length-entries (eventAt events) n) in
-    rw (getD-entries (eventAt events) n i (Align 0 0 0) lt) (column-modest labels _ _ _ _ _ (s .entry i lt .form)))
+    rw (getD-entries (eventAt events) n i noEvent lt) (column-modest labels _ _ _ _ _ (s .entry i lt .form)))
 
 -- a jump of the table names a known label, and its condition has an opcode
-labelIn : LayoutEvent → ℕ
-labelIn (Jump j) = j .label
-labelIn (Align start len align) = 0
+column-label : (labels kind start len what on : ℕ) (b : Branch) → FormOf labels kind start len what on → roleOf (eventOf kind start len what on) ≡ branches b
+    → b .label < labels
+unfolding eventOf pick roleOf
+column-label labels kind start len what on b (inl f) e =
+    let jump : RelaxableJump = record { start = start; len = len; label = what; cc = conditionOf on } in
+    let role : branches (branchOf jump) ≡ branches b = rw (f .0) at e in
+    let named : what ≡ b .label = cc in
+    omega (arith, named, f .3)
+column-label labels kind start len what on b (inr f) e =
+    let role : pads ≡ branches b = rw (f .0) at e in
+    let z : _≡_ {A = ℕ} 0 1 = cc in
+    absurd (omega arith)
 
-isJump : LayoutEvent → Bool
-isJump (Jump j) = true
-isJump (Align start len align) = false
-
-column-label : (labels kind start len what cc : ℕ) (j : RelaxableJump) → FormOf labels kind start len what cc → eventOf kind start len what cc ≡ Jump j → j .label < labels
-unfolding eventOf pick labelIn isJump
-column-label labels kind start len what cc j (inl f) e =
-    let named : labelIn (eventOf kind start len what cc) ≡ j .label = ap labelIn e in
-    let what·is : labelIn (eventOf kind start len what cc) ≡ what = rw (f .0) refl in
-    omega (arith, named, what·is, f .3)
-column-label labels kind start len what cc j (inr f) e =
-    let jump : isJump (eventOf kind start len what cc) ≡ true = ap isJump e in
-    let none·is : isJump (eventOf kind start len what cc) ≡ false = rw (f .0) refl in
-    absurd (true-is-not-false (sym jump ∙ none·is))
-
-pub jump-label : (events : List ℕ) (n labels len arch : ℕ) → EventsSound events n labels len arch → (i : ℕ) (j : RelaxableJump) → i < n → eventAt events i ≡ Jump j
-    → j .label < labels
+pub jump-label : (events : List ℕ) (n labels len arch : ℕ) → EventsSound events n labels len arch → (i : ℕ) (b : Branch) → i < n
+    → roleOf (eventAt events i) ≡ branches b → b .label < labels
 unfolding eventAt
-jump-label events n labels len arch s i j h e = column-label labels _ _ _ _ _ j (s .entry i h .form) e
+jump-label events n labels len arch s i b h e = column-label labels _ _ _ _ _ b (s .entry i h .form) e
 
 condition-encodes : (cc : ℕ) → cc ≤ 16 → Encodes (conditionOf cc)
 unfolding conditionOf pick
@@ -156,7 +149,7 @@ offset-before from constants asked i j h = omega (arith, poolStart-suc from cons
 module _ (code labels events constants asked : List ℕ) (arch len count n m : ℕ) (ready : Ready code labels events constants asked arch len count n m)
     (es : List LayoutEvent) (is : es ≡ entries (eventAt events) n ++ entries (poolEvent len constants asked) m) where
   abbrev e·at : ℕ → LayoutEvent
-  e·at i = getD es i (Align 0 0 0)
+  e·at i = getD es i noEvent
 
   many : length es ≡ n + m
   many =
@@ -165,7 +158,7 @@ module _ (code labels events constants asked : List ℕ) (arch len count n m : �
       ∙ rw (length-entries (eventAt events) n, length-entries (poolEvent len constants asked) m)
 
   at : (i : ℕ) → i < length es → AtTable events n i (e·at i) ⊎ AtPool constants asked len n m i (e·at i)
-  at i h = rw is (event-at events constants asked len n m i (Align 0 0 0) (omega (arith, many)))
+  at i h = rw is (event-at events constants asked len n m i noEvent (omega (arith, many)))
 
   table-start : (i : ℕ) → AtTable events n i (e·at i) → startOf (e·at i) ≡ startAt events i
   table-start i a = rw (a .is) (start-at events i)
@@ -284,9 +277,9 @@ ref-apart p f h =
       leb-true (f .offset + size) (length (p .code)) (both .0),
       λ i k.
           ⊎-elim
-          (λ (a : leb (endOf (getD (p .events) i (Align 0 0 0))) (f .offset) ≡ true). inr (leb-true (endOf (getD (p .events) i (Align 0 0 0))) (f .offset) a))
-          (λ (b : leb (f .offset + size) (startOf (getD (p .events) i (Align 0 0 0))) ≡ true). inl (leb-true (f .offset + size) (startOf (getD (p .events) i (Align 0 0 0))) b))
-          (either-true _ _ (every-at (λ (e : LayoutEvent). leb (endOf e) (f .offset) || leb (f .offset + size) (startOf e)) (p .events) (Align 0 0 0) (both .1) i k)),
+          (λ (a : leb (endOf (getD (p .events) i noEvent)) (f .offset) ≡ true). inr (leb-true (endOf (getD (p .events) i noEvent)) (f .offset) a))
+          (λ (b : leb (f .offset + size) (startOf (getD (p .events) i noEvent)) ≡ true). inl (leb-true (f .offset + size) (startOf (getD (p .events) i noEvent)) b))
+          (either-true _ _ (every-at (λ (e : LayoutEvent). leb (endOf e) (f .offset) || leb (f .offset + size) (startOf e)) (p .events) noEvent (both .1) i k)),
     )
 
 -- a constant has as many bytes as its entry says

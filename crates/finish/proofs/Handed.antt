@@ -1,9 +1,9 @@
 -- What the calls of a relaxed finish are handed, from the entries that are checked and the layout that the rounds leave.
 use mathlib.Core.Path.{_≡_, refl, sym, ap, _∙_, subst}
 use mathlib.Core.Logic.{_≢_, ⊎-elim, inl, inr}
-use mathlib.Core.Bool.{Bool, true, false}
+use mathlib.Core.Bool.{true}
 use mathlib.Core.List.{List, [], _∷_, _++_}
-use Prim.Native.Nat.{ℕ, _+_, _-_, _*_, _≤_, _<_}
+use Prim.Native.Nat.{ℕ, _+_, _*_, _≤_, _<_}
 use native.Mathlib.Omega.{arith}
 use lib.ListN.{length, getD, take, List·getD-append}
 use lib.Seq.{length-take-le, take-take}
@@ -14,10 +14,8 @@ use Rattle.fields.specs.declared.Decoded.{Decoded}
 use Rattle.fields.specs.declared.Decoded.the-variants.{Use, Unsupported, Unknown}
 use Rattle.fields.specs.Kinds.{decoded}
 use Rattle.relax.specs.declared.LayoutEvent.{LayoutEvent}
-use Rattle.relax.specs.declared.LayoutEvent.the-variants.{Jump, Align}
-use Rattle.relax.specs.declared.RelaxableJump.{RelaxableJump}
 use Rattle.relax.specs.declared.Segment.{Segment}
-use Rattle.relax.specs.Events.{eventAt, endOf}
+use Rattle.relax.specs.Events.{eventAt, endOf, noEvent}
 use Rattle.buffer.specs.State.{none}
 use Rattle.recording.specs.Sound.{FormOf, RefsSound}
 use Rattle.recording.specs.View as tables
@@ -25,17 +23,17 @@ use Rattle.recording.proofs.Views.{length-entries, getD-entries}
 use Rattle.fresh.specs.Pooled.{Pooled}
 use Rattle.fresh.specs.Fresh.{Choice, isLong, others}
 use Rattle.fresh.specs.Segments.{segment, segments, decided, mapOffset, segmentsOf}
-use Rattle.fresh.specs.Fill.{displacementSize}
-use Rattle.fresh.proofs.Shape.{Apart, Ordered, RefsLie, PoolLies, WellFormed, runs}
+use Rattle.fresh.proofs.Shape.{Apart, Ordered, RefsLie, PoolLies, WellFormed, runs, newStarts}
 use Rattle.fresh.proofs.Segments.{placed-runs, length-placed}
 use Rattle.fresh.proofs.Loops.{length-runs}
-use Rattle.fresh.proofs.Within.{displacement-fits, mapped-within, newEnds-within}
+use Rattle.fresh.proofs.Within.{mapped-within, field-within}
+use Rattle.fresh.specs.Forms.{roleOf}
 use Rattle.pool.specs.Pool.{labelAt, bytesAt, poolStart, poolOffset, poolEvent, PoolRoom}
 use Rattle.pool.proofs.Pool.{from-poolStart, poolStart-bound, poolOffset-bound}
 use Rattle.layout.specs.Layout.{allEvents, finishedLength, Recorded, Rising, Labelled}
 use Rattle.layout.proofs.Pooling.{all-ordered, all-modest, length-all}
 use Rattle.layout.proofs.Table.{table-laid, rising-laid}
-use Rattle.emit.specs.Emit.{Within, endAt, JumpWithin, RefsFit, RefsKnown, JumpsFit, WordsFit}
+use Rattle.emit.specs.Emit.{Within, startAt, RefsFit, RefsKnown, JumpsFit, WordsFit}
 use Rattle.checks.specs.Fields.{sizeOf, refsClear}
 use Rattle.checks.specs.Handed.{useLabel, refLabel, Named, JumpsNamed, TargetsNamed}
 use Rattle.finish.specs.Refusals.{every, refClear}
@@ -43,7 +41,7 @@ use Rattle.finish.specs.Tables.{tablesPooled}
 use Rattle.finish.specs.Ready.{Ready, Entered, Clearing, Writing, endOfRuns}
 use Rattle.finish.proofs.Formed.{recorded-ordered, recorded-modest, recorded-writes, jump-label, offset-lies, every-at, ref-apart, constant-size, pooled-length, well-formed, pool-apart}
 use Rattle.finish.proofs.Checked.{refs-clear}
-use Rattle.finish.proofs.Written.{any·ref, end-segment}
+use Rattle.finish.proofs.Written.{any·ref, start-segment}
 use Rattle.finish.proofs.Emission.{PoolRuns, pool-runs}
 
 -- the events as a layout is handed them
@@ -101,7 +99,7 @@ module _ {code labels events constants asked : List ℕ} {len count n m : ℕ} (
 
   -- where the recorded code ends
   abbrev to : ℕ
-  to = length (runs 0 0 (take len code) (tables.entries (eventAt events) n) c)
+  to = length (runs 2 0 0 (take len code) (tables.entries (eventAt events) n) c)
 
   size : length (take len code) ≡ len
   size = length-take-le len code (ready .bytes .room)
@@ -111,7 +109,7 @@ module _ {code labels events constants asked : List ℕ} {len count n m : ℕ} (
 
   -- the recorded code alone, in good order
   alone : Pooled
-  alone = record { code = take len code; events = tables.entries (eventAt events) n; labels = []; uses = []; refs = []; pool = [] }
+  alone = record { arch = 2; code = take len code; events = tables.entries (eventAt events) n; labels = []; uses = []; refs = []; pool = [] }
 
   alone-formed : WellFormed alone
   unfolding alone RefsLie PoolLies
@@ -156,9 +154,9 @@ module _ {code labels events constants asked : List ℕ} {arch len count n m : �
   pub labelled : Labelled events labels n
   labelled = record {
     known = λ i h. record {
-      room = λ j e. omega (arith, jump-label events n count len arch (ready .recorded) i j h e, ready .room);
-      small = λ j e bound.
-          omega (arith, landed-small code labels events constants asked arch len count n m ready (j .label) (jump-label events n count len arch (ready .recorded) i j h e) bound);
+      room = λ b r. omega (arith, jump-label events n count len arch (ready .recorded) i b h r, ready .room);
+      small = λ b r bound.
+          omega (arith, landed-small code labels events constants asked arch len count n m ready (b .label) (jump-label events n count len arch (ready .recorded) i b h r) bound);
     };
   }
 
@@ -197,11 +195,6 @@ pub within-size : (d : Decoded) (offset room : ℕ) → offset + sizeOf d ≤ ro
 within-size (Use k) offset room h = h
 within-size Unsupported offset room h = tt
 within-size Unknown offset room h = tt
-
-jump-within : (e : LayoutEvent) (long : Bool) (end : ℕ) (labels : List ℕ) (room : ℕ)
-    → ((j : RelaxableJump) → e ≡ Jump j → (j .label * 4 + 4 ≤ length labels) × (displacementSize long ≤ end) × (end ≤ room)) → JumpWithin e long end labels room
-jump-within (Jump j) long end labels room h = h j refl
-jump-within (Align start len align) long end labels room h = tt
 
 module _ {code labels events constants asked refs : List ℕ} {len count n m f : ℕ} (ready : Ready code labels events constants asked 2 len count n m)
     (referred : RefsSound refs f 2 count) (clear : refsClear refs f events n len constants asked m ≡ true) where
@@ -254,11 +247,11 @@ module _ {code labels events constants asked refs : List ℕ} {len count n m f :
     p = pooled·of []
 
     -- the code is as long as the layout says
-    length-all-runs : length (runs 0 0 (p .code) (p .events) c) ≤ length output
+    length-all-runs : length (runs 2 0 0 (p .code) (p .events) c) ≤ length output
     length-all-runs =
         omega (
           arith,
-          length-runs (p .events) 0 0 (p .code) c (formed [] .ordered),
+          length-runs 2 (p .events) 0 0 (p .code) c (formed [] .ordered),
           pooled-length code labels events constants asked len count n m ready [] (tables.entries (tables.refAt refs) f),
           fits,
         )
@@ -283,21 +276,30 @@ module _ {code labels events constants asked refs : List ℕ} {len count n m f :
       };
     }
 
+    starts-at : (i : ℕ) → i < n → startAt ss i ≡ getD (newStarts (segmentsOf p c)) i 0
+    starts-at i h = start-segment ss (segmentsOf p c) (n + m) i (omega arith) table
+
+    event-is : (i : ℕ) → i < n → getD (p .events) i noEvent ≡ eventAt events i
+    event-is i h =
+        List·getD-append (tables.entries (eventAt events) n) (tables.entries (poolEvent len constants asked) m) noEvent i
+        (omega (arith, length-entries (eventAt events) n))
+        ∙ getD-entries (eventAt events) n i noEvent h
+
     jumps-fit : JumpsFit (length output) events final c ss n
     jumps-fit = record {
       chosen = omega (arith, chosen);
       laid = omega (arith, rising-all ready before ss c laid few room .fits);
       each = λ i h. record {
         entry = omega (arith, ready .recorded .room);
-        within =
-            jump-within (eventAt events i) (getD c i false) (endAt ss i) final (length output)
-            (λ j e.
-            let at = end-segment ss (segmentsOf p c) (n + m) i (omega arith) table in
-            let is = List·getD-append (tables.entries (eventAt events) n) (tables.entries (poolEvent len constants asked) m) (Align 0 0 0) i (omega (arith, length-entries (eventAt events) n)) ∙ getD-entries (eventAt events) n i (Align 0 0 0) h ∙ e in (
-              omega (arith, same, jump-label events n count len 2 (ready .recorded) i j h e, ready .room),
-              omega (arith, at, displacement-fits (p .events) 0 0 c i j (omega (arith, length-all events n len constants asked m)) is),
-              omega (arith, at, newEnds-within p c (formed []) i, length-all-runs),
-            ));
+        known = λ b r. omega (arith, same, jump-label events n count len 2 (ready .recorded) i b h r, ready .room);
+        within = λ b r.
+            omega (
+              arith,
+              starts-at i h,
+              field-within p c (formed []) i b (omega (arith, length-all events n len constants asked m)) (ap roleOf (event-is i h) ∙ r),
+              length-all-runs,
+            );
+        small = omega (arith, rising-all ready before ss c laid few room .small i (omega arith));
       };
     }
 
@@ -356,7 +358,7 @@ kind-label labels kind start len what cc (inl j) k = j .3
 kind-label labels kind start len what cc (inr a) k = absurd (omega (arith, a .0, k))
 
 -- the labels that entries name lie in the table of labels
-module _ (labels events uses refs relocs : List ℕ) (arch symbols len count n u f l : ℕ) (e : Entered labels events uses refs relocs arch symbols len count n u f l) where
+module _ {labels events uses refs relocs : List ℕ} {arch symbols len count n u f l : ℕ} (e : Entered labels events uses refs relocs arch symbols len count n u f l) where
   pub uses-named : Named (useLabel uses) u labels
   uses-named = record { known = λ i h. omega (arith, e .used .entry i h .label, e .room) }
 

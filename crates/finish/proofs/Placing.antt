@@ -3,7 +3,7 @@ use mathlib.Core.Path.{_≡_, refl, sym, ap, _∙_, subst}
 use mathlib.Core.Logic.{_⊎_, _≢_, ⊎-elim}
 use mathlib.Core.Bool.{Bool, true, false, not, _&&_, cond}
 use mathlib.Core.List.{List, [], _∷_, _++_}
-use Prim.Native.Nat.{ℕ, _+_, _-_, _*_, _≤_, _<_}
+use Prim.Native.Nat.{ℕ, _+_, _*_, _≤_, _<_}
 use native.Mathlib.Omega.{arith}
 use lib.Dec.{eqb, ltb}
 use lib.ListN.{length, take}
@@ -18,16 +18,16 @@ use Rattle.buffer.specs.declared.CodeBuffer.{CodeBuffer}
 use Rattle.recording.specs.Sound.{RefsSound}
 use Rattle.recording.specs.View as tables
 use Rattle.fresh.specs.Pooled.{Pooled}
+use Rattle.fresh.specs.Forms.{moves}
 use Rattle.pool.specs.Pool.{poolEvent}
 use Rattle.emit.specs.Emit.{WordsFit}
-use Rattle.checks.specs.Entries.{all}
 use Rattle.checks.specs.Fields as checked
 use Rattle.finish.specs.declared.Outcome.{Outcome}
-use Rattle.finish.specs.Refusals.{allBound, hasJump, whyNotInPlace}
+use Rattle.finish.specs.Refusals.{allBound, whyNotInPlace}
 use Rattle.finish.specs.Finish.{Left, refusedWith, relaxed, unrelaxed}
 use Rattle.finish.specs.Tables.{tablesPooled}
 use Rattle.finish.specs.Ready.{Ready, Relaxable, Keepable, kept, Placeable, pooledOf, placedAs, Starts}
-use Rattle.finish.proofs.Checked.{uses-bound, refs-bound, relocs-bound, jumps-bound, has-jump}
+use Rattle.finish.proofs.Checked.{uses-bound, refs-bound, relocs-bound, jumps-bound, moves-is}
 use Rattle.finish.proofs.Handed.{kind-label}
 use Rattle.finish.proofs.Stages.{refused-early}
 
@@ -51,7 +51,7 @@ unfolding kept unrelaxed
 kept-beside p labels relocs ss output left r e =
     ap (beside labels relocs ss) e ∙ pick-beside labels relocs ss (eqb (whyNotInPlace p (length output)) 0) _ _
 
-module _ (b : CodeBuffer) (code labels events uses refs constants asked relocs output : List ℕ) (segments : ℕ)
+module _ {b : CodeBuffer} {code labels events uses refs constants asked relocs output : List ℕ} {segments : ℕ}
     (x : Placeable b code labels events uses refs constants asked relocs output segments) where
   abbrev p : Pooled
   p = pooledOf b code labels events uses refs constants asked
@@ -77,17 +77,17 @@ module _ (b : CodeBuffer) (code labels events uses refs constants asked relocs o
             (λ i h e. kind-label (b .labels) _ _ _ _ _ (x .entered .recorded .entry i h .form) e),
       )
 
-  jump-is : hasJump p ≡ checked.hasJump events (b .events)
-  jump-is = has-jump p events constants asked (b .code) (b .events) (cond (eqb (b .arch) 2) (b .asked) 0) events-are
+  jump-is : moves (p .events) ≡ moves (tables.entries (eventAt events) (b .events))
+  jump-is = moves-is p events constants asked (b .code) (b .events) (cond (eqb (b .arch) 2) (b .asked) 0) events-are
 
   -- only X64 keeps events
-  arch-is : checked.hasJump events (b .events) ≡ true → b .arch ≡ 2
-  unfolding checked.hasJump all
+  arch-is : moves (tables.entries (eventAt events) (b .events)) ≡ true → b .arch ≡ 2
+  unfolding moves
   arch-is h =
       ⊎-elim
       (λ (e : b .arch ≡ 2). e)
       (λ (e : b .events ≡ 0).
-      absurd (true-is-not-false (sym h ∙ ap (λ (k : ℕ). checked.hasJump events k) e)))
+      absurd (true-is-not-false (sym h ∙ ap (λ (k : ℕ). moves (tables.entries (eventAt events) k)) e)))
       (x .ready .recorded .tracked)
 
   relocs-fit : WordsFit relocs 6 (b .relocs)
@@ -97,7 +97,7 @@ module _ (b : CodeBuffer) (code labels events uses refs constants asked relocs o
     recorded = λ i h bound. omega (arith, x .entered .relocated .entry i h .offset);
   }
 
-  pub relaxable : checked.hasJump events (b .events) ≡ true
+  pub relaxable : moves (tables.entries (eventAt events) (b .events)) ≡ true
       → Relaxable code labels events refs constants asked relocs output segments (b .code) (b .labels) (b .events) (b .asked) (b .refs) (b .relocs)
   relaxable h = record {
     ready = subst (λ (a : ℕ). Ready code labels events constants asked a (b .code) (b .labels) (b .events) (b .asked)) (arch-is h) (x .ready);
@@ -119,14 +119,14 @@ module _ (b : CodeBuffer) (code labels events uses refs constants asked relocs o
     known = λ i h. x .entered .used .entry i h .label;
   }
 
-  module _ (bound : Bool)
+  module _ {bound : Bool}
       (bound·answer : bound ≡ (checked.usesBound uses (b .uses) labels
       && (checked.relocsBound relocs (b .relocs) labels && (checked.refsBound refs (b .refs) labels && checked.jumpsBound events (b .events) labels)))) where
-    pub placed-unbound : (r : Outcome) → bound ≡ false → r ≡ refusedWith 15 → (ss : List Segment) → (r, (labels, (relocs, (ss, output)))) ≡ placedAs p b labels relocs ss output
+    pub placed-unbound : {r : Outcome} → bound ≡ false → r ≡ refusedWith 15 → (ss : List Segment) → (r, (labels, (relocs, (ss, output)))) ≡ placedAs p b labels relocs ss output
     unfolding placedAs
-    placed-unbound r e er ss = rw (er, bound-is ∙ sym bound·answer) (sym (pick-no bound _ _ e))
+    placed-unbound e er ss = rw (er, bound-is ∙ sym bound·answer) (sym (pick-no bound _ _ e))
 
-    module _ (all·bound : bound ≡ true) (jump : Bool) (jump·answer : jump ≡ checked.hasJump events (b .events)) where
+    module _ (all·bound : bound ≡ true) {jump : Bool} (jump·answer : jump ≡ moves (tables.entries (eventAt events) (b .events))) where
       placed-relaxed : jump ≡ true → (ss : List Segment) (left : Outcome × Left)
           → ((us : List tables.Use) → left ≡ relaxed (tablesPooled 2 (b .code) (take (b .code) code) (tables.entries (wordAt labels) (b .labels)) (tables.entries (eventAt events) (b .events)) us (tables.entries (tables.refAt refs) (b .refs)) constants asked (b .asked)) (b .relocs) labels relocs ss output)
           → left ≡ placedAs p b labels relocs ss output
@@ -136,14 +136,14 @@ module _ (b : CodeBuffer) (code labels events uses refs constants asked relocs o
           (sym (pick-yes bound _ _ all·bound ∙ pick-yes jump _ _ e ∙ rw (arch-is (sym jump·answer ∙ e)) (sym (is (tables.entries (tables.useAt uses) (b .uses))))))
 
       -- with a jump: 16 and 17, or a layout
-      module _ (jumps : jump ≡ true) (why : ℕ)
+      module _ (jumps : jump ≡ true) {why : ℕ}
           (why·answer : why ≡ first ((ltb segments (b .events + b .asked), 16) ∷ (not (checked.refsClear refs (b .refs) events (b .events) (b .code) constants asked (b .asked)), 17) ∷ [])) where
         relaxes : Relaxable code labels events refs constants asked relocs output segments (b .code) (b .labels) (b .events) (b .asked) (b .refs) (b .relocs)
         relaxes = relaxable (sym jump·answer ∙ jumps)
 
-        pub started-refused : why ≢ 0 → (r : Outcome) → r ≡ refusedWith why → (ss : List Segment) → length ss ≡ segments
+        pub started-refused : why ≢ 0 → {r : Outcome} → r ≡ refusedWith why → (ss : List Segment) → length ss ≡ segments
             → (r, (labels, (relocs, (ss, output)))) ≡ placedAs p b labels relocs ss output
-        started-refused ne r er ss l =
+        started-refused ne er ss l =
             placed-relaxed jumps ss _
             (λ us.
             let x : Relaxable code labels events refs constants asked relocs output (length ss) (b .code) (b .labels) (b .events) (b .asked) (b .refs) (b .relocs) = rw l relaxes in
@@ -152,11 +152,11 @@ module _ (b : CodeBuffer) (code labels events uses refs constants asked relocs o
         pub starts : why ≡ 0 → Starts b code labels events uses refs constants asked relocs output output segments
         starts z = record { kept = refl; relaxable = relaxes; laid = sym z ∙ why·answer; placed = placed-relaxed jumps }
 
-      pub placed-kept : jump ≡ false → (r : Outcome) (left : List ℕ)
+      pub placed-kept : jump ≡ false → {r : Outcome} {left : List ℕ}
           → ((es : List LayoutEvent) (rs : List tables.Ref) → (r, left) ≡ kept (tablesPooled (b .arch) (b .code) (take (b .code) code) (tables.entries (wordAt labels) (b .labels)) es (tables.entries (tables.useAt uses) (b .uses)) rs constants asked (b .asked)) output)
           → (ss : List Segment) → (r, (labels, (relocs, (ss, left)))) ≡ placedAs p b labels relocs ss output
       unfolding placedAs
-      placed-kept e r left is ss =
+      placed-kept e {r} {left} is ss =
           rw (bound-is ∙ sym bound·answer, jump-is ∙ sym jump·answer)
           (kept-beside p labels relocs ss output left r (is (tables.entries (eventAt events) (b .events)) (tables.entries (tables.refAt refs) (b .refs)))
           ∙ sym (pick-yes bound _ _ all·bound ∙ pick-no jump _ _ e))

@@ -48,15 +48,16 @@ no-events false events = append-nil events
 
 -- one constant more, of a pooled recording whose fields are given
 one-more : (arch : ℕ) (code : List ℕ) (events : List LayoutEvent) (labels constants asked : List ℕ) (count n from : ℕ) (p : Pooled)
-    → p .code ≡ code ++ poolBytes arch from constants asked n
+    → p .arch ≡ arch → p .code ≡ code ++ poolBytes arch from constants asked n
     → p .events ≡ events ++ cond (eqb arch 2) (entries (poolEvent from constants asked) n) []
     → p .labels ≡ entries (wordAt (poolBound from labels constants asked n)) count
     → p .pool ≡ entries (poolPlaced from constants asked) n
     → length (p .code) ≡ poolStart from constants asked n
     → length (bytesAt constants asked n) ≡ sizeAt constants asked n
     → count * 4 ≤ length labels → labelAt constants asked n < count → poolOffset from constants asked n < 4294967296
-    → pooledOne arch p (record { bytes = bytesAt constants asked n; label = labelAt constants asked n })
+    → pooledOne p (record { bytes = bytesAt constants asked n; label = labelAt constants asked n })
     ≡ record {
+      arch = arch;
       code = code ++ poolBytes arch from constants asked (suc n);
       events = events ++ cond (eqb arch 2) (entries (poolEvent from constants asked) (suc n)) [];
       labels = entries (wordAt (poolBound from labels constants asked (suc n))) count;
@@ -65,8 +66,9 @@ one-more : (arch : ℕ) (code : List ℕ) (events : List LayoutEvent) (labels co
       pool = entries (poolPlaced from constants asked) (suc n);
     }
 unfolding pooledOne poolBytes poolBound
-one-more arch code events labels constants asked count n from p c e l k len size room known small =
+one-more arch code events labels constants asked count n from p a c e l k len size room known small =
     rw (
+      a,
       len,
       size,
       c,
@@ -90,7 +92,7 @@ pooledTo-tables arch v labels constants asked count (suc n) t =
     rw (pooledTo-tables arch v labels constants asked count n (fewer v labels constants asked count n t), t .constant n (omega arith))
     (one-more arch (v .code) (v .events) labels constants asked count n from
     (tablesPooled arch from (v .code) (entries (wordAt (poolBound from labels constants asked n)) count) (v .events) (v .uses) (v .refs) constants asked n)
-    refl refl refl refl
+    refl refl refl refl refl
     (length-append (v .code) (poolBytes arch from constants asked n) ∙ length-poolBytes arch from constants asked n)
     (t .sized n (omega arith))
     (t .room)

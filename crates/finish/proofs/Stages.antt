@@ -41,7 +41,7 @@ use Rattle.emit.specs.Emit as emit
 use Rattle.emit.specs.Emit.{mappedWords}
 use Rattle.layout.specs.Layout.{allEvents, finishedLength, relaxedBy, Relaxed, Rising}
 use Rattle.layout.proofs.Pooling.{length-all}
-use Rattle.layout.proofs.Settled.{relaxed-entries, relaxed-settled, finished-placed}
+use Rattle.layout.proofs.Settled.{relaxed-entries, relaxed-settled, finished-placed, all-short}
 use Rattle.checks.specs.Entries.{all}
 use Rattle.finish.specs.declared.Outcome.{Outcome}
 use Rattle.finish.specs.Refusals.{every, reachesBy, refReaches, whyNotLaid, whyNotWritten, whyNotInPlace}
@@ -148,14 +148,14 @@ module _ {code labels events refs constants asked relocs output : List ℕ} {cap
   pub clear : refsClear refs f events n len constants asked m ≡ true
   clear = not-false _ (passed (not (refsClear refs f events n len constants asked m)) 17 0 (λ e. omega arith) (early·passed .1) .0)
 
-pub segments-are : {es : List LayoutEvent} {labels : ℕ → ℕ} {from layouts len : ℕ} {ss ss′ : List Segment} {c : Choice}
-    → Relaxed es labels from ss ss′ c layouts len → ss′ ≡ over ss 0 (segments 0 0 es c)
+pub segments-are : {es : List LayoutEvent} {labels : ℕ → ℕ} {from layouts len : ℕ} {ss ss′ : List Segment} {initial c : Choice}
+    → Relaxed es labels initial from ss ss′ c layouts len → ss′ ≡ over ss 0 (segments 0 0 es c)
 segments-are {es} {ss} laid = laid .table ∙ ap (λ (d : Choice). over ss 0 (segments 0 0 es d)) (sym (laid .choice))
 
 -- the segments that the rounds leave rise
-pub segments-rise : {code labels events refs constants asked relocs output : List ℕ} {len count n m f l layouts len′ total : ℕ} {at : ℕ → ℕ} {ss ss′ : List Segment} {c : Choice}
+pub segments-rise : {code labels events refs constants asked relocs output : List ℕ} {len count n m f l layouts len′ total : ℕ} {at : ℕ → ℕ} {ss ss′ : List Segment} {initial c : Choice}
     → Layable code labels events refs constants asked relocs output (length ss) len count n m f l
-    → Relaxed (allEvents events n len constants asked m) at total ss ss′ c layouts len′ → Rising ss′ (n + m)
+    → Relaxed (allEvents events n len constants asked m) at initial total ss ss′ c layouts len′ → Rising ss′ (n + m)
 segments-rise x laid = rising-all (x .relaxable .ready) _ _ _ (segments-are laid) (few x) (room x)
 
 module _ {code labels events refs constants asked relocs output : List ℕ} {len count n m f l : ℕ} (ss : List Segment)
@@ -183,11 +183,13 @@ module _ {code labels events refs constants asked relocs output : List ℕ} {len
       wf : WellFormed p
       wf = formed (x .ready) (x .referred) (clear y) us
 
-      module _ {ss′ : List Segment} {c : Choice} {layouts len′ : ℕ}
-          (laid : Relaxed (allEvents events n len constants asked m) (wordAt labels) (poolStart len constants asked m) ss ss′ c layouts len′) where
-        settled-is : relaxedBy (allEvents events n len constants asked m) (wordAt labels) ≡ settled p
+      module _ {ss′ : List Segment} {initial c : Choice} {layouts len′ : ℕ} (short : initial ≡ replicate (n + m) false)
+          (laid : Relaxed (allEvents events n len constants asked m) (wordAt labels) initial (poolStart len constants asked m) ss ss′ c layouts len′) where
+        settled-is : relaxedBy (allEvents events n len constants asked m) (wordAt labels) initial ≡ settled p
         settled-is =
-            relaxed-entries events n len constants asked m labels count (λ i j h e. jump-label events n count len 2 (x .ready .recorded) i j h e)
+            ap (relaxedBy (allEvents events n len constants asked m) (wordAt labels))
+            (short ∙ ap (λ (k : ℕ). replicate k false) (sym (length-all events n len constants asked m)) ∙ all-short (allEvents events n len constants asked m))
+            ∙ relaxed-entries events n len constants asked m labels count (λ i b h r. jump-label events n count len 2 (x .ready .recorded) i b h r)
             ∙ relaxed-settled p wf
 
         choice-is : c ≡ settled p .choice
@@ -293,7 +295,7 @@ module _ {code labels events refs constants asked relocs output : List ℕ} {len
                   clear = clear-all (x .ready) (x .referred) (clear y) us;
                   laid = table-is;
                   known = λ i h. x .referred .entry i h .label;
-                  named = λ i j h e. jump-label events n count len 2 (x .ready .recorded) i j h e;
+                  named = λ i b h r. jump-label events n count len 2 (x .ready .recorded) i b h r;
                   moved = label-moved;
                 })
                 output _ _ _ refl refl refl code-fits

@@ -2,7 +2,7 @@
 use mathlib.Core.Path.{_≡_, refl, sym, ap, _∙_, subst}
 use mathlib.Core.Bool.{true}
 use mathlib.Core.List.{List, [], _++_}
-use Prim.Native.Nat.{ℕ, suc, _+_, _-_, _*_, _≤_, _<_}
+use Prim.Native.Nat.{ℕ, suc, _+_, _*_, _≤_, _<_}
 use native.Mathlib.Omega.{arith}
 use lib.ListN.{length, getD, take, length-append, List·getD-map}
 use lib.Seq.{length-take-le, getD-take}
@@ -12,8 +12,6 @@ use Rattle.words.specs.Words.{wordAt}
 use Rattle.fields.specs.declared.Decoded.the-variants.{Use}
 use Rattle.fields.specs.Kinds.{decoded}
 use Rattle.relax.specs.declared.LayoutEvent.{LayoutEvent}
-use Rattle.relax.specs.declared.LayoutEvent.the-variants.{Jump}
-use Rattle.relax.specs.declared.RelaxableJump.{RelaxableJump}
 use Rattle.relax.specs.declared.Segment.{Segment}
 use Rattle.relax.specs.Events.{eventAt}
 use Rattle.buffer.specs.State.{none}
@@ -23,17 +21,18 @@ use Rattle.fresh.specs.Pooled.{Placed, Pooled}
 use Rattle.fresh.specs.Fresh.{Choice}
 use Rattle.fresh.specs.Segments.{mapOffset, segmentsOf}
 use Rattle.fresh.specs.Fill.{assembled, inPlace, fill, fillRefs, fillJumps, fillUses}
-use Rattle.fresh.proofs.Shape.{Apart, WellFormed, newEnds, runs}
+use Rattle.fresh.proofs.Shape.{Apart, WellFormed, newStarts, runs}
 use Rattle.fresh.proofs.Fill.{built-assembled, length-built}
 use Rattle.fresh.proofs.Past.{built-past, inPlace-past}
+use Rattle.fresh.specs.Forms.{Branch, branches, roleOf}
 use Rattle.pool.specs.Pool.{labelAt, poolStart, poolOffset, poolBytes, poolWritten}
 use Rattle.pool.proofs.Pool.{poolStart-bound, length-poolBytes, poolStart-suc, poolStart-grows}
 use Rattle.layout.specs.Layout.{zeroSegment}
-use Rattle.emit.specs.Emit.{usesFilled, refsFilled, jumpsFilled, endAt}
+use Rattle.emit.specs.Emit.{usesFilled, refsFilled, jumpsFilled, startAt}
 use Rattle.checks.specs.Fields.{sizeOf}
 use Rattle.finish.specs.Refusals.{every, refClear}
 use Rattle.finish.specs.Tables.{poolPlaced, tablesPooled}
-use Rattle.finish.specs.Ready.{Ready, Keepable}
+use Rattle.finish.specs.Ready.{Ready, Keepable, endOfRuns, codeWritten}
 use Rattle.finish.proofs.Formed.{every-at, ref-apart, pooled-length, well-formed, constant-size, pool-apart, recorded-ordered}
 use Rattle.finish.proofs.Filled.{uses-filled, refs-filled, jumps-filled, pool-filled}
 use Rattle.finish.proofs.Emission.{pool-runs}
@@ -44,7 +43,7 @@ pub record Placing (code labels final events refs constants asked : List ℕ) (l
   pub clear : every (refClear (tablesPooled 2 len (take len code) (tables.entries (wordAt labels) count) (tables.entries (eventAt events) n) us (tables.entries (tables.refAt refs) f) constants asked m)) (tables.entries (tables.refAt refs) f) ≡ true
   pub laid : take (n + m) ss ≡ segmentsOf (tablesPooled 2 len (take len code) (tables.entries (wordAt labels) count) (tables.entries (eventAt events) n) us (tables.entries (tables.refAt refs) f) constants asked m) c
   pub known : (i : ℕ) → i < f → wordAt refs (i * 4 + 1) < count
-  pub named : (i : ℕ) (j : RelaxableJump) → i < n → eventAt events i ≡ Jump j → j .label < count
+  pub named : (i : ℕ) (b : Branch) → i < n → roleOf (eventAt events i) ≡ branches b → b .label < count
   pub moved : (l : ℕ) → l < count → wordAt final l ≡ mapOffset (take (n + m) ss) (wordAt labels l)
 
 abbrev pub any·ref : tables.Ref
@@ -61,12 +60,21 @@ over-at xs ys zs n h =
     let e : n ≡ 0 + length ys = omega arith in
     ap (λ (k : ℕ). over (over xs 0 ys) k zs) e ∙ over-append xs 0 ys zs
 
--- a segment's new end, read from the table
-pub end-segment : (ss made : List Segment) (k i : ℕ) → i < k → take k ss ≡ made → endAt ss i ≡ getD (newEnds made) i 0
-end-segment ss made k i h e =
-    ap (λ (s : Segment). s .«new_end») (sym (getD-take k ss i zeroSegment h))
-    ∙ ap (λ (l : List Segment). getD l i zeroSegment .«new_end») e
-    ∙ sym (List·getD-map (λ (s : Segment). s .«new_end») made i zeroSegment)
+-- what the calls leave in the output, one after another, is what is written in the end
+pub written-in-order : (output code labels events refs constants asked : List ℕ) (c : Choice) (ss : List Segment) (len n m f : ℕ)
+    {placed laid filled jumped last : List ℕ} {to : ℕ}
+    → placed ≡ over output 0 (runs 2 0 0 (take len code) (tables.entries (eventAt events) n) c) → to ≡ endOfRuns code events c len n
+    → laid ≡ over placed to (poolBytes 2 to constants asked m) → filled ≡ refsFilled laid refs labels ss (n + m) f
+    → jumped ≡ jumpsFilled filled events labels c ss n → last ≡ poolWritten jumped labels constants asked m
+    → last ≡ codeWritten output code labels events refs constants asked c ss len n m f
+written-in-order output code labels events refs constants asked c ss len n m f e1 e2 e3 e4 e5 e6 = rw (e6, e5, e4, e3, e2, e1)
+
+-- a segment's new start, read from the table
+pub start-segment : (ss made : List Segment) (k i : ℕ) → i < k → take k ss ≡ made → startAt ss i ≡ getD (newStarts made) i 0
+start-segment ss made k i h e =
+    ap (λ (s : Segment). s .«new_start») (sym (getD-take k ss i zeroSegment h))
+    ∙ ap (λ (l : List Segment). getD l i zeroSegment .«new_start») e
+    ∙ sym (List·getD-map (λ (s : Segment). s .«new_start») made i zeroSegment)
 
 module _ (code labels final events refs constants asked : List ℕ) (len count n m f : ℕ) (us : List tables.Use) (c : Choice) (ss : List Segment)
     (pl : Placing code labels final events refs constants asked len count n m f us c ss) where
@@ -85,22 +93,22 @@ module _ (code labels final events refs constants asked : List ℕ) (len count n
       label-at (labelAt constants asked j) (pl .ready .owned j h)
       ∙ ap (mapOffset (segmentsOf p c)) (getD-entries (wordAt labels) count (labelAt constants asked j) none (pl .ready .owned j h) ∙ pl .ready .stands j h)
 
-  ends-at : (i : ℕ) → i < n → endAt ss i ≡ getD (newEnds (segmentsOf p c)) i 0
-  ends-at i h = end-segment ss (segmentsOf p c) (n + m) i (omega arith) (pl .laid)
+  starts-at : (i : ℕ) → i < n → startAt ss i ≡ getD (newStarts (segmentsOf p c)) i 0
+  starts-at i h = start-segment ss (segmentsOf p c) (n + m) i (omega arith) (pl .laid)
 
-  all-runs : runs 0 0 (p .code) (p .events) c
-      ≡ runs 0 0 (take len code) (tables.entries (eventAt events) n) c
-      ++ poolBytes 2 (length (runs 0 0 (take len code) (tables.entries (eventAt events) n) c)) constants asked m
+  all-runs : runs 2 0 0 (p .code) (p .events) c
+      ≡ runs 2 0 0 (take len code) (tables.entries (eventAt events) n) c
+      ++ poolBytes 2 (length (runs 2 0 0 (take len code) (tables.entries (eventAt events) n) c)) constants asked m
   all-runs =
       let long : len ≡ length (take len code) = sym (length-take-le len code (pl .ready .bytes .room)) in
       pool-runs (take len code) (tables.entries (eventAt events) n) constants asked c len
-      (length (runs 0 0 (take len code) (tables.entries (eventAt events) n) c)) long
+      (length (runs 2 0 0 (take len code) (tables.entries (eventAt events) n) c)) long
       (rw (← long) (recorded-ordered events n count len 2 (pl .ready .recorded))) refl m .whole
 
   -- What is written, call by call, is the fresh assembly.
   pub code-written : (output placed laid : List ℕ) (to : ℕ)
-      → placed ≡ over output 0 (runs 0 0 (take len code) (tables.entries (eventAt events) n) c)
-      → to ≡ length (runs 0 0 (take len code) (tables.entries (eventAt events) n) c)
+      → placed ≡ over output 0 (runs 2 0 0 (take len code) (tables.entries (eventAt events) n) c)
+      → to ≡ length (runs 2 0 0 (take len code) (tables.entries (eventAt events) n) c)
       → laid ≡ over placed to (poolBytes 2 to constants asked m)
       → length (assembled p c) ≤ length output
       → poolWritten (jumpsFilled (refsFilled laid refs final ss (n + m) f) events final c ss n) final constants asked m
@@ -108,14 +116,15 @@ module _ (code labels final events refs constants asked : List ℕ) (len count n
   unfolding fill
   code-written output placed laid to ep et el fits =
       let at = mapOffset (segmentsOf p c) in
-      let recorded = runs 0 0 (take len code) (tables.entries (eventAt events) n) c in
-      let whole : laid ≡ over output 0 (runs 0 0 (p .code) (p .events) c)
+      let named : ℕ → ℕ = λ label. at (getD (p .labels) label none) in
+      let recorded = runs 2 0 0 (take len code) (tables.entries (eventAt events) n) c in
+      let whole : laid ≡ over output 0 (runs 2 0 0 (p .code) (p .events) c)
       = rw (el, ep, et, all-runs) (over-at output recorded (poolBytes 2 (length recorded) constants asked m) (length recorded) refl) in
       rw (
         refs-filled laid refs final (p .labels) ss (segmentsOf p c) (n + m) f (pl .laid) (λ i h. label-at (wordAt refs (i * 4 + 1)) (pl .known i h)),
-        jumps-filled (fillRefs at (p .labels) (p .refs) laid) events final (p .labels) constants asked c ss at (newEnds (segmentsOf p c)) n len m ends-at
-            (λ i j h e. label-at (j .label) (pl .named i j h e)),
-        pool-filled (fillJumps at (p .labels) (p .events) c (newEnds (segmentsOf p c)) (fillRefs at (p .labels) (p .refs) laid)) final constants asked at len m pool-at,
+        jumps-filled (fillRefs at (p .labels) (p .refs) laid) events final constants asked c ss named (newStarts (segmentsOf p c)) n len m starts-at
+            (λ i b h r. label-at (b .label) (pl .named i b h r)),
+        pool-filled (fillJumps named (p .events) c (newStarts (segmentsOf p c)) (fillRefs at (p .labels) (p .refs) laid)) final constants asked at len m pool-at,
         whole,
       )
       (built-past p c formed (omega (arith, pooled-length code labels events constants asked len count n m (pl .ready) us (tables.entries (tables.refAt refs) f), pl .ready .bytes .limit, pl .ready .pool .few, poolStart-bound len constants asked m (pl .ready .pool) m (omega arith)))

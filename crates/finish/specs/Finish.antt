@@ -15,9 +15,10 @@ use Rattle.fresh.specs.Fresh.{moved}
 use Rattle.fresh.specs.Rounds.{settled}
 use Rattle.fresh.specs.Fill.{assembled, inPlace}
 use Rattle.fresh.specs.Segments.{mapOffset, segmentsOf}
+use Rattle.fresh.specs.Forms.{moves}
 use Rattle.finish.specs.declared.Finished.{Finished}
 use Rattle.finish.specs.declared.Outcome.{Outcome}
-use Rattle.finish.specs.Refusals.{allBound, hasJump, whyNotLaid, whyNotWritten, whyNotInPlace, whyUnfit}
+use Rattle.finish.specs.Refusals.{allBound, whyNotLaid, whyNotWritten, whyNotInPlace, whyUnfit}
 
 -- a table of words, the first of them anew
 abbrev pub bytesOfAll : List ℕ → List ℕ
@@ -102,7 +103,7 @@ unfoldable pub placedBy : Pooled → Recording → List Segment → List ℕ →
 placedBy p r ss output =
     let labels = overWords (r .labels) (p .labels) in
     pick (allBound p (view r .relocs))
-    (pick (hasJump p) (relaxed p (r .buffer .relocs) labels (r .relocs) ss output) (unrelaxed p labels (r .relocs) ss output))
+    (pick (moves (p .events)) (relaxed p (r .buffer .relocs) labels (r .relocs) ss output) (unrelaxed p labels (r .relocs) ss output))
     (refusedWith 15, (labels, (r .relocs, (ss, output))))
 
 -- The answer, and the labels, relocations, segments and output at the end: "On success the recording's labels and relocations hold their final offsets, the

@@ -19,6 +19,7 @@ use Rattle.fresh.specs.Pooled.{Pooled}
 use Rattle.fresh.specs.Fill.{inPlace}
 use Rattle.fresh.specs.Segments.{mapOffset}
 use Rattle.fresh.proofs.Shape.{runs}
+use Rattle.fresh.specs.Forms.{moves}
 use Rattle.pool.specs.Pool.{labelAt, poolStart, poolOffset, poolBytes, poolWritten, poolUnbound, PoolFits, PoolLabels, PoolRoom}
 use Rattle.layout.specs.Layout.{Rising}
 use Rattle.emit.specs.Emit.{usesFilled, refsFilled, jumpsFilled, Emits, UsesFit, RefsFit, JumpsFit, WordsFit}
@@ -26,7 +27,7 @@ use Rattle.checks.specs.Fields.{refsClear}
 use Rattle.checks.specs.Search as search
 use Rattle.finish.specs.declared.Finished.{Finished}
 use Rattle.finish.specs.declared.Outcome.{Outcome}
-use Rattle.finish.specs.Refusals.{allBound, hasJump, whyNotInPlace}
+use Rattle.finish.specs.Refusals.{allBound, whyNotInPlace}
 use Rattle.finish.specs.Finish.{Left, refusedWith, relaxed, unrelaxed, finishedWith, unfinished, finish}
 use Rattle.finish.specs.Tables.{tablesPooled}
 
@@ -65,13 +66,13 @@ pub record Clearing (refs events labels constants asked : List ℕ) (f n m code 
 
 -- where the recorded code ends in the output
 abbrev pub endOfRuns : List ℕ → List ℕ → List Bool → ℕ → ℕ → ℕ
-endOfRuns code events long len n = length (runs 0 0 (take len code) (entries (eventAt events) n) long)
+endOfRuns code events long len n = length (runs 2 0 0 (take len code) (entries (eventAt events) n) long)
 
 -- the output once all is written, in the order of the calls
 abbrev pub codeWritten : List ℕ → List ℕ → List ℕ → List ℕ → List ℕ → List ℕ → List ℕ → List Bool → List Segment → ℕ → ℕ → ℕ → ℕ → List ℕ
 codeWritten output code labels events refs constants asked long ss len n m f =
     let to = endOfRuns code events long len n in
-    let placed = over output 0 (runs 0 0 (take len code) (entries (eventAt events) n) long) in
+    let placed = over output 0 (runs 2 0 0 (take len code) (entries (eventAt events) n) long) in
     let laid = over placed to (poolBytes 2 to constants asked m) in
     poolWritten (jumpsFilled (refsFilled laid refs labels ss (n + m) f) events labels long ss n) labels constants asked m
 
@@ -81,7 +82,7 @@ pub record Writing (output code labels events refs constants asked : List ℕ) (
   pub small : len ≤ 16777216
   pub rising : Rising ss n
   pub rising-all : Rising ss (n + m)
-  pub emits : Emits output code events long ss n len
+  pub emits : Emits output code events long ss n len 2
   pub ends : mapOffset (take n ss) len ≡ to
   pub near : to ≤ 16777216
   pub pool : PoolFits constants asked m
@@ -156,7 +157,7 @@ pooledOf b code labels events uses refs constants asked =
 unfoldable pub placedAs : Pooled → CodeBuffer → List ℕ → List ℕ → List Segment → List ℕ → Outcome × Left
 placedAs p b labels relocs ss output =
     pick (allBound p (entries (relocAt relocs) (b .relocs)))
-    (pick (hasJump p) (relaxed p (b .relocs) labels relocs ss output) (unrelaxed p labels relocs ss output))
+    (pick (moves (p .events)) (relaxed p (b .relocs) labels relocs ss output) (unrelaxed p labels relocs ss output))
     (refusedWith 15, (labels, (relocs, (ss, output))))
 
 -- what is left before a layout that is to be made: the output is as it was, and what is then relaxed is what is placed

@@ -12,16 +12,16 @@ use Rattle.fields.specs.Words64.{plus, minus, signExtend}
 use Rattle.fields.specs.Kinds.{decoded}
 use Rattle.fields.specs.Reach.{canReachDelta}
 use Rattle.relax.specs.declared.LayoutEvent.{LayoutEvent}
-use Rattle.relax.specs.declared.LayoutEvent.the-variants.{Jump, Align}
-use Rattle.relax.specs.Events.{endOf}
+use Rattle.relax.specs.Events.{endOf, startOf}
 use Rattle.buffer.specs.State.{none, mostCode}
 use Rattle.buffer.specs.Refusals.{standing}
 use Rattle.recording.specs.Calls.{Recording}
 use Rattle.recording.specs.View as tables
 use Rattle.fresh.specs.Pooled.{Pooled, pooled}
-use Rattle.fresh.specs.Fresh.{Choice, startOf, moved, target}
-use Rattle.fresh.specs.Rounds.{jumps, settled}
+use Rattle.fresh.specs.Fresh.{Choice, moved, target}
+use Rattle.fresh.specs.Rounds.{settled}
 use Rattle.fresh.specs.Fill.{assembled}
+use Rattle.fresh.specs.Forms.{Role, pads, branches, roleOf}
 use Rattle.checks.specs.Lent.{countsFit, withinLimits}
 use Rattle.checks.specs.Entries.{entriesFit}
 use Rattle.checks.specs.Fields.{sizeOf, reachOf}
@@ -40,9 +40,12 @@ poolBoundBefore v =
     not (every (λ (n : ℕ). not (isBound (v .labels) (getD (v .constants) n (record { bytes = []; label = none }) .label))) (v .asked))
 
 -- 15: "a use, label relocation, ref or jump names an unbound label": none does
+abbrev pub boundBy : List ℕ → Role → Bool
+boundBy labels pads = true
+boundBy labels (branches b) = isBound labels (b .label)
+
 abbrev pub jumpBound : List ℕ → LayoutEvent → Bool
-jumpBound labels (Jump j) = isBound labels (j .label)
-jumpBound labels (Align start len align) = true
+jumpBound labels e = boundBy labels (roleOf e)
 
 unfoldable pub relocBound : List ℕ → tables.Relocation → Bool
 relocBound labels l = ltb (l .target) 2147483648 || isBound labels (l .target - 2147483648)
@@ -52,10 +55,6 @@ allBound p relocs =
     every (λ (u : tables.Use). isBound (p .labels) (u .label)) (p .uses)
     && (every (relocBound (p .labels)) relocs
     && (every (λ (f : tables.Ref). isBound (p .labels) (f .label)) (p .refs) && every (jumpBound (p .labels)) (p .events)))
-
--- a jump stands
-abbrev pub hasJump : Pooled → Bool
-hasJump p = not (eqb (jumps (p .events)) 0)
 
 -- 17: "a ref's field passes the pooled code's end, or it starts before an event's end and ends after that event's start": it does not
 unfoldable pub refClear : Pooled → tables.Ref → Bool

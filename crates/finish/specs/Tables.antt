@@ -15,6 +15,7 @@ poolPlaced from constants asked j = record { offset = poolOffset from constants 
 abbrev pub tablesPooled : ℕ → ℕ → List ℕ → List ℕ → List LayoutEvent → List Use → List Ref → List ℕ → List ℕ → ℕ → Pooled
 tablesPooled arch from code labels events uses refs constants asked m =
     record {
+      arch = arch;
       code = code ++ poolBytes arch from constants asked m;
       events = events ++ cond (eqb arch 2) (entries (poolEvent from constants asked) m) [];
       labels = labels;

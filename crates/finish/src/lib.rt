@@ -251,6 +251,7 @@ pub fn finish(
         return begun.finished;
     }
     let placed = pooled::relaxed(
+        b,
         code,
         labels,
         events,
@@ -260,12 +261,6 @@ pub fn finish(
         relocs,
         segments,
         output,
-        b.code,
-        b.labels as usize,
-        b.events as usize,
-        b.asked as usize,
-        b.refs as usize,
-        b.relocs as usize,
     );
     conclude(b, labels, constants, asked, placed)
 }

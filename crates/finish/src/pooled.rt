@@ -33,51 +33,54 @@ fn refused(why: u32) -> Outcome
 
 // 15: whether every label that is named is bound.
 fn all_bound(
-    uses: &[u8],
-    u: usize,
-    relocs: &[u8],
-    l: usize,
-    refs: &[u8],
-    f: usize,
-    events: &[u8],
-    n: usize,
+    b: CodeBuffer,
     labels: &[u8],
-    arch: u32,
-    symbols: u32,
-    len: u32,
-    count: usize,
+    events: &[u8],
+    uses: &[u8],
+    refs: &[u8],
+    relocs: &[u8],
 ) -> bool
-    requires { ⌜ Entered (now labels) (now events) (now uses) (now refs) (now relocs) arch symbols len count n u f l ⌝ }
-    ensures { λ r. ⌜ r ≡ (usesBound (now (uses .entry)) u (now (labels .entry)) && (relocsBound (now (relocs .entry)) l (now (labels .entry)) && (refsBound (now (refs .entry)) f (now (labels .entry)) && jumpsBound (now (events .entry)) n (now (labels .entry))))) ⌝ }
+    requires { ⌜ Entered (now labels) (now events) (now uses) (now refs) (now relocs) (b .arch) (b .symbols) (b .code) (b .labels) (b .events) (b .uses) (b .refs) (b .relocs) ⌝ }
+    ensures { λ r. ⌜ r ≡ (usesBound (now (uses .entry)) (b .uses) (now (labels .entry)) && (relocsBound (now (relocs .entry)) (b .relocs) (now (labels .entry)) && (refsBound (now (refs .entry)) (b .refs) (now (labels .entry)) && jumpsBound (now (events .entry)) (b .events) (now (labels .entry))))) ⌝ }
 {
-    let named = checks::fields_fit::uses_bound(uses, u, labels);
-    let targets = checks::fields_fit::relocs_bound(relocs, l, labels);
-    let referred = checks::fields_fit::refs_bound(refs, f, labels);
-    let jumped = checks::fields_fit::jumps_bound(events, n, labels);
+    let named = checks::fields_fit::uses_bound(uses, b.uses as usize, labels);
+    let targets = checks::fields_fit::relocs_bound(relocs, b.relocs as usize, labels);
+    let referred = checks::fields_fit::refs_bound(refs, b.refs as usize, labels);
+    let jumped = checks::fields_fit::jumps_bound(events, b.events as usize, labels);
     buffer::both(named, buffer::both(targets, buffer::both(referred, jumped)))
 }
 
 // 16: the table of segments is short; 17: a ref's field is not clear of the events.
 fn why_not_laid(
-    segments: usize,
-    refs: &[u8],
-    f: usize,
-    events: &[u8],
-    n: usize,
+    b: CodeBuffer,
     labels: &[u8],
+    events: &[u8],
+    refs: &[u8],
     constants: &[u8],
     asked: &[u8],
-    m: usize,
-    code: u32,
+    segments: usize,
     end: u32,
 ) -> u32
-    requires { ⌜ Clearing (now refs) (now events) (now labels) (now constants) (now asked) f n m code end ⌝ }
-    ensures { λ r. ⌜ r ≡ first ((ltb segments (n + m), 16) ∷ (not (refsClear (now (refs .entry)) f (now (events .entry)) n code (now (constants .entry)) (now (asked .entry)) m), 17) ∷ []) ⌝ }
+    requires { ⌜ Clearing (now refs) (now events) (now labels) (now constants) (now asked) (b .refs) (b .events) (b .asked) (b .code) end ⌝ }
+    ensures { λ r. ⌜ r ≡ first ((ltb segments (b .events + b .asked), 16) ∷ (not (refsClear (now (refs .entry)) (b .refs) (now (events .entry)) (b .events) (b .code) (now (constants .entry)) (now (asked .entry)) (b .asked)), 17) ∷ []) ⌝ }
 {
-    if segments < n + m {
+    let recorded = b.events as usize;
+    let pooled = b.asked as usize;
+    if segments < recorded + pooled {
         return 16;
     }
-    if !checks::fields_fit::refs_clear(refs, f, events, n, labels, constants, asked, m, code, end) {
+    if !checks::fields_fit::refs_clear(
+        refs,
+        b.refs as usize,
+        events,
+        recorded,
+        labels,
+        constants,
+        asked,
+        pooled,
+        b.code,
+        end,
+    ) {
         return 17;
     }
     0
@@ -98,6 +101,7 @@ fn why_not_written(reach: bool, len: u32, output: usize) -> u32
 
 // Writes the finished code: the events and the runs between them, the pool, the refs, the jumps, and the constants last.
 pub(crate) fn write_relaxed(
+    b: CodeBuffer,
     output: &mut [u8],
     code: &[u8],
     labels: &[u8],
@@ -107,24 +111,39 @@ pub(crate) fn write_relaxed(
     asked: &[u8],
     long: &[bool],
     segments: &[Segment],
-    len: u32,
-    n: usize,
-    m: usize,
-    f: usize,
 )
-    requires { ⌜ Writing (now output) (now code) (now labels) (now events) (now refs) (now constants) (now asked) (now long) (now segments) len n m f (endOfRuns (now code) (now events) (now long) len n) ⌝ }
-    ensures { λ _. ⌜ now (output .exit) ≡ codeWritten (now (output .entry)) (now (code .entry)) (now (labels .entry)) (now (events .entry)) (now (refs .entry)) (now (constants .entry)) (now (asked .entry)) (now (long .entry)) (now (segments .entry)) len n m f ⌝ }
+    requires { ⌜ Writing (now output) (now code) (now labels) (now events) (now refs) (now constants) (now asked) (now long) (now segments) (b .code) (b .events) (b .asked) (b .refs) (endOfRuns (now code) (now events) (now long) (b .code) (b .events)) ⌝ }
+    ensures { λ _. ⌜ now (output .exit) ≡ codeWritten (now (output .entry)) (now (code .entry)) (now (labels .entry)) (now (events .entry)) (now (refs .entry)) (now (constants .entry)) (now (asked .entry)) (now (long .entry)) (now (segments .entry)) (b .code) (b .events) (b .asked) (b .refs) ⌝ }
 {
-    emit::emit_events(output, code, events, long, segments, n, len as usize);
-    let to = layout::map(segments, n, len);
-    pool::emit(output, 2, to, constants, asked, m);
-    emit::patch_refs(output, refs, labels, segments, f, n + m);
-    emit::patch_jumps(output, events, labels, long, segments, n);
-    pool::write(output, labels, constants, asked, m);
+    let recorded = b.events as usize;
+    let pooled = b.asked as usize;
+    emit::emit_events(
+        output,
+        code,
+        events,
+        long,
+        segments,
+        recorded,
+        b.code as usize,
+        2,
+    );
+    let to = layout::map(segments, recorded, b.code);
+    pool::emit(output, 2, to, constants, asked, pooled);
+    emit::patch_refs(
+        output,
+        refs,
+        labels,
+        segments,
+        b.refs as usize,
+        recorded + pooled,
+    );
+    emit::patch_jumps(output, events, labels, long, segments, recorded);
+    pool::write(output, labels, constants, asked, pooled);
 }
 
-// The layout and what comes after it: 18 and 23, which leave the settled segments in their table, and the writing. `long` has an entry for each event.
-pub(crate) fn lay_out(
+// The rounds and what comes after them: 18 and 23, which leave the settled segments in their table, and the writing. `long` has an entry for each event.
+pub(crate) fn relax_and_write(
+    b: CodeBuffer,
     code: &[u8],
     labels: &mut [u8],
     events: &[u8],
@@ -135,26 +154,33 @@ pub(crate) fn lay_out(
     segments: &mut [Segment],
     output: &mut [u8],
     long: &mut [bool],
-    len: u32,
-    count: usize,
-    n: usize,
-    m: usize,
-    f: usize,
-    l: usize,
 ) -> Outcome
-    requires { ⌜ Layable (now code) (now labels) (now events) (now refs) (now constants) (now asked) (now relocs) (now output) (length (now segments)) len count n m f l ⌝ ∗ ⌜ now long ≡ replicate (n + m) false ⌝ }
-    ensures { λ r. ⌜ ((us : List tables.Use) → (r, (now (labels .exit), (now (relocs .exit), (now (segments .exit), now (output .exit))))) ≡ relaxed (tablesPooled 2 len (take len (now (code .entry))) (tables.entries (wordAt (now (labels .entry))) count) (tables.entries (eventAt (now (events .entry))) n) us (tables.entries (tables.refAt (now (refs .entry))) f) (now (constants .entry)) (now (asked .entry)) m) l (now (labels .entry)) (now (relocs .entry)) (now (segments .entry)) (now (output .entry))) ⌝ }
+    requires { ⌜ Layable (now code) (now labels) (now events) (now refs) (now constants) (now asked) (now relocs) (now output) (length (now segments)) (b .code) (b .labels) (b .events) (b .asked) (b .refs) (b .relocs) ⌝ ∗ ⌜ now long ≡ replicate (b .events + b .asked) false ⌝ }
+    ensures { λ r. ⌜ ((us : List tables.Use) → (r, (now (labels .exit), (now (relocs .exit), (now (segments .exit), now (output .exit))))) ≡ relaxed (tablesPooled 2 (b .code) (take (b .code) (now (code .entry))) (tables.entries (wordAt (now (labels .entry))) (b .labels)) (tables.entries (eventAt (now (events .entry))) (b .events)) us (tables.entries (tables.refAt (now (refs .entry))) (b .refs)) (now (constants .entry)) (now (asked .entry)) (b .asked)) (b .relocs) (now (labels .entry)) (now (relocs .entry)) (now (segments .entry)) (now (output .entry))) ⌝ }
 {
-    let laid = layout::relax_jumps(segments, events, labels, constants, asked, long, n, m, len);
-    let all = n + m;
-    let reach = emit::refs_reach(refs, labels, segments, f, all);
+    let recorded = b.events as usize;
+    let pooled = b.asked as usize;
+    let all = recorded + pooled;
+    let laid = layout::relax_jumps(
+        segments,
+        events,
+        labels,
+        constants,
+        asked,
+        long,
+        recorded,
+        pooled,
+        b.code,
+    );
+    let reach = emit::refs_reach(refs, labels, segments, b.refs as usize, all);
     let why = why_not_written(reach, laid.len, output.len());
     if why != 0 {
         return refused(why);
     }
-    emit::map_words(labels, segments, 1, count, all);
-    emit::map_words(relocs, segments, 6, l, all);
+    emit::map_words(labels, segments, 1, b.labels as usize, all);
+    emit::map_words(relocs, segments, 6, b.relocs as usize, all);
     write_relaxed(
+        b,
         output,
         code,
         labels,
@@ -164,10 +190,6 @@ pub(crate) fn lay_out(
         asked,
         long,
         segments,
-        len,
-        n,
-        m,
-        f,
     );
     Outcome {
         refusal: 0,
@@ -178,6 +200,7 @@ pub(crate) fn lay_out(
 
 // With a jump, 16 and 17 being past.
 pub(crate) fn relaxed(
+    b: CodeBuffer,
     code: &[u8],
     labels: &mut [u8],
     events: &[u8],
@@ -187,19 +210,14 @@ pub(crate) fn relaxed(
     relocs: &mut [u8],
     segments: &mut [Segment],
     output: &mut [u8],
-    len: u32,
-    count: usize,
-    n: usize,
-    m: usize,
-    f: usize,
-    l: usize,
 ) -> Outcome
-    requires { ⌜ Layable (now code) (now labels) (now events) (now refs) (now constants) (now asked) (now relocs) (now output) (length (now segments)) len count n m f l ⌝ }
-    ensures { λ r. ⌜ ((us : List tables.Use) → (r, (now (labels .exit), (now (relocs .exit), (now (segments .exit), now (output .exit))))) ≡ relaxed (tablesPooled 2 len (take len (now (code .entry))) (tables.entries (wordAt (now (labels .entry))) count) (tables.entries (eventAt (now (events .entry))) n) us (tables.entries (tables.refAt (now (refs .entry))) f) (now (constants .entry)) (now (asked .entry)) m) l (now (labels .entry)) (now (relocs .entry)) (now (segments .entry)) (now (output .entry))) ⌝ }
+    requires { ⌜ Layable (now code) (now labels) (now events) (now refs) (now constants) (now asked) (now relocs) (now output) (length (now segments)) (b .code) (b .labels) (b .events) (b .asked) (b .refs) (b .relocs) ⌝ }
+    ensures { λ r. ⌜ ((us : List tables.Use) → (r, (now (labels .exit), (now (relocs .exit), (now (segments .exit), now (output .exit))))) ≡ relaxed (tablesPooled 2 (b .code) (take (b .code) (now (code .entry))) (tables.entries (wordAt (now (labels .entry))) (b .labels)) (tables.entries (eventAt (now (events .entry))) (b .events)) us (tables.entries (tables.refAt (now (refs .entry))) (b .refs)) (now (constants .entry)) (now (asked .entry)) (b .asked)) (b .relocs) (now (labels .entry)) (now (relocs .entry)) (now (segments .entry)) (now (output .entry))) ⌝ }
 {
-    let all = n + m;
+    let all = b.events as usize + b.asked as usize;
     let mut long = [false; 65536];
-    lay_out(
+    relax_and_write(
+        b,
         code,
         labels,
         events,
@@ -210,21 +228,15 @@ pub(crate) fn relaxed(
         segments,
         output,
         &mut long[0..all],
-        len,
-        count,
-        n,
-        m,
-        f,
-        l,
     )
 }
 
 // 19 to 22: a use's field passes the code's end, or it can't reach; 23: the code exceeds the output.
-fn why_not_in_place(uses: &[u8], u: usize, labels: &[u8], end: u32, output: usize) -> u32
-    requires { ⌜ u * 12 ≤ length (now uses) ⌝ ∗ ⌜ Named (useLabel (now uses)) u (now labels) ⌝ }
-    ensures { λ r. ⌜ r ≡ orElse (whyUses (now (uses .entry)) (now (labels .entry)) end u) (first ((ltb output end, 23) ∷ [])) ⌝ }
+fn why_not_in_place(b: CodeBuffer, labels: &[u8], uses: &[u8], end: u32, output: usize) -> u32
+    requires { ⌜ b .uses * 12 ≤ length (now uses) ⌝ ∗ ⌜ Named (useLabel (now uses)) (b .uses) (now labels) ⌝ }
+    ensures { λ r. ⌜ r ≡ orElse (whyUses (now (uses .entry)) (now (labels .entry)) end (b .uses)) (first ((ltb output end, 23) ∷ [])) ⌝ }
 {
-    let why = checks::fields_fit::why_uses(uses, u, labels, end);
+    let why = checks::fields_fit::why_uses(uses, b.uses as usize, labels, end);
     if why != 0 {
         return why;
     }
@@ -236,60 +248,43 @@ fn why_not_in_place(uses: &[u8], u: usize, labels: &[u8], end: u32, output: usiz
 
 // Writes the code as it is: the bytes, the pool, the uses, and the constants last.
 fn write_in_place(
+    b: CodeBuffer,
     output: &mut [u8],
     code: &[u8],
     labels: &[u8],
     uses: &[u8],
     constants: &[u8],
     asked: &[u8],
-    arch: u32,
-    len: u32,
-    u: usize,
-    m: usize,
 )
-    requires { ⌜ Copying (now output) (now code) (now labels) (now uses) (now constants) (now asked) len u m ⌝ }
-    ensures { λ _. ⌜ now (output .exit) ≡ codeCopied (now (output .entry)) (now (code .entry)) (now (labels .entry)) (now (uses .entry)) (now (constants .entry)) (now (asked .entry)) arch len u m ⌝ }
+    requires { ⌜ Copying (now output) (now code) (now labels) (now uses) (now constants) (now asked) (b .code) (b .uses) (b .asked) ⌝ }
+    ensures { λ _. ⌜ now (output .exit) ≡ codeCopied (now (output .entry)) (now (code .entry)) (now (labels .entry)) (now (uses .entry)) (now (constants .entry)) (now (asked .entry)) (b .arch) (b .code) (b .uses) (b .asked) ⌝ }
 {
-    emit::copy_run(output, code, 0, len as usize, 0);
-    pool::emit(output, arch, len, constants, asked, m);
-    emit::patch_uses(output, uses, labels, u);
-    pool::write(output, labels, constants, asked, m);
+    let pooled = b.asked as usize;
+    emit::copy_run(output, code, 0, b.code as usize, 0);
+    pool::emit(output, b.arch, b.code, constants, asked, pooled);
+    emit::patch_uses(output, uses, labels, b.uses as usize);
+    pool::write(output, labels, constants, asked, pooled);
 }
 
 // Without a jump.
 fn unrelaxed(
+    b: CodeBuffer,
     code: &[u8],
     labels: &[u8],
     uses: &[u8],
     constants: &[u8],
     asked: &[u8],
     output: &mut [u8],
-    arch: u32,
-    len: u32,
-    count: usize,
-    u: usize,
-    m: usize,
 ) -> Outcome
-    requires { ⌜ Keepable (now code) (now labels) (now uses) (now constants) (now asked) len count u m ⌝ }
-    ensures { λ r. ⌜ ((es : List LayoutEvent) (rs : List tables.Ref) → (r, now (output .exit)) ≡ kept (tablesPooled arch len (take len (now (code .entry))) (tables.entries (wordAt (now (labels .entry))) count) es (tables.entries (tables.useAt (now (uses .entry))) u) rs (now (constants .entry)) (now (asked .entry)) m) (now (output .entry))) ⌝ }
+    requires { ⌜ Keepable (now code) (now labels) (now uses) (now constants) (now asked) (b .code) (b .labels) (b .uses) (b .asked) ⌝ }
+    ensures { λ r. ⌜ ((es : List LayoutEvent) (rs : List tables.Ref) → (r, now (output .exit)) ≡ kept (tablesPooled (b .arch) (b .code) (take (b .code) (now (code .entry))) (tables.entries (wordAt (now (labels .entry))) (b .labels)) es (tables.entries (tables.useAt (now (uses .entry))) (b .uses)) rs (now (constants .entry)) (now (asked .entry)) (b .asked)) (now (output .entry))) ⌝ }
 {
-    let end = pool::pool_end(len, constants, asked, m);
-    let why = why_not_in_place(uses, u, labels, end, output.len());
+    let end = pool::pool_end(b.code, constants, asked, b.asked as usize);
+    let why = why_not_in_place(b, labels, uses, end, output.len());
     if why != 0 {
         return refused(why);
     }
-    write_in_place(
-        output,
-        code,
-        labels,
-        uses,
-        constants,
-        asked,
-        arch,
-        len,
-        u,
-        m,
-    );
+    write_in_place(b, output, code, labels, uses, constants, asked);
     Outcome {
         refusal: 0,
         len: end,
@@ -315,65 +310,21 @@ pub(crate) fn start(
     ensures { λ r. ⌜ (r .relax ≡ false → (ss : List Segment) → length ss ≡ segments → (r .outcome, (now (labels .entry), (now (relocs .entry), (ss, now (output .exit))))) ≡ placedAs (pooledOf b (now (code .entry)) (now (labels .entry)) (now (events .entry)) (now (uses .entry)) (now (refs .entry)) (now (constants .entry)) (now (asked .entry))) b (now (labels .entry)) (now (relocs .entry)) ss (now (output .entry))) ⌝ }
     ensures { λ r. ⌜ (r .relax ≡ true → Starts b (now (code .entry)) (now (labels .entry)) (now (events .entry)) (now (uses .entry)) (now (refs .entry)) (now (constants .entry)) (now (asked .entry)) (now (relocs .entry)) (now (output .entry)) (now (output .exit)) segments) ⌝ }
 {
-    let count = b.labels as usize;
-    let n = b.events as usize;
-    let u = b.uses as usize;
-    let f = b.refs as usize;
-    let m = b.asked as usize;
-    let l = b.relocs as usize;
-    if !all_bound(
-        uses,
-        u,
-        relocs,
-        l,
-        refs,
-        f,
-        events,
-        n,
-        labels,
-        b.arch,
-        b.symbols,
-        b.code,
-        count,
-    ) {
+    if !all_bound(b, labels, events, uses, refs, relocs) {
         return Started {
             relax: false,
             outcome: refused(15),
         };
     }
-    if checks::fields_fit::has_jump(events, n) {
-        let end = pool::pool_end(b.code, constants, asked, m);
-        let why = why_not_laid(
-            segments,
-            refs,
-            f,
-            events,
-            n,
-            labels,
-            constants,
-            asked,
-            m,
-            b.code,
-            end,
-        );
+    if checks::fields_fit::moves(events, b.events as usize) {
+        let end = pool::pool_end(b.code, constants, asked, b.asked as usize);
+        let why = why_not_laid(b, labels, events, refs, constants, asked, segments, end);
         return Started {
             relax: why == 0,
             outcome: refused(why),
         };
     }
-    let outcome = unrelaxed(
-        code,
-        labels,
-        uses,
-        constants,
-        asked,
-        output,
-        b.arch,
-        b.code,
-        count,
-        u,
-        m,
-    );
+    let outcome = unrelaxed(b, code, labels, uses, constants, asked, output);
     Started {
         relax: false,
         outcome,

@@ -1,19 +1,21 @@
 -- A choice, and what a round lengthens, entry by entry.
 use mathlib.Core.Path.{_≡_, refl, sym, _∙_, ap}
-use mathlib.Core.Bool.{Bool, true, false, not, _||_}
+use mathlib.Core.Bool.{Bool, true, false, not, _&&_, _||_}
 use mathlib.Core.List.{List, [], _∷_}
 use Prim.Native.Nat.{ℕ, zero, suc, _+_, _≤_, _<_}
 use native.Mathlib.Omega.{arith}
 use lib.ListN.{length, getD, take}
+use lib.Dec.{leb}
 use borrow.Author.Tests.{leb-true, le-leb}
 use Rattle.seqs.proofs.Booleans.{both-true}
 use Rattle.relax.specs.declared.LayoutEvent.{LayoutEvent}
-use Rattle.relax.specs.declared.LayoutEvent.the-variants.{Jump}
 use Rattle.relax.specs.declared.RelaxableJump.{RelaxableJump}
+use Rattle.relax.specs.Events.{shortLen}
+use Rattle.fresh.specs.Forms.{Branch, pads, branches, roleOf, branchOf}
 use Rattle.fresh.specs.Fresh.{Choice, isLong, others}
-use Rattle.fresh.specs.Rounds.{reaches, isFar, firstEnd, otherEnds, farOf, any, join}
+use Rattle.fresh.specs.Rounds.{reaches, isFar, firstStart, otherStarts, farOf, any, join}
 use Rattle.fresh.specs.Demand.{Reach}
-use Rattle.fresh.proofs.Tests.{no-confusion}
+use Rattle.fresh.proofs.Tests.{no-confusion, by-role}
 
 -- the first entry of a list, and those after it
 pub isLong-getD : (c : Choice) → isLong c ≡ getD c 0 false
@@ -24,33 +26,33 @@ pub others-getD : (c : Choice) (i : ℕ) → getD (others c) i false ≡ getD c 
 others-getD [] i = refl
 others-getD (b ∷ c) i = refl
 
-pub firstEnd-getD : (ends : List ℕ) → firstEnd ends ≡ getD ends 0 0
-firstEnd-getD [] = refl
-firstEnd-getD (x ∷ xs) = refl
+pub firstStart-getD : (starts : List ℕ) → firstStart starts ≡ getD starts 0 0
+firstStart-getD [] = refl
+firstStart-getD (x ∷ xs) = refl
 
-pub otherEnds-getD : (ends : List ℕ) (i : ℕ) → getD (otherEnds ends) i 0 ≡ getD ends (suc i) 0
-otherEnds-getD [] i = refl
-otherEnds-getD (x ∷ xs) i = refl
+pub otherStarts-getD : (starts : List ℕ) (i : ℕ) → getD (otherStarts starts) i 0 ≡ getD starts (suc i) 0
+otherStarts-getD [] i = refl
+otherStarts-getD (x ∷ xs) i = refl
 
 -- what a round lengthens
-pub length-farOf : (at : ℕ → ℕ) (es : List LayoutEvent) (c : Choice) (ends : List ℕ) → length (farOf at es c ends) ≡ length es
+pub length-farOf : (at : ℕ → ℕ) (es : List LayoutEvent) (c : Choice) (starts : List ℕ) → length (farOf at es c starts) ≡ length es
 unfolding farOf
-length-farOf at [] c ends = refl
-length-farOf at (e ∷ es) c ends = ap suc (length-farOf at es _ _)
+length-farOf at [] c starts = refl
+length-farOf at (e ∷ es) c starts = ap suc (length-farOf at es _ _)
 
-pub farOf-getD : (at : ℕ → ℕ) (es : List LayoutEvent) (c : Choice) (ends : List ℕ) (i : ℕ) (d : LayoutEvent) → i < length es
-    → getD (farOf at es c ends) i false ≡ isFar at (getD es i d) (getD c i false) (getD ends i 0)
+pub farOf-getD : (at : ℕ → ℕ) (es : List LayoutEvent) (c : Choice) (starts : List ℕ) (i : ℕ) (d : LayoutEvent) → i < length es
+    → getD (farOf at es c starts) i false ≡ isFar at (getD es i d) (getD c i false) (getD starts i 0)
 unfolding farOf
-farOf-getD at [] c ends i d h = absurd (omega arith)
-farOf-getD at (e ∷ es) c ends zero d h = cc (isLong-getD c, firstEnd-getD ends)
-farOf-getD at (e ∷ es) c ends (suc i) d h =
-    cc (farOf-getD at es (others c) (otherEnds ends) i d (omega arith), others-getD c i, otherEnds-getD ends i)
+farOf-getD at [] c starts i d h = absurd (omega arith)
+farOf-getD at (e ∷ es) c starts zero d h = cc (isLong-getD c, firstStart-getD starts)
+farOf-getD at (e ∷ es) c starts (suc i) d h =
+    cc (farOf-getD at es (others c) (otherStarts starts) i d (omega arith), others-getD c i, otherStarts-getD starts i)
 
-pub farOf-out : (at : ℕ → ℕ) (es : List LayoutEvent) (c : Choice) (ends : List ℕ) (i : ℕ) → length es ≤ i → getD (farOf at es c ends) i false ≡ false
+pub farOf-out : (at : ℕ → ℕ) (es : List LayoutEvent) (c : Choice) (starts : List ℕ) (i : ℕ) → length es ≤ i → getD (farOf at es c starts) i false ≡ false
 unfolding farOf
-farOf-out at [] c ends i h = refl
-farOf-out at (e ∷ es) c ends zero h = absurd (omega arith)
-farOf-out at (e ∷ es) c ends (suc i) h = farOf-out at es _ _ i (omega arith)
+farOf-out at [] c starts i h = refl
+farOf-out at (e ∷ es) c starts zero h = absurd (omega arith)
+farOf-out at (e ∷ es) c starts (suc i) h = farOf-out at es _ _ i (omega arith)
 
 -- nothing is lengthened just where no entry is
 pub any-getD : (f : Choice) (i : ℕ) → any f ≡ false → getD f i false ≡ false
@@ -93,16 +95,37 @@ join-getD c (x ∷ f) zero h = ap (λ b. b || x) (isLong-getD c)
 join-getD c (x ∷ f) (suc i) h = join-getD (others c) f i (omega arith) ∙ ap (λ b. b || getD f i false) (others-getD c i)
 
 -- the test of reach says what it tests
-pub reach : (end label : ℕ) → reaches end label ≡ true → Reach end label
+pub reach : (b : Branch) (start label : ℕ) → reaches b start label ≡ true → Reach b start label
 unfolding reaches
-reach end label h =
-    let p = both-true _ _ h in record { back = leb-true end (label + 128) (p .0); ahead = leb-true label (end + 127) (p .1) }
+reach b start label h = let p = both-true _ _ h in record { back = leb-true _ _ (p .0); ahead = leb-true _ _ (p .1) }
 
-pub reaches-of : (end label : ℕ) → Reach end label → reaches end label ≡ true
+pub reaches-of : (b : Branch) (start label : ℕ) → Reach b start label → reaches b start label ≡ true
 unfolding reaches
-reaches-of end label q = rw (le-leb end (label + 128) (q .back), le-leb label (end + 127) (q .ahead))
+reaches-of b start label q = rw (le-leb _ _ (q .back), le-leb _ _ (q .ahead))
 
-pub isFar-near : (at : ℕ → ℕ) (j : RelaxableJump) (long : Bool) (end : ℕ) → Reach end (at (j .label)) → isFar at (Jump j) long end ≡ false
+-- of a jump
+pub jump-reaches : (j : RelaxableJump) (start label : ℕ)
+    → reaches (branchOf j) start label ≡ (leb (start + shortLen) (label + 128) && leb label (start + shortLen + 127))
+unfolding reaches
+jump-reaches j start label = let end : start + 1 + 1 ≡ start + 2 = omega arith in rw end refl
+
+-- what pads is never far, and a branch is not where it reaches, or is long
+pub pads-near : (at : ℕ → ℕ) (e : LayoutEvent) (long : Bool) (start : ℕ) → roleOf e ≡ pads → isFar at e long start ≡ false
 unfolding isFar
-isFar-near at j true end q = refl
-isFar-near at j false end q = ap not (reaches-of end (at (j .label)) q)
+pads-near at e long start r = rw (r, isFar)
+
+pub branch-far : (at : ℕ → ℕ) (e : LayoutEvent) (b : Branch) (long : Bool) (start : ℕ) → roleOf e ≡ branches b
+    → isFar at e long start ≡ (not long && not (reaches b start (at (b .label))))
+unfolding isFar
+branch-far at e b long start r = rw (r, isFar)
+
+pub reach-near : (at : ℕ → ℕ) (e : LayoutEvent) (b : Branch) (long : Bool) (start : ℕ) → roleOf e ≡ branches b → Reach b start (at (b .label))
+    → isFar at e long start ≡ false
+reach-near at e b long start r q = branch-far at e b long start r ∙ rw (reaches-of b start (at (b .label)) q) (and-false (not long))
+  where
+    and-false : (t : Bool) → (t && false) ≡ false
+    and-false true = refl
+    and-false false = refl
+
+pub long-near : (at : ℕ → ℕ) (e : LayoutEvent) (start : ℕ) → isFar at e true start ≡ false
+long-near at e start = by-role e (λ r. pads-near at e true start r) (λ b r. branch-far at e b true start r)

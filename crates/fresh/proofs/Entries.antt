@@ -5,22 +5,20 @@ use Prim.Native.Nat.{ℕ, zero, suc, _≤_, _<_}
 use native.Mathlib.Omega.{arith}
 use lib.ListN.{length, getD}
 use Rattle.relax.specs.declared.LayoutEvent.{LayoutEvent}
-use Rattle.relax.specs.declared.LayoutEvent.the-variants.{Jump, Align}
-use Rattle.relax.specs.Events.{endOf}
+use Rattle.relax.specs.Events.{endOf, startOf, noEvent}
 use Rattle.recording.specs.View.{Ref}
 use Rattle.fresh.specs.Pooled.{Placed, Pooled}
-use Rattle.fresh.specs.Fresh.{startOf}
-use Rattle.fresh.proofs.Shape.{Ordered, Clear, Lies, Apart, RefsLie, PoolLies, Modest}
+use Rattle.fresh.proofs.Shape.{Ordered, Clear, Lies, Apart, RefsLie, PoolLies, Small, Modest}
 
 -- Event by event: an offset lies inside none.
-pub clear-at : (es : List LayoutEvent) (t i : ℕ) → Clear t es → i < length es → startOf (getD es i (Align 0 0 0)) < t → endOf (getD es i (Align 0 0 0)) ≤ t
+pub clear-at : (es : List LayoutEvent) (t i : ℕ) → Clear t es → i < length es → startOf (getD es i noEvent) < t → endOf (getD es i noEvent) ≤ t
 unfolding Clear
 clear-at [] t i h k = absurd (omega arith)
 clear-at (e ∷ es) t zero h k = h .0
 clear-at (e ∷ es) t (suc i) h k = clear-at es t i (h .1) (omega arith)
 
 pub clear-of : (es : List LayoutEvent) (t : ℕ)
-    → ((i : ℕ) → i < length es → (t ≤ startOf (getD es i (Align 0 0 0))) ⊎ (endOf (getD es i (Align 0 0 0)) ≤ t)) → Clear t es
+    → ((i : ℕ) → i < length es → (t ≤ startOf (getD es i noEvent)) ⊎ (endOf (getD es i noEvent) ≤ t)) → Clear t es
 unfolding Clear
 clear-of [] t h = tt
 clear-of (e ∷ es) t h =
@@ -28,8 +26,8 @@ clear-of (e ∷ es) t h =
 
 -- Event by event: each starts at or past the end of those before it.
 pub ordered-of : (es : List LayoutEvent) (o n : ℕ) → o ≤ n
-    → ((i : ℕ) → i < length es → (o ≤ startOf (getD es i (Align 0 0 0))) × (endOf (getD es i (Align 0 0 0)) ≤ n))
-    → ((i j : ℕ) → i < j → j < length es → endOf (getD es i (Align 0 0 0)) ≤ startOf (getD es j (Align 0 0 0)))
+    → ((i : ℕ) → i < length es → (o ≤ startOf (getD es i noEvent)) × (endOf (getD es i noEvent) ≤ n))
+    → ((i j : ℕ) → i < j → j < length es → endOf (getD es i noEvent) ≤ startOf (getD es j noEvent))
     → Ordered o n es
 unfolding Ordered
 ordered-of [] o n h k f = h
@@ -55,8 +53,7 @@ unfolding PoolLies
 pool-lies p [] z h = tt
 pool-lies p (k ∷ ks) z h = (h 0 (omega arith), pool-lies p ks z (λ i m. h (suc i) (omega arith)))
 
-pub modest-of : (es : List LayoutEvent) → ((i : ℕ) → i < length es → Modest (getD es i (Align 0 0 0) ∷ [])) → Modest es
+pub modest-of : (es : List LayoutEvent) → ((i : ℕ) → i < length es → Small (getD es i noEvent)) → Modest es
 unfolding Modest
 modest-of [] h = tt
-modest-of (Jump j ∷ es) h = let m = h 0 (omega arith) in (m .0, m .1, modest-of es (λ i k. h (suc i) (omega arith)))
-modest-of (Align start len align ∷ es) h = let m = h 0 (omega arith) in (m .0, m .1, modest-of es (λ i k. h (suc i) (omega arith)))
+modest-of (e ∷ es) h = (h 0 (omega arith), modest-of es (λ i k. h (suc i) (omega arith)))

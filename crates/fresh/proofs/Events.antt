@@ -1,5 +1,5 @@
 -- Events in order, and the runs of code between them.
-use mathlib.Core.Path.{_≡_, refl, _∙_, ap}
+use mathlib.Core.Path.{_≡_, _∙_, ap}
 use mathlib.Core.List.{List, [], _∷_}
 use Prim.Native.Nat.{ℕ, zero, suc, _+_, _-_, _≤_, _<_}
 use native.Mathlib.Omega.{arith}
@@ -8,15 +8,9 @@ use lib.ListN.{length, getD, take, drop, length-drop}
 use lib.Seq.{length-take-le, drop-drop}
 use borrow.Author.Tests.{ltb-true, ltb-false}
 use Rattle.relax.specs.declared.LayoutEvent.{LayoutEvent}
-use Rattle.relax.specs.declared.LayoutEvent.the-variants.{Jump, Align}
-use Rattle.relax.specs.Events.{endOf}
-use Rattle.fresh.specs.Fresh.{startOf, extentOf}
+use Rattle.relax.specs.Events.{startOf, endOf, noEvent}
 use Rattle.fresh.proofs.Shape.{Ordered, Clear}
 use Rattle.fresh.proofs.Tests.{split}
-
-pub end-is : (e : LayoutEvent) → endOf e ≡ startOf e + extentOf e
-end-is (Jump j) = refl
-end-is (Align start len align) = refl
 
 -- an offset that is at or past a start, before the end, and not strictly inside is the start
 pub at-start : (s f t : ℕ) → s ≤ t → t < f → (s < t → f ≤ t) → t ≡ s
@@ -27,7 +21,7 @@ at-start s f t a b h = split (ltb s t)
 pub ordered-le : (o n : ℕ) (es : List LayoutEvent) → Ordered o n es → o ≤ n
 unfolding Ordered
 ordered-le o n [] h = h
-ordered-le o n (e ∷ es) h = omega (arith, h .0, end-is e, ordered-le (endOf e) n es (h .1))
+ordered-le o n (e ∷ es) h = omega (arith, h .0, ordered-le (endOf e) n es (h .1))
 
 -- all events end within the code, so its end lies inside none
 pub ordered-clear : (es : List LayoutEvent) (o n : ℕ) → Ordered o n es → Clear n es
@@ -42,18 +36,18 @@ run-length o s code h k = length-take-le (s - o) (drop o code) (rw (length-drop 
 pub drop-on : (o s : ℕ) (code : List ℕ) → o ≤ s → drop (s - o) (drop o code) ≡ drop s code
 drop-on o s code h = let p : o + (s - o) ≡ s = omega arith in drop-drop (s - o) o code ∙ ap (λ x. drop x code) p
 
-start-past : (es : List LayoutEvent) (o n j : ℕ) → Ordered o n es → j < length es → o ≤ startOf (getD es j (Align 0 0 0))
+start-past : (es : List LayoutEvent) (o n j : ℕ) → Ordered o n es → j < length es → o ≤ startOf (getD es j noEvent)
 unfolding Ordered
 start-past [] o n j h k = absurd (omega arith)
 start-past (e ∷ es) o n zero h k = h .0
-start-past (e ∷ es) o n (suc j) h k = omega (arith, h .0, end-is e, start-past es (endOf e) n j (h .1) (omega arith))
+start-past (e ∷ es) o n (suc j) h k = omega (arith, h .0, start-past es (endOf e) n j (h .1) (omega arith))
 
 -- The events' starts rise, so a binary search finds the last segment that starts at or before an offset.
 pub starts-rise : (es : List LayoutEvent) (o n i j : ℕ) → Ordered o n es → i ≤ j → j < length es
-    → startOf (getD es i (Align 0 0 0)) ≤ startOf (getD es j (Align 0 0 0))
+    → startOf (getD es i noEvent) ≤ startOf (getD es j noEvent)
 unfolding Ordered
 starts-rise [] o n i j h le k = absurd (omega arith)
 starts-rise (e ∷ es) o n zero zero h le k = omega arith
-starts-rise (e ∷ es) o n zero (suc j) h le k = omega (arith, end-is e, start-past es (endOf e) n j (h .1) (omega arith))
+starts-rise (e ∷ es) o n zero (suc j) h le k = omega (arith, start-past es (endOf e) n j (h .1) (omega arith))
 starts-rise (e ∷ es) o n (suc i) zero h le k = absurd (omega arith)
 starts-rise (e ∷ es) o n (suc i) (suc j) h le k = starts-rise es (endOf e) n i j (h .1) (omega arith) (omega arith)

@@ -1,23 +1,24 @@
 -- Filling by segments is filling by the walk, and a fill leaves the length.
-use mathlib.Core.Path.{_≡_, refl, sym, _∙_, ap}
+use mathlib.Core.Path.{_≡_, refl, sym, _∙_, ap, fun-ext}
 use mathlib.Core.Bool.{Bool}
 use mathlib.Core.List.{List, [], _∷_, map}
-use Prim.Native.Nat.{ℕ, suc}
+use Prim.Native.Nat.{ℕ, suc, _+_}
 use lib.ListN.{length, getD}
 use Rattle.seqs.proofs.Overwrites.{length-over}
 use Rattle.fields.specs.declared.Decoded.{Decoded}
 use Rattle.fields.specs.declared.Decoded.the-variants.{Use, Unsupported, Unknown}
 use Rattle.relax.specs.declared.LayoutEvent.{LayoutEvent}
-use Rattle.relax.specs.declared.LayoutEvent.the-variants.{Jump, Align}
 use Rattle.buffer.specs.State.{none}
 use Rattle.recording.specs.View as view
 use Rattle.fresh.specs.Pooled.{Placed, Pooled}
-use Rattle.fresh.specs.Fresh.{Choice, isLong, others, walk, ends, placed, moved}
-use Rattle.fresh.specs.Rounds.{firstEnd, otherEnds}
+use Rattle.fresh.specs.Forms.{Branch, fieldOf, pads, branches, roleOf}
+use Rattle.fresh.specs.Fresh.{Choice, isLong, walk, starts, placed, moved}
+use Rattle.fresh.specs.Rounds.{firstStart}
 use Rattle.fresh.specs.Fill.{fillField, fillRefs, fillJump, fillJumps, fillPool, fill, assembled, fillUse, fillUses, inPlace}
 use Rattle.fresh.specs.Segments.{mapOffset, segmentsOf}
 use Rattle.fresh.proofs.Shape.{RefsLie, PoolLies, WellFormed, runs, built}
-use Rattle.fresh.proofs.Segments.{placed-runs, ends-are, moved-map, target-map}
+use Rattle.fresh.proofs.Tests.{by-role}
+use Rattle.fresh.proofs.Segments.{placed-runs, starts-are, moved-map, target-map}
 
 -- lengths
 pub length-fillField : (k : Decoded) (offset label addend : ℕ) (l : List ℕ) → length (fillField k offset label addend l) ≡ length l
@@ -31,27 +32,39 @@ unfolding fillRefs
 length-fillRefs at labels [] l = refl
 length-fillRefs at labels (r ∷ rs) l = length-fillRefs at labels rs _ ∙ length-fillField _ _ _ _ l
 
-pub length-fillJump : (at : ℕ → ℕ) (labels : List ℕ) (e : LayoutEvent) (long : Bool) (end : ℕ) (l : List ℕ)
-    → length (fillJump at labels e long end l) ≡ length l
+-- a jump is filled as a field is, and padding is not
+pub fillJump-pads : (at : ℕ → ℕ) (e : LayoutEvent) (long : Bool) (start : ℕ) (l : List ℕ) → roleOf e ≡ pads
+    → fillJump at e long start l ≡ l
 unfolding fillJump
-length-fillJump at labels (Jump j) long end l = length-over l _ _
-length-fillJump at labels (Align start len align) long end l = refl
+fillJump-pads at e long start l r = rw (r, fillJump)
 
-pub length-fillJumps : (at : ℕ → ℕ) (labels : List ℕ) (es : List LayoutEvent) (c : Choice) (ends l : List ℕ)
-    → length (fillJumps at labels es c ends l) ≡ length l
+pub fillJump-branch : (at : ℕ → ℕ) (e : LayoutEvent) (b : Branch) (long : Bool) (start : ℕ) (l : List ℕ) → roleOf e ≡ branches b
+    → fillJump at e long start l
+    ≡ fillField (Use (fieldOf b long .kind)) (start + fieldOf b long .place) (at (b .label)) 0 l
+unfolding fillJump
+fillJump-branch at e b long start l r = rw (r, fillJump)
+
+pub length-fillJump : (at : ℕ → ℕ) (e : LayoutEvent) (long : Bool) (start : ℕ) (l : List ℕ)
+    → length (fillJump at e long start l) ≡ length l
+length-fillJump at e long start l = by-role e
+    (λ r. ap length (fillJump-pads at e long start l r))
+    (λ b r. ap length (fillJump-branch at e b long start l r) ∙ length-fillField (Use (fieldOf b long .kind)) _ _ 0 l)
+
+pub length-fillJumps : (at : ℕ → ℕ) (es : List LayoutEvent) (c : Choice) (starts l : List ℕ)
+    → length (fillJumps at es c starts l) ≡ length l
 unfolding fillJumps
-length-fillJumps at labels [] c ends l = refl
-length-fillJumps at labels (e ∷ es) c ends l = length-fillJumps at labels es _ _ _ ∙ length-fillJump at labels e (isLong c) (firstEnd ends) l
+length-fillJumps at [] c starts l = refl
+length-fillJumps at (e ∷ es) c starts l = length-fillJumps at es _ _ _ ∙ length-fillJump at e (isLong c) (firstStart starts) l
 
 pub length-fillPool : (at : ℕ → ℕ) (ks : List Placed) (l : List ℕ) → length (fillPool at ks l) ≡ length l
 unfolding fillPool
 length-fillPool at [] l = refl
 length-fillPool at (k ∷ ks) l = length-fillPool at ks _ ∙ length-over l (at (k .offset)) (k .bytes)
 
-pub length-fill : (at : ℕ → ℕ) (p : Pooled) (c : Choice) (ends l : List ℕ) → length (fill at p c ends l) ≡ length l
+pub length-fill : (at : ℕ → ℕ) (p : Pooled) (c : Choice) (starts l : List ℕ) → length (fill at p c starts l) ≡ length l
 unfolding fill
-length-fill at p c ends l =
-    length-fillPool at (p .pool) _ ∙ (length-fillJumps at (p .labels) (p .events) c ends _ ∙ length-fillRefs at (p .labels) (p .refs) l)
+length-fill at p c starts l =
+    length-fillPool at (p .pool) _ ∙ (length-fillJumps _ (p .events) c starts _ ∙ length-fillRefs at (p .labels) (p .refs) l)
 
 pub length-fillUse : (k : Decoded) (offset label : ℕ) (l : List ℕ) → length (fillUse k offset label l) ≡ length l
 unfolding fillUse
@@ -64,7 +77,7 @@ unfolding fillUses
 length-fillUses labels [] l = refl
 length-fillUses labels (u ∷ us) l = length-fillUses labels us _ ∙ length-fillUse _ _ _ l
 
-pub length-built : (p : Pooled) (c : Choice) → length (built p c) ≡ length (runs 0 0 (p .code) (p .events) c)
+pub length-built : (p : Pooled) (c : Choice) → length (built p c) ≡ length (runs (p .arch) 0 0 (p .code) (p .events) c)
 unfolding built
 length-built p c = length-fill _ p c _ _
 
@@ -88,13 +101,6 @@ module _ (p : Pooled) (c : Choice) (wf : WellFormed p) where
   refs-same [] h l = refl
   refs-same (r ∷ rs) h l = rw (moved-map p c wf (r .offset) (h .0), target-map p c wf (r .label)) (refs-same rs (h .1) _)
 
-  jumps-same : (es : List LayoutEvent) (b : Choice) (ends l : List ℕ)
-      → fillJumps (moved p c) (p .labels) es b ends l ≡ fillJumps (mapOffset (segmentsOf p c)) (p .labels) es b ends l
-  unfolding fillJumps fillJump
-  jumps-same [] b ends l = refl
-  jumps-same (Jump j ∷ es) b ends l = rw (target-map p c wf (j .label)) (jumps-same es (others b) (otherEnds ends) _)
-  jumps-same (Align start len align ∷ es) b ends l = jumps-same es (others b) (otherEnds ends) l
-
   pool-same : (ks : List Placed) → PoolLies p ks → (l : List ℕ) → fillPool (moved p c) ks l ≡ fillPool (mapOffset (segmentsOf p c)) ks l
   unfolding fillPool PoolLies
   pool-same [] h l = refl
@@ -106,8 +112,8 @@ module _ (p : Pooled) (c : Choice) (wf : WellFormed p) where
   built-assembled =
       sym (pool-same (p .pool) (wf .constants) _
       ∙ ap (fillPool (mapOffset (segmentsOf p c)) (p .pool))
-      (jumps-same (p .events) c (ends 0 (walk p) c) _
-      ∙ rw (ends-are p c wf, placed-runs p c wf, refs-same (p .refs) (wf .fields) (runs 0 0 (p .code) (p .events) c)) refl))
+      (ap (λ (at : ℕ → ℕ). fillJumps at (p .events) c (starts 0 (walk p) c) (fillRefs (moved p c) (p .labels) (p .refs) (placed p c))) (fun-ext (target-map p c wf))
+      ∙ rw (starts-are p c wf, placed-runs p c wf, refs-same (p .refs) (wf .fields) (runs (p .arch) 0 0 (p .code) (p .events) c)) refl))
 
   -- Every label.
   pub labels-same : map (mapOffset (segmentsOf p c)) (p .labels) ≡ map (moved p c) (p .labels)

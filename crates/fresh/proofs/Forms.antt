@@ -1,49 +1,76 @@
--- How many bytes each form takes.
+-- The facts on events that go by cases; every other theorem asks of an event only what stands here.
 use mathlib.Core.Path.{_≡_, refl}
 use mathlib.Core.Bool.{Bool, true, false}
+use mathlib.Core.List.{List}
 use Prim.Native.Nat.{ℕ, _+_, _%_, _≤_, _<_}
 use native.Mathlib.Omega.{arith}
+use lib.Dec.{lit≤}
 use lib.ListN.{length}
 use Rattle.encoder.specs.Padding.{paddingLength}
-use Rattle.encoder.proofs.Nops.{nops-length}
-use Rattle.encoder.proofs.Padding.{padding-aligns}
+use Rattle.encoder.proofs.Padding.{padding-aligns, padding-below}
+use Rattle.fields.specs.Kinds.{info, patchSize}
+use Rattle.relax.specs.declared.Alignment.{Alignment}
 use Rattle.relax.specs.declared.Condition.{Condition}
 use Rattle.relax.specs.declared.Condition.the-variants.{Always, On}
 use Rattle.relax.specs.declared.LayoutEvent.{LayoutEvent}
 use Rattle.relax.specs.declared.LayoutEvent.the-variants.{Jump, Align}
-use Rattle.relax.specs.declared.RelaxableJump.{RelaxableJump}
-use Rattle.fresh.specs.Forms.{shortForm, longForm, form, width}
-use Rattle.fresh.proofs.Shape.{longSize, size}
+use Rattle.relax.specs.Events.{longLen}
+use Rattle.buffer.proofs.Appends.{padding-length}
+use Rattle.fresh.specs.Forms.{shortForm, longForm, form, width, Branch, fieldOf, branches, branchOf, roleOf}
+use Rattle.fresh.proofs.Shape.{Small}
 use Rattle.fresh.proofs.Tests.{no-confusion}
 
 pub length-shortForm : (c : Condition) → length (shortForm c) ≡ 2
 length-shortForm Always = refl
 length-shortForm (On c) = refl
 
-pub length-longForm : (c : Condition) → length (longForm c) ≡ longSize c
+pub length-longForm : (c : Condition) → length (longForm c) ≡ longLen c
 length-longForm Always = refl
 length-longForm (On c) = refl
 
-pub longSize-range : (c : Condition) → (5 ≤ longSize c) × (longSize c ≤ 6)
-longSize-range Always = omega arith
-longSize-range (On c) = omega arith
+pub longLen-range : (c : Condition) → (5 ≤ longLen c) × (longLen c ≤ 6)
+longLen-range Always = omega arith
+longLen-range (On c) = omega arith
 
--- The bytes written for an event are as many as its size by cases says.
-pub width-size : (e : LayoutEvent) (long : Bool) (n : ℕ) → width e long n ≡ size e long n
-unfolding width size form
-width-size (Jump j) false n = length-shortForm (j .cc)
-width-size (Jump j) true n = length-longForm (j .cc)
-width-size (Align start len align) long n = nops-length (paddingLength n align)
+-- The bytes written for an event are as many as its width says.
+pub length-form : (arch : ℕ) (e : LayoutEvent) (bytes : List ℕ) (long : Bool) (n : ℕ) → length (form arch e bytes long n) ≡ width e long n
+unfolding width form
+length-form arch (Jump j) bytes false n = length-shortForm (j .cc)
+length-form arch (Jump j) bytes true n = length-longForm (j .cc)
+length-form arch (Align a) bytes long n = padding-length arch (paddingLength n (a .align))
+
+-- An event of modest size takes at most 4,096 bytes.
+pub width-small : (e : LayoutEvent) (long : Bool) (n : ℕ) → Small e → width e long n ≤ 4096
+unfolding width
+width-small (Jump j) true n h = omega (arith, longLen-range (j .cc))
+width-small (Jump j) false n h = lit≤ tt
+width-small (Align a) long n h = omega (arith, h .0, h .1, padding-below n (a .align) (h .0))
+
+-- A branch is no shorter when it is long, wherever it stands.
+pub branch-wider : (e : LayoutEvent) (b : Branch) → roleOf e ≡ branches b → (long longer : Bool) (n m : ℕ) → (long ≡ true → longer ≡ true)
+    → width e long n ≤ width e longer m
+unfolding width roleOf
+branch-wider (Jump j) b r false false n m h = omega arith
+branch-wider (Jump j) b r false true n m h = omega (arith, longLen-range (j .cc))
+branch-wider (Jump j) b r true false n m h = no-confusion (h refl)
+branch-wider (Jump j) b r true true n m h = omega arith
+branch-wider (Align a) b r long longer n m h = let z : _≡_ {A = ℕ} 0 1 = cc in absurd (omega arith)
+
+-- A branch holds its displacement.
+pub field-inside : (e : LayoutEvent) (b : Branch) → roleOf e ≡ branches b → (long : Bool) (n : ℕ)
+    → fieldOf b long .place + patchSize (fieldOf b long .kind) ≤ width e long n
+unfolding width roleOf
+field-inside (Jump j) b r false n = let is : branchOf j ≡ b = cc in rw (← is) (lit≤ tt)
+field-inside (Jump j) b r true n = let is : branchOf j ≡ b = cc in rw (← is) (omega (arith, longLen-range (j .cc)))
+field-inside (Align a) b r long n = let z : _≡_ {A = ℕ} 0 1 = cc in absurd (omega arith)
+
+-- A short branch reaches its own start.
+pub home-reached : (e : LayoutEvent) (b : Branch) → roleOf e ≡ branches b → b .short .place + info (b .short .kind) .from ≤ info (b .short .kind) .low
+unfolding roleOf
+home-reached (Jump j) b r = let is : branchOf j ≡ b = cc in rw (← is) (lit≤ tt)
+home-reached (Align a) b r = let z : _≡_ {A = ℕ} 0 1 = cc in absurd (omega arith)
 
 -- Where an alignment's padding ends is a multiple.
-pub padding-ends : (start len align : ℕ) (long : Bool) (n : ℕ) → 0 < align → (n + width (Align start len align) long n) % align ≡ 0
-unfolding size
-padding-ends start len align long n h = rw (width-size (Align start len align) long n) (padding-aligns n align h)
-
--- A jump is no shorter when it is long, wherever it stands.
-pub jump-wider : (j : RelaxableJump) (a b : Bool) (n m : ℕ) → (a ≡ true → b ≡ true) → width (Jump j) a n ≤ width (Jump j) b m
-unfolding width form
-jump-wider j false false n m h = omega (arith, length-shortForm (j .cc))
-jump-wider j false true n m h = omega (arith, length-shortForm (j .cc), length-longForm (j .cc), longSize-range (j .cc))
-jump-wider j true false n m h = no-confusion (h refl)
-jump-wider j true true n m h = omega arith
+pub padding-ends : (a : Alignment) (long : Bool) (n : ℕ) → 0 < a .align → (n + width (Align a) long n) % a .align ≡ 0
+unfolding width
+padding-ends a long n h = padding-aligns n (a .align) h

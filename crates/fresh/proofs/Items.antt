@@ -5,17 +5,16 @@ use Prim.Native.Nat.{ℕ, suc, _+_, _-_, _<_}
 use native.Mathlib.Omega.{arith}
 use lib.ListN.{length, getD, take, drop, length-drop}
 use Rattle.relax.specs.declared.LayoutEvent.{LayoutEvent}
-use Rattle.relax.specs.declared.LayoutEvent.the-variants.{Align}
-use Rattle.relax.specs.Events.{endOf}
-use Rattle.fresh.specs.Fresh.{startOf, extentOf, Item, plain, event, items}
+use Rattle.relax.specs.Events.{endOf, startOf, extentOf, noEvent}
+use Rattle.fresh.specs.Fresh.{Item, plain, event, items}
 use Rattle.fresh.proofs.Shape.{Ordered}
-use Rattle.fresh.proofs.Events.{end-is, ordered-le, run-length, drop-on}
+use Rattle.fresh.proofs.Events.{ordered-le, run-length, drop-on}
 
 -- how much of the recording the items stand for
 unfoldable pub spanned : List Item → ℕ
 spanned [] = 0
 spanned (plain b ∷ is) = suc (spanned is)
-spanned (event e ∷ is) = extentOf e + spanned is
+spanned (event e bytes ∷ is) = extentOf e + spanned is
 
 spanned-plains : (bs : List ℕ) → spanned (map plain bs) ≡ length bs
 unfolding spanned
@@ -31,13 +30,12 @@ pub spanned-items : (es : List LayoutEvent) (o : ℕ) (code : List ℕ) → Orde
 unfolding spanned items Ordered
 spanned-items [] o code h = omega (arith, spanned-plains (drop o code), length-drop o code)
 spanned-items (e ∷ es) o code h =
-    rw (drop-on o (endOf e) code (omega (arith, end-is e, h .0)))
+    rw (drop-on o (endOf e) code (omega (arith, h .0)))
     (omega (
       arith,
       h .0,
-      end-is e,
-      spanned-run (take (startOf e - o) (drop o code)) (event e ∷ items (endOf e) (drop (endOf e) code) es),
-      run-length o (startOf e) code (h .0) (omega (arith, end-is e, ordered-le (endOf e) (length code) es (h .1))),
+      spanned-run (take (startOf e - o) (drop o code)) (event e (take (extentOf e) (drop (startOf e - o) (drop o code))) ∷ items (endOf e) (drop (endOf e) code) es),
+      run-length o (startOf e) code (h .0) (omega (arith, ordered-le (endOf e) (length code) es (h .1))),
       spanned-items es (endOf e) code (h .1),
     ))
 
@@ -45,7 +43,7 @@ spanned-items (e ∷ es) o code h =
 unfoldable pub AtEvents : (ℕ → ℕ → Type 0) → ℕ → List Item → Type 0
 AtEvents P o [] = Unit {0}
 AtEvents P o (plain b ∷ is) = AtEvents P (suc o) is
-AtEvents P o (event e ∷ is) = P o (o + extentOf e) × AtEvents P (o + extentOf e) is
+AtEvents P o (event e bytes ∷ is) = P o (o + extentOf e) × AtEvents P (o + extentOf e) is
 
 module _ (P : ℕ → ℕ → Type 0) where
   at-run : (bs : List ℕ) (is : List Item) (o : ℕ) → AtEvents P (o + length bs) is → AtEvents P o (map plain bs ++ is)
@@ -60,16 +58,15 @@ module _ (P : ℕ → ℕ → Type 0) where
 
   -- The walk meets the events where they were recorded.
   pub at-items : (es : List LayoutEvent) (o : ℕ) (code : List ℕ) → Ordered o (length code) es
-      → ((i : ℕ) → i < length es → P (startOf (getD es i (Align 0 0 0))) (endOf (getD es i (Align 0 0 0)))) → AtEvents P o (items o (drop o code) es)
+      → ((i : ℕ) → i < length es → P (startOf (getD es i noEvent)) (endOf (getD es i noEvent))) → AtEvents P o (items o (drop o code) es)
   unfolding Ordered items AtEvents
   at-items [] o code h k = at-plains (drop o code) o
   at-items (e ∷ es) o code h k =
       let there : o + (startOf e - o) ≡ startOf e = omega (arith, h .0) in
       at-run (take (startOf e - o) (drop o code)) _ o
       (rw (
-        run-length o (startOf e) code (h .0) (omega (arith, end-is e, ordered-le (endOf e) (length code) es (h .1))),
+        run-length o (startOf e) code (h .0) (omega (arith, ordered-le (endOf e) (length code) es (h .1))),
         there,
-        drop-on o (endOf e) code (omega (arith, end-is e, h .0)),
-        ← end-is e,
+        drop-on o (endOf e) code (omega (arith, h .0)),
       )
       (k 0 (omega arith), at-items es (endOf e) code (h .1) (λ i l. k (suc i) (omega arith))))

@@ -1,10 +1,11 @@
 pub mod Shape
 pub mod Tests
+pub mod Forms
 pub mod Events
 pub mod Entries
 pub mod Items
+pub mod Moves
 pub mod Choices
-pub mod Forms
 pub mod Loops
 pub mod Rounds
 pub mod Segments

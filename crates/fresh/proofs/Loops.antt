@@ -1,24 +1,21 @@
 -- One turn of each loop that lays out, looks up, scans, copies and fills.
 use mathlib.Core.Path.{_≡_, refl, _∙_, ap}
-use mathlib.Core.Bool.{Bool, true, false}
+use mathlib.Core.Bool.{false}
 use mathlib.Core.List.{List, [], _∷_, _++_, append-assoc, append-nil}
 use Prim.Native.Nat.{ℕ, zero, suc, _+_, _-_, _*_, _≤_, _<_}
 use native.Mathlib.Omega.{arith}
-use lib.Dec.{lit≤}
 use lib.ListN.{length, getD, take, drop, set, length-append, length-drop}
 use borrow.Author.Tests.{le-leb, lt-leb}
-use Rattle.encoder.proofs.Padding.{padding-below}
 use Rattle.relax.specs.declared.LayoutEvent.{LayoutEvent}
-use Rattle.relax.specs.declared.LayoutEvent.the-variants.{Jump, Align}
 use Rattle.relax.specs.declared.Segment.{Segment}
-use Rattle.relax.specs.Events.{endOf}
-use Rattle.fresh.specs.Forms.{form, width}
-use Rattle.fresh.specs.Fresh.{Choice, isLong, others, startOf}
+use Rattle.relax.specs.Events.{startOf, extentOf, endOf, noEvent}
+use Rattle.fresh.specs.Fresh.{Choice, isLong, others}
 use Rattle.fresh.specs.Segments.{segment, segments, image, chosen, decided}
-use Rattle.fresh.proofs.Shape.{size, Ordered, Modest, runs, after, segmentAt, runsTo}
-use Rattle.fresh.proofs.Events.{end-is, ordered-le, run-length}
+use Rattle.fresh.specs.Fill.{part}
+use Rattle.fresh.proofs.Shape.{Ordered, Small, Modest, formAt, runs, after, segmentAt, runsTo}
+use Rattle.fresh.proofs.Events.{ordered-le, run-length}
 use Rattle.fresh.proofs.Choices.{isLong-getD, others-getD}
-use Rattle.fresh.proofs.Forms.{width-size, longSize-range}
+use Rattle.fresh.proofs.Forms.{length-form, width-small}
 
 -- The layout: segment i, and where it stands after event i.
 pub length-segments : (es : List LayoutEvent) (o n : ℕ) (c : Choice) → length (segments o n es c) ≡ length es
@@ -34,7 +31,7 @@ segments-getD (e ∷ es) o n c zero z h = ap (segment o n e) (isLong-getD c)
 segments-getD (e ∷ es) o n c (suc i) z h = segments-getD es _ _ (others c) i z (omega arith) ∙ rw (others-getD c i) refl
 
 pub after-suc : (es : List LayoutEvent) (o n : ℕ) (c : Choice) (i : ℕ) → i < length es
-    → after (suc i) o n es c ≡ record { old = endOf (getD es i (Align 0 0 0)); new = (segmentAt i o n es c) .«new_end» }
+    → after (suc i) o n es c ≡ record { old = endOf (getD es i noEvent); new = (segmentAt i o n es c) .«new_end» }
 unfolding segmentAt after
 after-suc [] o n c i h = absurd (omega arith)
 after-suc (e ∷ es) o n c zero h = rw (isLong-getD c) refl
@@ -72,82 +69,65 @@ mixed-suc (x ∷ f) (y ∷ g) zero h k = refl
 mixed-suc (x ∷ f) (y ∷ g) (suc i) h k = ap (λ l. x ∷ l) (mixed-suc f g i (omega arith) (omega arith))
 
 -- The runs: event i adds the run before it and its form; what follows the last event is copied.
-pub runsTo-suc : (es : List LayoutEvent) (o n : ℕ) (code : List ℕ) (c : Choice) (i : ℕ) → i < length es
-    → runsTo (suc i) o n code es c ≡ runsTo i o n code es c
-    ++ (take (startOf (getD es i (Align 0 0 0)) - (after i o n es c) .old) (drop ((after i o n es c) .old) code)
-    ++ form (getD es i (Align 0 0 0)) (getD c i false) ((segmentAt i o n es c) .«new_start»))
+pub runsTo-suc : (arch : ℕ) (es : List LayoutEvent) (o n : ℕ) (code : List ℕ) (c : Choice) (i : ℕ) → i < length es
+    → runsTo (suc i) arch o n code es c ≡ runsTo i arch o n code es c
+    ++ (take (startOf (getD es i noEvent) - (after i o n es c) .old) (drop ((after i o n es c) .old) code)
+    ++ formAt arch code (getD es i noEvent) (getD c i false) ((segmentAt i o n es c) .«new_start»))
 unfolding runsTo segmentAt after
-runsTo-suc [] o n code c i h = absurd (omega arith)
-runsTo-suc (e ∷ es) o n code c zero h = rw (isLong-getD c, append-nil) refl
-runsTo-suc (e ∷ es) o n code c (suc i) h =
-    ap (λ l. take (startOf e - o) (drop o code) ++ (form e (isLong c) ((segment o n e (isLong c)) .«new_start») ++ l))
-    (runsTo-suc es _ _ code (others c) i (omega arith))
+runsTo-suc arch [] o n code c i h = absurd (omega arith)
+runsTo-suc arch (e ∷ es) o n code c zero h = rw (isLong-getD c, append-nil) refl
+runsTo-suc arch (e ∷ es) o n code c (suc i) h =
+    ap (λ l. take (startOf e - o) (drop o code) ++ (formAt arch code e (isLong c) ((segment o n e (isLong c)) .«new_start») ++ l))
+    (runsTo-suc arch es _ _ code (others c) i (omega arith))
     ∙ rw (others-getD c i) (simp append-assoc)
 
-pub runs-all : (es : List LayoutEvent) (o n : ℕ) (code : List ℕ) (c : Choice)
-    → runs o n code es c ≡ runsTo (length es) o n code es c ++ drop ((after (length es) o n es c) .old) code
+pub runs-all : (arch : ℕ) (es : List LayoutEvent) (o n : ℕ) (code : List ℕ) (c : Choice)
+    → runs arch o n code es c ≡ runsTo (length es) arch o n code es c ++ drop ((after (length es) o n es c) .old) code
 unfolding runs runsTo after
-runs-all [] o n code c = refl
-runs-all (e ∷ es) o n code c =
-    ap (λ l. take (startOf e - o) (drop o code) ++ (form e (isLong c) ((segment o n e (isLong c)) .«new_start») ++ l)) (runs-all es _ _ code (others c))
+runs-all arch [] o n code c = refl
+runs-all arch (e ∷ es) o n code c =
+    ap (λ l. take (startOf e - o) (drop o code) ++ (formAt arch code e (isLong c) ((segment o n e (isLong c)) .«new_start») ++ l)) (runs-all arch es _ _ code (others c))
     ∙ simp append-assoc
 
 -- What is written so far ends where the layout stands.
-pub length-runsTo : (es : List LayoutEvent) (o n : ℕ) (code : List ℕ) (c : Choice) (i : ℕ) → Ordered o (length code) es → i ≤ length es
-    → n + length (runsTo i o n code es c) ≡ (after i o n es c) .new
-unfolding runsTo after Ordered width
-length-runsTo es o n code c zero h k = omega arith
-length-runsTo [] o n code c (suc i) h k = absurd (omega arith)
-length-runsTo (e ∷ es) o n code c (suc i) h k =
+pub length-runsTo : (arch : ℕ) (es : List LayoutEvent) (o n : ℕ) (code : List ℕ) (c : Choice) (i : ℕ) → Ordered o (length code) es → i ≤ length es
+    → n + length (runsTo i arch o n code es c) ≡ (after i o n es c) .new
+unfolding runsTo after Ordered
+length-runsTo arch es o n code c zero h k = omega arith
+length-runsTo arch [] o n code c (suc i) h k = absurd (omega arith)
+length-runsTo arch (e ∷ es) o n code c (suc i) h k =
     omega (
       arith,
       length-append (take (startOf e - o) (drop o code))
-          (form e (isLong c) (n + (startOf e - o)) ++ runsTo i (endOf e) ((segment o n e (isLong c)) .«new_end») code es (others c)),
-      length-append (form e (isLong c) (n + (startOf e - o))) (runsTo i (endOf e) ((segment o n e (isLong c)) .«new_end») code es (others c)),
-      run-length o (startOf e) code (h .0) (omega (arith, end-is e, ordered-le (endOf e) (length code) es (h .1))),
-      length-runsTo es (endOf e) ((segment o n e (isLong c)) .«new_end») code (others c) i (h .1) (omega arith),
+          (formAt arch code e (isLong c) (n + (startOf e - o)) ++ runsTo i arch (endOf e) ((segment o n e (isLong c)) .«new_end») code es (others c)),
+      length-append (formAt arch code e (isLong c) (n + (startOf e - o))) (runsTo i arch (endOf e) ((segment o n e (isLong c)) .«new_end») code es (others c)),
+      length-form arch e (part code (startOf e) (extentOf e)) (isLong c) (n + (startOf e - o)),
+      run-length o (startOf e) code (h .0) (omega (arith, ordered-le (endOf e) (length code) es (h .1))),
+      length-runsTo arch es (endOf e) ((segment o n e (isLong c)) .«new_end») code (others c) i (h .1) (omega arith),
     )
 
 -- The code's length: what the layout has come to, and what follows the last event.
-pub length-runs : (es : List LayoutEvent) (o n : ℕ) (code : List ℕ) (c : Choice) → Ordered o (length code) es
-    → n + length (runs o n code es c) ≡ (after (length es) o n es c) .new + (length code - (after (length es) o n es c) .old)
-length-runs es o n code c h =
+pub length-runs : (arch : ℕ) (es : List LayoutEvent) (o n : ℕ) (code : List ℕ) (c : Choice) → Ordered o (length code) es
+    → n + length (runs arch o n code es c) ≡ (after (length es) o n es c) .new + (length code - (after (length es) o n es c) .old)
+length-runs arch es o n code c h =
     omega (
       arith,
-      ap length (runs-all es o n code c),
-      length-append (runsTo (length es) o n code es c) (drop ((after (length es) o n es c) .old) code),
-      length-runsTo es o n code c (length es) h (omega arith),
+      ap length (runs-all arch es o n code c),
+      length-append (runsTo (length es) arch o n code es c) (drop ((after (length es) o n es c) .old) code),
+      length-runsTo arch es o n code c (length es) h (omega arith),
       length-drop ((after (length es) o n es c) .old) code,
     )
 
 -- The sums: an event takes at most 4,096 bytes.
-size-le-first : (e : LayoutEvent) (es : List LayoutEvent) (long : Bool) (n : ℕ) → Modest (e ∷ es) → size e long n ≤ 4096
-unfolding Modest size
-size-le-first (Jump j) es true n h = omega (arith, longSize-range (j .cc))
-size-le-first (Jump j) es false n h = lit≤ tt
-size-le-first (Align start len align) es long n h = omega (arith, h .0, padding-below n align (h .0))
-
-modest-rest : (e : LayoutEvent) (es : List LayoutEvent) → Modest (e ∷ es) → Modest es
+pub modest-at : (es : List LayoutEvent) (i : ℕ) → Modest es → i < length es → Small (getD es i noEvent)
 unfolding Modest
-modest-rest (Jump j) es h = h .2
-modest-rest (Align start len align) es h = h .2
-
-pub size-le : (es : List LayoutEvent) (i : ℕ) (long : Bool) (n : ℕ) → Modest es → i < length es → size (getD es i (Align 0 0 0)) long n ≤ 4096
-size-le [] i long n h k = absurd (omega arith)
-size-le (e ∷ es) zero long n h k = size-le-first e es long n h
-size-le (e ∷ es) (suc i) long n h k = size-le es i long n (modest-rest e es h) (omega arith)
-
-pub modest-at : (es : List LayoutEvent) (i start len align : ℕ) → Modest es → i < length es → getD es i (Align 0 0 0) ≡ Align start len align → 0 < align
-unfolding Modest
-modest-at [] i start len align h k e = absurd (omega arith)
-modest-at (Jump j ∷ es) zero start len align h k e = let z : _≡_ {A = ℕ} 0 1 = cc in omega arith
-modest-at (Align s n m ∷ es) zero start len align h k e = let p : m ≡ align = cc in omega (arith, h .0)
-modest-at (Jump j ∷ es) (suc i) start len align h k e = modest-at es i start len align (h .2) (omega arith) e
-modest-at (Align s n m ∷ es) (suc i) start len align h k e = modest-at es i start len align (h .2) (omega arith) e
+modest-at [] i h k = absurd (omega arith)
+modest-at (e ∷ es) zero h k = h .0
+modest-at (e ∷ es) (suc i) h k = modest-at es i (h .1) (omega arith)
 
 pub after-le : (es : List LayoutEvent) (o n len : ℕ) (c : Choice) (i : ℕ) → Modest es → Ordered o len es → i ≤ length es
     → ((after i o n es c) .new ≤ n + ((after i o n es c) .old - o) + 4096 * i) × (o ≤ (after i o n es c) .old) × ((after i o n es c) .old ≤ len)
-unfolding after Ordered
+unfolding after Ordered Modest
 after-le [] o n len c zero m h hi = omega arith
 after-le [] o n len c (suc i) m h hi = absurd (omega arith)
 after-le (e ∷ es) o n len c zero m h hi = omega (arith, ordered-le o len (e ∷ es) h)
@@ -155,15 +135,13 @@ after-le (e ∷ es) o n len c (suc i) m h hi =
     omega (
       arith,
       h .0,
-      end-is e,
-      width-size e (isLong c) (n + (startOf e - o)),
-      size-le-first e es (isLong c) (n + (startOf e - o)) m,
-      after-le es (endOf e) ((segment o n e (isLong c)) .«new_end») len (others c) i (modest-rest e es m) (h .1) (omega arith),
+      width-small e (isLong c) (n + (startOf e - o)) (m .0),
+      after-le es (endOf e) ((segment o n e (isLong c)) .«new_end») len (others c) i (m .1) (h .1) (omega arith),
     )
 
 -- Where the layout stands before an event is at most the event's start.
 pub after-start : (es : List LayoutEvent) (o n len : ℕ) (c : Choice) (i : ℕ) → Ordered o len es → i < length es
-    → ((after i o n es c) .old ≤ startOf (getD es i (Align 0 0 0))) × (endOf (getD es i (Align 0 0 0)) ≤ len)
+    → ((after i o n es c) .old ≤ startOf (getD es i noEvent)) × (endOf (getD es i noEvent) ≤ len)
 unfolding Ordered after
 after-start [] o n len c i h k = absurd (omega arith)
 after-start (e ∷ es) o n len c zero h k = (h .0, ordered-le (endOf e) len es (h .1))

@@ -1,9 +1,9 @@
 -- Filling the code in front of a longer buffer: what stands past the code stays.
 use mathlib.Core.Path.{_≡_, refl, _∙_, ap}
 use mathlib.Core.Logic.{⊎-elim}
-use mathlib.Core.Bool.{Bool, true, false}
+use mathlib.Core.Bool.{false}
 use mathlib.Core.List.{List, [], _∷_}
-use Prim.Native.Nat.{ℕ, zero, suc, _+_, _-_, _≤_, _<_}
+use Prim.Native.Nat.{ℕ, zero, suc, _+_, _≤_, _<_}
 use native.Mathlib.Omega.{arith}
 use lib.ListN.{length, getD, drop, length-drop}
 use lib.Seq.{length-take-le}
@@ -19,19 +19,20 @@ use Rattle.fields.specs.Kinds.{decoded, patchSize}
 use Rattle.fields.specs.Patch.{patchedWord, patched, heldAddend}
 use Rattle.fields.proofs.Patching.{four-unless-one, patched-field}
 use Rattle.relax.specs.declared.LayoutEvent.{LayoutEvent}
-use Rattle.relax.specs.declared.LayoutEvent.the-variants.{Jump, Align}
-use Rattle.relax.specs.declared.RelaxableJump.{RelaxableJump}
+use Rattle.relax.specs.Events.{noEvent}
 use Rattle.buffer.specs.State.{none}
 use Rattle.recording.specs.View as view
 use Rattle.fresh.specs.Pooled.{Placed, Pooled}
+use Rattle.fresh.specs.Forms.{Branch, fieldOf, branches, roleOf}
 use Rattle.fresh.specs.Fresh.{Choice, isLong, others}
-use Rattle.fresh.specs.Rounds.{firstEnd, otherEnds}
+use Rattle.fresh.specs.Rounds.{firstStart, otherStarts}
 use Rattle.fresh.specs.Segments.{mapOffset, segmentsOf}
-use Rattle.fresh.specs.Fill.{part, fillField, fillRefs, displacementSize, displacement, fillJump, fillJumps, fillPool, fill, fillUse, fillUses, inPlace}
-use Rattle.fresh.proofs.Shape.{Apart, WellFormed, newEnds, runs, built}
-use Rattle.fresh.proofs.Choices.{isLong-getD, others-getD, firstEnd-getD, otherEnds-getD}
-use Rattle.fresh.proofs.Fill.{length-fillField, length-fillRefs, length-fillJumps, length-fillUse, length-fillUses}
-use Rattle.fresh.proofs.Within.{displacement-fits, mapped-within, newEnds-within}
+use Rattle.fresh.specs.Fill.{part, fillField, fillRefs, fillJump, fillJumps, fillPool, fill, fillUse, fillUses, inPlace}
+use Rattle.fresh.proofs.Shape.{Apart, WellFormed, newStarts, runs, built}
+use Rattle.fresh.proofs.Tests.{by-role}
+use Rattle.fresh.proofs.Choices.{isLong-getD, others-getD, firstStart-getD, otherStarts-getD}
+use Rattle.fresh.proofs.Fill.{length-fillField, length-fillRefs, fillJump-pads, fillJump-branch, length-fillJump, length-fillJumps, length-fillUse, length-fillUses}
+use Rattle.fresh.proofs.Within.{mapped-within, field-within}
 
 -- an overwrite within what stands in front, and a part of it
 pub over-front : (out l : List ℕ) (at : ℕ) (ys : List ℕ) → at + length ys ≤ length l → over (over out 0 l) at ys ≡ over out 0 (over l at ys)
@@ -66,11 +67,6 @@ pub length-patched : (k : LabelUse) (offset target : ℕ) (bytes : List ℕ) →
 length-patched k offset target bytes h =
     ap length (patched-field k offset target bytes h)
     ∙ length-take-le (patchSize k) (bytesOf (patchedWord k _ offset target)) (size-le-four k)
-
-pub length-displacement : (long : Bool) (end label : ℕ) → length (displacement long end label) ≡ displacementSize long
-unfolding displacement
-length-displacement false end label = refl
-length-displacement true end label = refl
 
 -- a field of a kind that is patched lies within n bytes
 abbrev pub FieldWithin : Decoded → ℕ → ℕ → Type 0
@@ -125,31 +121,31 @@ fillUses-past labels (u ∷ us) out l z h f =
     same : length (fillUse (decoded (u .code)) (u .offset) (getD labels (u .label) none) l) ≡ length l
     same = length-fillUse (decoded (u .code)) (u .offset) (getD labels (u .label) none) l
 
--- Jumps whose displacements lie within the code.
-pub fillJumps-past : (at : ℕ → ℕ) (labels : List ℕ) (es : List LayoutEvent) (c : Choice) (ends out l : List ℕ) → length l ≤ length out
-    → ((i : ℕ) (j : RelaxableJump) → i < length es → getD es i (Align 0 0 0) ≡ Jump j
-    → (displacementSize (getD c i false) ≤ getD ends i 0) × (getD ends i 0 ≤ length l))
-    → fillJumps at labels es c ends (over out 0 l) ≡ over out 0 (fillJumps at labels es c ends l)
-unfolding fillJumps fillJump
-fillJumps-past at labels [] c ends out l h f = refl
-fillJumps-past at labels (Jump j ∷ es) c ends out l h f =
-    ap (fillJumps at labels es (others c) (otherEnds ends))
-    (over-front out l (firstEnd ends - displacementSize (isLong c)) bytes
-    (rw (length-displacement (isLong c) (firstEnd ends) (at (getD labels (j .label) none))) (omega (arith, here))))
-    ∙ fillJumps-past at labels es (others c) (otherEnds ends) out _ (omega (arith, same))
-    (λ i v k e. rw (same, others-getD c i, otherEnds-getD ends i) (f (suc i) v (omega arith) e))
+-- Jumps whose fields lie within the code.
+pub fillJumps-past : (at : ℕ → ℕ) (es : List LayoutEvent) (c : Choice) (starts out l : List ℕ) → length l ≤ length out
+    → ((i : ℕ) (b : Branch) → i < length es → roleOf (getD es i noEvent) ≡ branches b
+    → getD starts i 0 + fieldOf b (getD c i false) .place + patchSize (fieldOf b (getD c i false) .kind) ≤ length l)
+    → fillJumps at es c starts (over out 0 l) ≡ over out 0 (fillJumps at es c starts l)
+unfolding fillJumps
+fillJumps-past at [] c starts out l h f = refl
+fillJumps-past at (e ∷ es) c starts out l h f =
+    ap (fillJumps at es (others c) (otherStarts starts)) here
+    ∙ fillJumps-past at es (others c) (otherStarts starts) out _ (omega (arith, same))
+    (λ i b k r. rw (same, others-getD c i, otherStarts-getD starts i) (f (suc i) b (omega arith) r))
   where
-    bytes : List ℕ
-    bytes = displacement (isLong c) (firstEnd ends) (at (getD labels (j .label) none))
+    same : length (fillJump at e (isLong c) (firstStart starts) l) ≡ length l
+    same = length-fillJump at e (isLong c) (firstStart starts) l
 
-    here : (displacementSize (isLong c) ≤ firstEnd ends) × (firstEnd ends ≤ length l)
-    here = rw (isLong-getD c, firstEnd-getD ends) (f 0 j (omega arith) refl)
-
-    same : length (over l (firstEnd ends - displacementSize (isLong c)) bytes) ≡ length l
-    same = length-over l _ _
-fillJumps-past at labels (Align start len align ∷ es) c ends out l h f =
-    fillJumps-past at labels es (others c) (otherEnds ends) out l h
-    (λ i v k e. rw (others-getD c i, otherEnds-getD ends i) (f (suc i) v (omega arith) e))
+    here : fillJump at e (isLong c) (firstStart starts) (over out 0 l) ≡ over out 0 (fillJump at e (isLong c) (firstStart starts) l)
+    here = by-role e
+        (λ r. rw (fillJump-pads at e (isLong c) (firstStart starts) (over out 0 l) r, fillJump-pads at e (isLong c) (firstStart starts) l r))
+        (λ b r. rw (
+          fillJump-branch at e b (isLong c) (firstStart starts) (over out 0 l) r,
+          fillJump-branch at e b (isLong c) (firstStart starts) l r,
+        )
+        (field-front (Use (fieldOf b (isLong c) .kind)) (firstStart starts + fieldOf b (isLong c) .place) (at (b .label)) 0 out l h
+        (λ k is. let kind : fieldOf b (isLong c) .kind ≡ k = cc in
+        rw (← kind, isLong-getD c, firstStart-getD starts) (f 0 b (omega arith) r))))
 
 -- Constants that lie within the code. z is any of them.
 pub fillPool-past : (at : ℕ → ℕ) (ks : List Placed) (out l : List ℕ) (z : Placed) → length l ≤ length out
@@ -181,17 +177,17 @@ inPlace-past p out zu zk room uses pool =
 pub built-past : (p : Pooled) (c : Choice) → WellFormed p → length (p .code) < none → (out : List ℕ) (zr : view.Ref) (zk : Placed)
     → ((i : ℕ) (k : LabelUse) → i < length (p .refs) → decoded ((getD (p .refs) i zr) .code) ≡ Use k → Apart p ((getD (p .refs) i zr) .offset) (patchSize k))
     → ((i : ℕ) → i < length (p .pool) → Apart p ((getD (p .pool) i zk) .offset) (length ((getD (p .pool) i zk) .bytes)))
-    → length (runs 0 0 (p .code) (p .events) c) ≤ length out
-    → fill (mapOffset (segmentsOf p c)) p c (newEnds (segmentsOf p c)) (over out 0 (runs 0 0 (p .code) (p .events) c)) ≡ over out 0 (built p c)
+    → length (runs (p .arch) 0 0 (p .code) (p .events) c) ≤ length out
+    → fill (mapOffset (segmentsOf p c)) p c (newStarts (segmentsOf p c)) (over out 0 (runs (p .arch) 0 0 (p .code) (p .events) c)) ≡ over out 0 (built p c)
 unfolding fill built
 built-past p c wf small out zr zk refs pool room =
-    ap (λ l. fillPool at (p .pool) (fillJumps at (p .labels) (p .events) c new l))
+    ap (λ l. fillPool at (p .pool) (fillJumps named (p .events) c new l))
     (fillRefs-past at (p .labels) (p .refs) out code zr room
     (λ i k u e. mapped-within p c wf ((getD (p .refs) i zr) .offset) (patchSize u) (omega (arith, (refs i u k e) .0)) (refs i u k e)))
     ∙ (ap (fillPool at (p .pool))
-    (fillJumps-past at (p .labels) (p .events) c new out filled (rw fills room)
-    (λ i j k e. (displacement-fits (p .events) 0 0 c i j k e, rw fills (newEnds-within p c wf i))))
-    ∙ fillPool-past at (p .pool) out (fillJumps at (p .labels) (p .events) c new filled) zk (rw all-fills room)
+    (fillJumps-past named (p .events) c new out filled (rw fills room)
+    (λ i b k r. rw fills (field-within p c wf i b k r)))
+    ∙ fillPool-past at (p .pool) out (fillJumps named (p .events) c new filled) zk (rw all-fills room)
     (λ i k.
     rw all-fills
     (mapped-within p c wf ((getD (p .pool) i zk) .offset) (length ((getD (p .pool) i zk) .bytes)) (omega (arith, (pool i k) .0)) (pool i k))))
@@ -199,11 +195,14 @@ built-past p c wf small out zr zk refs pool room =
     at : ℕ → ℕ
     at = mapOffset (segmentsOf p c)
 
+    named : ℕ → ℕ
+    named label = at (getD (p .labels) label none)
+
     new : List ℕ
-    new = newEnds (segmentsOf p c)
+    new = newStarts (segmentsOf p c)
 
     code : List ℕ
-    code = runs 0 0 (p .code) (p .events) c
+    code = runs (p .arch) 0 0 (p .code) (p .events) c
 
     filled : List ℕ
     filled = fillRefs at (p .labels) (p .refs) code
@@ -211,5 +210,5 @@ built-past p c wf small out zr zk refs pool room =
     fills : length filled ≡ length code
     fills = length-fillRefs at (p .labels) (p .refs) code
 
-    all-fills : length (fillJumps at (p .labels) (p .events) c new filled) ≡ length code
-    all-fills = length-fillJumps at (p .labels) (p .events) c new filled ∙ fills
+    all-fills : length (fillJumps named (p .events) c new filled) ≡ length code
+    all-fills = length-fillJumps named (p .events) c new filled ∙ fills

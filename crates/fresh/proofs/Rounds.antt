@@ -8,64 +8,69 @@ use lib.Dec.{ltb}
 use lib.ListN.{length, getD}
 use borrow.Author.Tests.{ltb-true, ltb-false, not-false}
 use Rattle.relax.specs.declared.LayoutEvent.{LayoutEvent}
-use Rattle.relax.specs.declared.LayoutEvent.the-variants.{Jump, Align}
-use Rattle.relax.specs.declared.RelaxableJump.{RelaxableJump}
+use Rattle.relax.specs.Events.{noEvent}
 use Rattle.fresh.specs.Pooled.{Pooled}
-use Rattle.fresh.specs.Fresh.{Choice, isLong, others, walk, ends, target}
-use Rattle.fresh.specs.Rounds.{allShort, jumps, reaches, isFar, firstEnd, otherEnds, farOf, far, any, join, longer, Rounds, last, again, settle, settled}
+use Rattle.fresh.specs.Forms.{Role, pads, branches, roleOf}
+use Rattle.fresh.specs.Fresh.{Choice, isLong, others, walk, starts, target}
+use Rattle.fresh.specs.Rounds.{allShort, counted, jumps, reaches, isFar, firstStart, otherStarts, farOf, far, any, join, longer, Rounds, last, again, settle, settled}
 use Rattle.fresh.specs.Demand.{Fits}
-use Rattle.fresh.proofs.Tests.{split, no-confusion}
-use Rattle.fresh.proofs.Choices.{farOf-getD, farOf-out, any-getD, any-none, reach, isFar-near}
+use Rattle.fresh.proofs.Tests.{split, no-confusion, by-role}
+use Rattle.fresh.proofs.Choices.{farOf-getD, farOf-out, any-getD, any-none, reach, pads-near, branch-far, reach-near, long-near}
 
-abbrev short : Bool → ℕ
-short true = 0
-short false = 1
+-- a branch that is short counts
+abbrev short : Role → Bool → ℕ
+short pads long = 0
+short (branches b) true = 0
+short (branches b) false = 1
 
 -- how many jumps are short
 pub shorts : List LayoutEvent → Choice → ℕ
 shorts [] c = 0
-shorts (Jump j ∷ es) c = short (isLong c) + shorts es (others c)
-shorts (Align start len align ∷ es) c = shorts es (others c)
+shorts (e ∷ es) c = short (roleOf e) (isLong c) + shorts es (others c)
 
-short-le : (a f : Bool) → short (a || f) ≤ short a
-short-le true f = omega arith
-short-le false true = omega arith
-short-le false false = omega arith
+short-le : (r : Role) (long far : Bool) → short r (long || far) ≤ short r long
+short-le pads long far = omega arith
+short-le (branches b) true far = omega arith
+short-le (branches b) false true = omega arith
+short-le (branches b) false false = omega arith
 
-shorts-le : (at : ℕ → ℕ) (es : List LayoutEvent) (c : Choice) (ends : List ℕ) → shorts es (join c (farOf at es c ends)) ≤ shorts es c
+shorts-le : (at : ℕ → ℕ) (es : List LayoutEvent) (c : Choice) (starts : List ℕ) → shorts es (join c (farOf at es c starts)) ≤ shorts es c
 unfolding shorts join farOf
-shorts-le at [] c ends = omega arith
-shorts-le at (Jump j ∷ es) c ends =
-    omega (arith, short-le (isLong c) (isFar at (Jump j) (isLong c) (firstEnd ends)), shorts-le at es (others c) (otherEnds ends))
-shorts-le at (Align start len align ∷ es) c ends = shorts-le at es (others c) (otherEnds ends)
+shorts-le at [] c starts = omega arith
+shorts-le at (e ∷ es) c starts =
+    omega (arith, short-le (roleOf e) (isLong c) (isFar at e (isLong c) (firstStart starts)), shorts-le at es (others c) (otherStarts starts))
 
--- a jump that a round lengthens was short
-far-short : (at : ℕ → ℕ) (j : RelaxableJump) (long : Bool) (end : ℕ) → isFar at (Jump j) long end ≡ true
-    → short (long || isFar at (Jump j) long end) < short long
-unfolding isFar
-far-short at j true end h = no-confusion h
-far-short at j false end h = rw h (omega arith)
+-- what a round lengthens was a short jump
+far-short : (at : ℕ → ℕ) (e : LayoutEvent) (long : Bool) (start : ℕ) → isFar at e long start ≡ true
+    → short (roleOf e) (long || isFar at e long start) < short (roleOf e) long
+far-short at e true start h = no-confusion (sym (long-near at e start) ∙ h)
+far-short at e false start h = by-role e
+    (λ r. no-confusion (sym (pads-near at e false start r) ∙ h))
+    (λ b r. rw (h, r) (omega arith))
 
 -- A round that lengthens a jump leaves fewer short ones.
-pub shorts-lt : (at : ℕ → ℕ) (es : List LayoutEvent) (c : Choice) (ends : List ℕ) → any (farOf at es c ends) ≡ true
-    → shorts es (join c (farOf at es c ends)) < shorts es c
-unfolding shorts join farOf any isFar
-shorts-lt at [] c ends h = no-confusion h
-shorts-lt at (Jump j ∷ es) c ends h = go (isFar at (Jump j) (isLong c) (firstEnd ends)) refl h (shorts-lt at es (others c) (otherEnds ends))
-  where
-    go : (f : Bool) → isFar at (Jump j) (isLong c) (firstEnd ends) ≡ f → (f || any (farOf at es (others c) (otherEnds ends))) ≡ true
-        → (any (farOf at es (others c) (otherEnds ends)) ≡ true → shorts es (join (others c) (farOf at es (others c) (otherEnds ends))) < shorts es (others c))
-        → short (isLong c || isFar at (Jump j) (isLong c) (firstEnd ends)) + shorts es (join (others c) (farOf at es (others c) (otherEnds ends)))
-        < short (isLong c) + shorts es (others c)
-    go true e a ih = omega (arith, far-short at j (isLong c) (firstEnd ends) e, shorts-le at es (others c) (otherEnds ends))
-    go false e a ih = omega (arith, short-le (isLong c) (isFar at (Jump j) (isLong c) (firstEnd ends)), ih a)
-shorts-lt at (Align start len align ∷ es) c ends h = shorts-lt at es (others c) (otherEnds ends) h
+pub shorts-lt : (at : ℕ → ℕ) (es : List LayoutEvent) (c : Choice) (starts : List ℕ) → any (farOf at es c starts) ≡ true
+    → shorts es (join c (farOf at es c starts)) < shorts es c
+unfolding shorts join farOf any
+shorts-lt at [] c starts h = no-confusion h
+shorts-lt at (e ∷ es) c starts h = split (isFar at e (isLong c) (firstStart starts))
+    (λ f. omega (arith, far-short at e (isLong c) (firstStart starts) f, shorts-le at es (others c) (otherStarts starts)))
+    (λ f. omega (
+      arith,
+      short-le (roleOf e) (isLong c) (isFar at e (isLong c) (firstStart starts)),
+      shorts-lt at es (others c) (otherStarts starts) (sym (ap (λ t. t || any (farOf at es (others c) (otherStarts starts))) f) ∙ h),
+    ))
 
-pub shorts-all : (es : List LayoutEvent) → shorts es (allShort es) ≡ jumps es
-unfolding shorts
-shorts-all [] = refl
-shorts-all (Jump j ∷ es) = ap (λ x. 1 + x) (shorts-all es)
-shorts-all (Align start len align ∷ es) = shorts-all es
+short-most : (r : Role) (long : Bool) → short r long ≤ counted r
+short-most pads long = omega arith
+short-most (branches b) true = omega arith
+short-most (branches b) false = omega arith
+
+-- There are no more short jumps than jumps.
+pub shorts-most : (es : List LayoutEvent) (c : Choice) → shorts es c ≤ jumps es
+unfolding shorts jumps
+shorts-most [] c = omega arith
+shorts-most (e ∷ es) c = omega (arith, short-most (roleOf e) (isLong c), shorts-most es (others c))
 
 -- With as many rounds left as there are short jumps the computed rounds are the rounds.
 pub settles : (k : ℕ) (p : Pooled) (c : Choice) → shorts (p .events) c ≤ k → Rounds p c ((settle k p c) .choice) ((settle k p c) .rounds)
@@ -73,14 +78,14 @@ unfolding settle
 settles zero p c h = go (any (far p c)) refl
   where
     go : (b : Bool) → any (far p c) ≡ b → Rounds p c c 1
-    go true e = absurd (omega (arith, shorts-lt (target p c) (p .events) c (ends 0 (walk p) c) e))
+    go true e = absurd (omega (arith, shorts-lt (target p c) (p .events) c (starts 0 (walk p) c) e))
     go false e = last e
 settles (suc k) p c h = go (any (far p c)) refl (settles k p (longer p c))
   where
     go : (b : Bool) → any (far p c) ≡ b
         → (shorts (p .events) (longer p c) ≤ k → Rounds p (longer p c) ((settle k p (longer p c)) .choice) ((settle k p (longer p c)) .rounds))
         → Rounds p c ((settle (suc k) p c) .choice) ((settle (suc k) p c) .rounds)
-    go true e ih = rw (e, settle) (again e (ih (omega (arith, shorts-lt (target p c) (p .events) c (ends 0 (walk p) c) e))))
+    go true e ih = rw (e, settle) (again e (ih (omega (arith, shorts-lt (target p c) (p .events) c (starts 0 (walk p) c) e))))
     go false e ih = rw (e, settle) (last e)
 
 settle-bound : (k : ℕ) (p : Pooled) (c : Choice) → (settle k p c) .rounds ≤ suc k
@@ -94,7 +99,7 @@ settle-bound (suc k) p c = go (any (far p c)) refl (settle-bound k p (longer p c
 
 -- The rounds settle: what is computed is what document 01 says.
 pub rounds-settle : (p : Pooled) → Rounds p (allShort (p .events)) ((settled p) .choice) ((settled p) .rounds)
-rounds-settle p = settles (jumps (p .events)) p (allShort (p .events)) (omega (arith, shorts-all (p .events)))
+rounds-settle p = settles (jumps (p .events)) p (allShort (p .events)) (omega (arith, shorts-most (p .events) (allShort (p .events))))
 
 -- They are at most one more than the jumps.
 pub rounds-bound : (p : Pooled) → (settled p) .rounds ≤ jumps (p .events) + 1
@@ -113,22 +118,24 @@ rounds-last (again e h) = rounds-last h
 
 -- A round lengthens none just where every short jump reaches.
 pub none-fits : (p : Pooled) (c : Choice) → any (far p c) ≡ false → Fits p c
-unfolding isFar Fits
-none-fits p c h i j hi ev short =
-    reach _ _ (not-false _ (sym q ∙ any-getD (far p c) i h))
+unfolding Fits
+none-fits p c h i b hi r short = reach b _ _ (not-false _ (sym is-far ∙ any-getD (far p c) i h))
   where
-    q : getD (far p c) i false ≡ not (reaches (getD (ends 0 (walk p) c) i 0) (target p c (j .label)))
-    q = farOf-getD (target p c) (p .events) c (ends 0 (walk p) c) i (Align 0 0 0) hi ∙ rw (ev, short) refl
+    is-far : getD (far p c) i false ≡ not (reaches b (getD (starts 0 (walk p) c) i 0) (target p c (b .label)))
+    is-far =
+        farOf-getD (target p c) (p .events) c (starts 0 (walk p) c) i noEvent hi
+        ∙ (branch-far (target p c) (getD (p .events) i noEvent) b (getD c i false) (getD (starts 0 (walk p) c) i 0) r ∙ rw short refl)
 
 pub fits-none : (p : Pooled) (c : Choice) → Fits p c → any (far p c) ≡ false
-unfolding isFar Fits
+unfolding Fits
 fits-none p c h = any-none (far p c) λ i. split (ltb i (length (p .events)))
-    (λ e. farOf-getD (target p c) (p .events) c (ends 0 (walk p) c) i (Align 0 0 0) (ltb-true i (length (p .events)) e)
-    ∙ go i (ltb-true i (length (p .events)) e) (getD (p .events) i (Align 0 0 0)) refl (getD c i false) refl)
-    (λ e. farOf-out (target p c) (p .events) c (ends 0 (walk p) c) i (ltb-false i (length (p .events)) e))
+    (λ e. farOf-getD (target p c) (p .events) c (starts 0 (walk p) c) i noEvent (ltb-true i (length (p .events)) e)
+    ∙ near i (ltb-true i (length (p .events)) e))
+    (λ e. farOf-out (target p c) (p .events) c (starts 0 (walk p) c) i (ltb-false i (length (p .events)) e))
   where
-    go : (i : ℕ) → i < length (p .events) → (v : LayoutEvent) → getD (p .events) i (Align 0 0 0) ≡ v → (b : Bool) → getD c i false ≡ b
-        → isFar (target p c) v b (getD (ends 0 (walk p) c) i 0) ≡ false
-    go i hi (Jump j) ev true short = refl
-    go i hi (Jump j) ev false short = isFar-near (target p c) j false _ (h i j hi ev short)
-    go i hi (Align start len align) ev b short = refl
+    near : (i : ℕ) → i < length (p .events) → isFar (target p c) (getD (p .events) i noEvent) (getD c i false) (getD (starts 0 (walk p) c) i 0) ≡ false
+    near i hi = split (getD c i false)
+        (λ long. rw long (long-near (target p c) (getD (p .events) i noEvent) (getD (starts 0 (walk p) c) i 0)))
+        (λ short. by-role (getD (p .events) i noEvent)
+        (λ r. pads-near (target p c) (getD (p .events) i noEvent) _ _ r)
+        (λ b r. reach-near (target p c) (getD (p .events) i noEvent) b _ _ r (h i b hi r short)))

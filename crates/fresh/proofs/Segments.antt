@@ -8,38 +8,39 @@ use lib.ListN.{length, getD, take, drop, length-append, length-drop}
 use borrow.Author.Tests.{le-leb, lt-leb, lt-ltb, le-ltb, eqb-false, ltb-true, ltb-false}
 use Rattle.relax.specs.declared.LayoutEvent.{LayoutEvent}
 use Rattle.relax.specs.declared.Segment.{Segment}
-use Rattle.relax.specs.Events.{endOf}
+use Rattle.relax.specs.Events.{endOf, startOf, extentOf}
 use Rattle.buffer.specs.State.{none}
 use Rattle.fresh.specs.Pooled.{Pooled}
 use Rattle.fresh.specs.Forms.{form, width}
-use Rattle.fresh.specs.Fresh.{Choice, isLong, others, startOf, extentOf, Item, plain, event, items, writes, ends, stands, walk, placed, moved, target}
+use Rattle.fresh.specs.Fresh.{Choice, isLong, others, Item, plain, event, items, writes, starts, stands, walk, placed, moved, target}
 use Rattle.fresh.specs.Rounds.{farOf, far}
 use Rattle.fresh.specs.Segments.{segment, segments, image, chosen, decided, mapOffset, segmentsOf}
-use Rattle.fresh.proofs.Shape.{Ordered, Clear, Lies, WellFormed, newEnds, runs}
+use Rattle.fresh.proofs.Shape.{Ordered, Clear, Lies, WellFormed, newStarts, runs}
 use Rattle.fresh.proofs.Tests.{split}
-use Rattle.fresh.proofs.Events.{end-is, at-start, ordered-le, ordered-clear, run-length, drop-on}
+use Rattle.fresh.proofs.Events.{at-start, ordered-le, ordered-clear, run-length, drop-on}
 use Rattle.fresh.proofs.Items.{spanned, spanned-items}
+use Rattle.fresh.proofs.Forms.{length-form}
 
 -- over a run of plain bytes
-writes-run : (bs : List ℕ) (is : List Item) (n : ℕ) (c : Choice) → writes n (map plain bs ++ is) c ≡ bs ++ writes (n + length bs) is c
+pub writes-run : (arch : ℕ) (bs : List ℕ) (is : List Item) (n : ℕ) (c : Choice) → writes arch n (map plain bs ++ is) c ≡ bs ++ writes arch (n + length bs) is c
 unfolding writes
-writes-run [] is n c = ap (λ x. writes x is c) (omega arith)
-writes-run (b ∷ bs) is n c = ap (λ l. b ∷ l) (writes-run bs is (suc n) c ∙ ap (λ x. bs ++ writes x is c) (omega arith))
+writes-run arch [] is n c = ap (λ x. writes arch x is c) (omega arith)
+writes-run arch (b ∷ bs) is n c = ap (λ l. b ∷ l) (writes-run arch bs is (suc n) c ∙ ap (λ x. bs ++ writes arch x is c) (omega arith))
 
-writes-plains : (bs : List ℕ) (n : ℕ) (c : Choice) → writes n (map plain bs) c ≡ bs
+writes-plains : (arch : ℕ) (bs : List ℕ) (n : ℕ) (c : Choice) → writes arch n (map plain bs) c ≡ bs
 unfolding writes
-writes-plains [] n c = refl
-writes-plains (b ∷ bs) n c = ap (λ l. b ∷ l) (writes-plains bs (suc n) c)
+writes-plains arch [] n c = refl
+writes-plains arch (b ∷ bs) n c = ap (λ l. b ∷ l) (writes-plains arch bs (suc n) c)
 
-ends-run : (bs : List ℕ) (is : List Item) (n : ℕ) (c : Choice) → ends n (map plain bs ++ is) c ≡ ends (n + length bs) is c
-unfolding ends
-ends-run [] is n c = ap (λ x. ends x is c) (omega arith)
-ends-run (b ∷ bs) is n c = ends-run bs is (suc n) c ∙ ap (λ x. ends x is c) (omega arith)
+pub starts-run : (bs : List ℕ) (is : List Item) (n : ℕ) (c : Choice) → starts n (map plain bs ++ is) c ≡ starts (n + length bs) is c
+unfolding starts
+starts-run [] is n c = ap (λ x. starts x is c) (omega arith)
+starts-run (b ∷ bs) is n c = starts-run bs is (suc n) c ∙ ap (λ x. starts x is c) (omega arith)
 
-ends-plains : (bs : List ℕ) (n : ℕ) (c : Choice) → ends n (map plain bs) c ≡ []
-unfolding ends
-ends-plains [] n c = refl
-ends-plains (b ∷ bs) n c = ends-plains bs (suc n) c
+starts-plains : (bs : List ℕ) (n : ℕ) (c : Choice) → starts n (map plain bs) c ≡ []
+unfolding starts
+starts-plains [] n c = refl
+starts-plains (b ∷ bs) n c = starts-plains bs (suc n) c
 
 stands-in : (bs : List ℕ) (is : List Item) (t o n : ℕ) (c : Choice) → o ≤ t → t < o + length bs → stands t o n (map plain bs ++ is) c ≡ n + (t - o)
 unfolding stands
@@ -69,39 +70,40 @@ stands-plains (b ∷ bs) t o n c h k = split (ltb t (suc o))
     (λ e. rw (e, stands) (stands-plains bs t (suc o) (suc n) c (ltb-false t (suc o) e) (omega arith) ∙ omega (arith, ltb-false t (suc o) e)))
 
 -- at an event
-stands-stop : (e : LayoutEvent) (is : List Item) (t o n : ℕ) (c : Choice) → t < o + extentOf e → stands t o n (event e ∷ is) c ≡ n
+stands-stop : (e : LayoutEvent) (bytes : List ℕ) (is : List Item) (t o n : ℕ) (c : Choice) → t < o + extentOf e → stands t o n (event e bytes ∷ is) c ≡ n
 unfolding stands
-stands-stop e is t o n c h = rw (lt-ltb t (o + extentOf e) h, stands)
+stands-stop e bytes is t o n c h = rw (lt-ltb t (o + extentOf e) h, stands)
 
-stands-go : (e : LayoutEvent) (is : List Item) (t o n : ℕ) (c : Choice) → o + extentOf e ≤ t
-    → stands t o n (event e ∷ is) c ≡ stands t (o + extentOf e) (n + width e (isLong c) n) is (others c)
+stands-go : (e : LayoutEvent) (bytes : List ℕ) (is : List Item) (t o n : ℕ) (c : Choice) → o + extentOf e ≤ t
+    → stands t o n (event e bytes ∷ is) c ≡ stands t (o + extentOf e) (n + width e (isLong c) n) is (others c)
 unfolding stands
-stands-go e is t o n c h = rw (le-ltb t (o + extentOf e) h, stands)
+stands-go e bytes is t o n c h = rw (le-ltb t (o + extentOf e) h, stands)
 
 -- the code
-writes-runs : (es : List LayoutEvent) (o n : ℕ) (code : List ℕ) (c : Choice) → Ordered o (length code) es
-    → writes n (items o (drop o code) es) c ≡ runs o n code es c
+writes-runs : (arch : ℕ) (es : List LayoutEvent) (o n : ℕ) (code : List ℕ) (c : Choice) → Ordered o (length code) es
+    → writes arch n (items o (drop o code) es) c ≡ runs arch o n code es c
 unfolding Ordered items runs writes
-writes-runs [] o n code c h = writes-plains (drop o code) n c
-writes-runs (e ∷ es) o n code c h =
-    writes-run (take (startOf e - o) (drop o code)) _ n c
+writes-runs arch [] o n code c h = writes-plains arch (drop o code) n c
+writes-runs arch (e ∷ es) o n code c h =
+    writes-run arch (take (startOf e - o) (drop o code)) _ n c
     ∙ rw (
-      run-length o (startOf e) code (h .0) (omega (arith, end-is e, ordered-le (endOf e) (length code) es (h .1))),
-      drop-on o (endOf e) code (omega (arith, end-is e, h .0)),
-      writes-runs es (endOf e) (n + (startOf e - o) + width e (isLong c) (n + (startOf e - o))) code (others c) (h .1),
+      run-length o (startOf e) code (h .0) (omega (arith, ordered-le (endOf e) (length code) es (h .1))),
+      drop-on o (startOf e) code (h .0),
+      drop-on o (endOf e) code (omega (arith, h .0)),
+      writes-runs arch es (endOf e) (n + (startOf e - o) + width e (isLong c) (n + (startOf e - o))) code (others c) (h .1),
     ) refl
 
--- the events' new ends
-ends-segments : (es : List LayoutEvent) (o n : ℕ) (code : List ℕ) (c : Choice) → Ordered o (length code) es
-    → ends n (items o (drop o code) es) c ≡ newEnds (segments o n es c)
-unfolding Ordered items segments ends
-ends-segments [] o n code c h = ends-plains (drop o code) n c
-ends-segments (e ∷ es) o n code c h =
-    ends-run (take (startOf e - o) (drop o code)) _ n c
+-- the events' new starts
+starts-segments : (es : List LayoutEvent) (o n : ℕ) (code : List ℕ) (c : Choice) → Ordered o (length code) es
+    → starts n (items o (drop o code) es) c ≡ newStarts (segments o n es c)
+unfolding Ordered items segments starts
+starts-segments [] o n code c h = starts-plains (drop o code) n c
+starts-segments (e ∷ es) o n code c h =
+    starts-run (take (startOf e - o) (drop o code)) _ n c
     ∙ rw (
-      run-length o (startOf e) code (h .0) (omega (arith, end-is e, ordered-le (endOf e) (length code) es (h .1))),
-      drop-on o (endOf e) code (omega (arith, end-is e, h .0)),
-      ends-segments es (endOf e) (n + (startOf e - o) + width e (isLong c) (n + (startOf e - o))) code (others c) (h .1),
+      run-length o (startOf e) code (h .0) (omega (arith, ordered-le (endOf e) (length code) es (h .1))),
+      drop-on o (endOf e) code (omega (arith, h .0)),
+      starts-segments es (endOf e) (n + (startOf e - o) + width e (isLong c) (n + (startOf e - o))) code (others c) (h .1),
     ) refl
 
 -- what one segment decides
@@ -124,7 +126,7 @@ decided-none [] o n len t d c h k = refl
 decided-none (e ∷ es) o n len t d c h k =
     ap (λ x. decided (segments (endOf e) ((segment o n e (isLong c)) .«new_end») es (others c)) t x)
     (chosen-no (segment o n e (isLong c)) t d (omega (arith, h .0)))
-    ∙ decided-none es (endOf e) ((segment o n e (isLong c)) .«new_end») len t d (others c) (h .1) (omega (arith, end-is e, h .0))
+    ∙ decided-none es (endOf e) ((segment o n e (isLong c)) .«new_end») len t d (others c) (h .1) (omega (arith, h .0))
 
 -- offsets
 stands-decided : (es : List LayoutEvent) (o n : ℕ) (code : List ℕ) (c : Choice) (t : ℕ) → Ordered o (length code) es → Clear t es → o ≤ t → t ≤ length code
@@ -134,19 +136,18 @@ stands-decided [] o n code c t h cl ot tn = stands-plains (drop o code) t o n c 
 stands-decided (e ∷ es) o n code c t h cl ot tn = split (ltb t (startOf e))
     (λ q. let a : t < startOf e = ltb-true t (startOf e) q in
     stands-in run _ t o n c ot (rw len (omega (arith, h .0)))
-    ∙ (omega arith ∙ sym (rest (t - o + n) (chosen-no (segment o n e (isLong c)) t (t - o + n) a) (omega (arith, end-is e)))))
+    ∙ (omega arith ∙ sym (rest (t - o + n) (chosen-no (segment o n e (isLong c)) t (t - o + n) a) (omega (arith)))))
     (λ q. let a : startOf e ≤ t = ltb-false t (startOf e) q in
     stands-past run _ t o n c (rw len (omega (arith, h .0)))
-    ∙ rw (len, there, drop-on o (endOf e) code (omega (arith, end-is e, h .0)))
+    ∙ rw (len, there, drop-on o (endOf e) code (omega (arith, h .0)))
     (split (ltb t (endOf e))
     (λ w. let b : t < endOf e = ltb-true t (endOf e) w in
-    stands-stop e _ t (startOf e) (n + (startOf e - o)) c (omega (arith, end-is e))
+    stands-stop e _ _ t (startOf e) (n + (startOf e - o)) c (omega (arith))
     ∙ (omega (arith, at-start (startOf e) (endOf e) t a b (cl .0))
     ∙ sym (rest (t - startOf e + (n + (startOf e - o))) (chosen-in (segment o n e (isLong c)) t (t - o + n) a b) b)))
     (λ w. let b : endOf e ≤ t = ltb-false t (endOf e) w in
-    stands-go e _ t (startOf e) (n + (startOf e - o)) c (omega (arith, end-is e))
-    ∙ rw (← end-is e)
-    (stands-decided es (endOf e) new code (others c) t (h .1) (cl .1) b tn
+    stands-go e _ _ t (startOf e) (n + (startOf e - o)) c (omega (arith))
+    ∙ (stands-decided es (endOf e) new code (others c) t (h .1) (cl .1) b tn
     ∙ sym (ap (λ x. decided (segments (endOf e) new es (others c)) t x) (chosen-past (segment o n e (isLong c)) t (t - o + n) a b))))))
   where
     run : List ℕ
@@ -156,7 +157,7 @@ stands-decided (e ∷ es) o n code c t h cl ot tn = split (ltb t (startOf e))
     new = (segment o n e (isLong c)) .«new_end»
 
     len : length run ≡ startOf e - o
-    len = run-length o (startOf e) code (h .0) (omega (arith, end-is e, ordered-le (endOf e) (length code) es (h .1)))
+    len = run-length o (startOf e) code (h .0) (omega (arith, ordered-le (endOf e) (length code) es (h .1)))
 
     there : o + (startOf e - o) ≡ startOf e
     there = omega (arith, h .0)
@@ -167,24 +168,24 @@ stands-decided (e ∷ es) o n code c t h cl ot tn = split (ltb t (startOf e))
         ap (λ y. decided (segments (endOf e) new es (others c)) t y) p ∙ decided-none es (endOf e) new (length code) t x (others c) (h .1) b
 
 -- the walk to the end: the finished length is the new offset of the code's end
-stands-all : (is : List Item) (t o n : ℕ) (c : Choice) → o + spanned is ≤ t → stands t o n is c ≡ n + length (writes n is c)
-unfolding spanned stands writes width
-stands-all [] t o n c h = omega arith
-stands-all (plain b ∷ is) t o n c h =
-    rw (le-ltb t (suc o) (omega arith), stands) (stands-all is t (suc o) (suc n) c (omega arith) ∙ omega arith)
-stands-all (event e ∷ is) t o n c h =
-    stands-go e is t o n c (omega arith)
-    ∙ (stands-all is t (o + extentOf e) (n + width e (isLong c) n) (others c) (omega arith)
-    ∙ omega (arith, length-append (form e (isLong c) n) (writes (n + width e (isLong c) n) is (others c))))
+stands-all : (arch : ℕ) (is : List Item) (t o n : ℕ) (c : Choice) → o + spanned is ≤ t → stands t o n is c ≡ n + length (writes arch n is c)
+unfolding spanned stands writes
+stands-all arch [] t o n c h = omega arith
+stands-all arch (plain b ∷ is) t o n c h =
+    rw (le-ltb t (suc o) (omega arith), stands) (stands-all arch is t (suc o) (suc n) c (omega arith) ∙ omega arith)
+stands-all arch (event e bytes ∷ is) t o n c h =
+    stands-go e bytes is t o n c (omega arith)
+    ∙ (stands-all arch is t (o + extentOf e) (n + width e (isLong c) n) (others c) (omega arith)
+    ∙ omega (arith, length-form arch e bytes (isLong c) n, length-append (form arch e bytes (isLong c) n) (writes arch (n + width e (isLong c) n) is (others c))))
 
 module _ (p : Pooled) (c : Choice) (wf : WellFormed p) where
   -- Every byte.
-  pub placed-runs : placed p c ≡ runs 0 0 (p .code) (p .events) c
-  placed-runs = writes-runs (p .events) 0 0 (p .code) c (wf .ordered)
+  pub placed-runs : placed p c ≡ runs (p .arch) 0 0 (p .code) (p .events) c
+  placed-runs = writes-runs (p .arch) (p .events) 0 0 (p .code) c (wf .ordered)
 
-  -- Each event's new end.
-  pub ends-are : ends 0 (walk p) c ≡ newEnds (segmentsOf p c)
-  ends-are = ends-segments (p .events) 0 0 (p .code) c (wf .ordered)
+  -- Each event's new start.
+  pub starts-are : starts 0 (walk p) c ≡ newStarts (segmentsOf p c)
+  starts-are = starts-segments (p .events) 0 0 (p .code) c (wf .ordered)
 
   -- Every offset in the code that lies strictly inside no event.
   pub moved-map : (t : ℕ) → Lies p t → moved p c t ≡ mapOffset (segmentsOf p c) t
@@ -205,17 +206,17 @@ module _ (p : Pooled) (c : Choice) (wf : WellFormed p) where
       (λ e. moved-map (getD (p .labels) l none) (wf .landed l (eqb-false (getD (p .labels) l none) none e)))
 
   -- The jumps that a round lengthens.
-  pub far-segments : far p c ≡ farOf (λ l. mapOffset (segmentsOf p c) (getD (p .labels) l none)) (p .events) c (newEnds (segmentsOf p c))
+  pub far-segments : far p c ≡ farOf (λ l. mapOffset (segmentsOf p c) (getD (p .labels) l none)) (p .events) c (newStarts (segmentsOf p c))
   far-segments =
-      ap (λ f. farOf f (p .events) c (ends 0 (walk p) c)) (fun-ext target-map)
-      ∙ ap (λ es. farOf (λ l. mapOffset (segmentsOf p c) (getD (p .labels) l none)) (p .events) c es) ends-are
+      ap (λ f. farOf f (p .events) c (starts 0 (walk p) c)) (fun-ext target-map)
+      ∙ ap (λ es. farOf (λ l. mapOffset (segmentsOf p c) (getD (p .labels) l none)) (p .events) c es) starts-are
 
   -- The finished length is where the code's end goes.
   pub length-placed : length (placed p c) ≡ decided (segmentsOf p c) (length (p .code)) (length (p .code))
   length-placed =
       omega (
         arith,
-        stands-all (walk p) (length (p .code)) 0 0 c (omega (arith, spanned-items (p .events) 0 (p .code) (wf .ordered))),
+        stands-all (p .arch) (walk p) (length (p .code)) 0 0 c (omega (arith, spanned-items (p .events) 0 (p .code) (wf .ordered))),
         stands-decided (p .events) 0 0 (p .code) c (length (p .code)) (wf .ordered) (ordered-clear (p .events) 0 (length (p .code)) (wf .ordered)) (omega arith) (omega arith),
         ap (λ x. decided (segmentsOf p c) (length (p .code)) x) (same (length (p .code))),
       )

@@ -1,44 +1,41 @@
 -- Demand 3, as one claim about what a finish hands out.
 use mathlib.Core.Path.{_≡_}
-use mathlib.Core.Logic.{_≢_}
 use mathlib.Core.Bool.{true, false}
 use mathlib.Core.List.{List, [], _∷_, map}
 use Prim.Native.Nat.{ℕ, _+_, _≤_, _<_}
 use lib.ListN.{length, getD}
+use Rattle.fields.specs.Kinds.{info}
 use Rattle.relax.specs.declared.LayoutEvent.{LayoutEvent}
-use Rattle.relax.specs.declared.LayoutEvent.the-variants.{Jump, Align}
-use Rattle.relax.specs.declared.RelaxableJump.{RelaxableJump}
-use Rattle.buffer.specs.State.{none}
+use Rattle.relax.specs.Events.{noEvent}
 use Rattle.fresh.specs.Pooled.{Pooled}
-use Rattle.fresh.specs.Fresh.{Choice, walk, ends, moved, target}
+use Rattle.fresh.specs.Forms.{Branch, Role, pads, branches, roleOf}
+use Rattle.fresh.specs.Fresh.{Choice, walk, starts, moved, target}
 use Rattle.fresh.specs.Rounds.{allShort, jumps, Rounds}
 use Rattle.fresh.specs.Fill.{assembled}
 
--- the label's offset minus the jump's end lies in -128..127
-pub record Reach (end label : ℕ) : Type 0 where
-  pub back : end ≤ label + 128
-  pub ahead : label ≤ end + 127
+-- a label lies where a short jump that starts at `start` reaches it (`reaches`)
+pub record Reach (b : Branch) (start label : ℕ) : Type 0 where
+  pub back : start + b .short .place + info (b .short .kind) .from ≤ label + info (b .short .kind) .low
+  pub ahead : label ≤ start + b .short .place + info (b .short .kind) .from + info (b .short .kind) .high
 
 -- every short jump reaches, where the choice places it
 unfoldable pub Fits : Pooled → Choice → Type 0
-Fits p c = (i : ℕ) (j : RelaxableJump) → i < length (p .events) → getD (p .events) i (Align 0 0 0) ≡ Jump j → getD c i false ≡ false
-    → Reach (getD (ends 0 (walk p) c) i 0) (target p c (j .label))
+Fits p c = (i : ℕ) (b : Branch) → i < length (p .events) → roleOf (getD (p .events) i noEvent) ≡ branches b → getD c i false ≡ false
+    → Reach b (getD (starts 0 (walk p) c) i 0) (target p c (b .label))
 
 -- what is long in c is long in d
 unfoldable pub Includes : Choice → Choice → Type 0
 Includes c d = (i : ℕ) → getD c i false ≡ true → getD d i false ≡ true
 
--- "neither alignment nor pooled constant": a pooled constant has an alignment among the events
+-- an event names a label
+abbrev pub Branches : Role → Type 0
+Branches pads = ⊥
+Branches (branches b) = Unit {0}
+
+-- "neither alignment nor pooled constant": every event names a label. A pooled constant has an alignment among the events.
 unfoldable pub NoAlign : List LayoutEvent → Type 0
 NoAlign [] = Unit {0}
-NoAlign (Jump j ∷ es) = NoAlign es
-NoAlign (Align start len align ∷ es) = ⊥
-
--- the labels that jumps name are bound
-unfoldable pub Bound : List ℕ → List LayoutEvent → Type 0
-Bound labels [] = Unit {0}
-Bound labels (Jump j ∷ es) = (getD labels (j .label) none ≢ none) × Bound labels es
-Bound labels (Align start len align ∷ es) = Bound labels es
+NoAlign (e ∷ es) = Branches (roleOf e) × NoAlign es
 
 -- A finish of p hands out `code`, the labels' offsets, and the number of layouts that it made.
 pub record Demand3 (p : Pooled) (code labels : List ℕ) (layouts : ℕ) : Type 0 where

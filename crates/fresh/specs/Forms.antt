@@ -1,15 +1,19 @@
--- What a fresh assembly writes for an event: document 01, the paragraph on relax.rs, "Short is 2 bytes .. Long is ..", and "for an alignment it writes
--- the padding that the new offset needs, for a jump its short or long form, displacement open".
-use mathlib.Core.Bool.{Bool, true, false}
+-- What a fresh assembly asks of an event, case by case; everything else asks through these. What it writes for one: document 01, the paragraph on
+-- relax.rs, "Short is 2 bytes .. Long is ..", and "for an alignment it writes the padding that the new offset needs, for a jump its short or long form,
+-- displacement open". Which label it names, and the field of its displacement.
+use mathlib.Core.Bool.{Bool, true, false, _||_}
 use mathlib.Core.List.{List, [], _∷_}
-use Prim.Native.Nat.{ℕ, _+_}
-use lib.ListN.{length}
-use Rattle.encoder.specs.Nops.{nops}
+use Prim.Native.Nat.{ℕ, _+_, _-_}
 use Rattle.encoder.specs.Padding.{paddingLength}
+use Rattle.fields.specs.declared.LabelUse.{LabelUse}
+use Rattle.fields.specs.declared.LabelUse.the-variants.{X86JmpRel32, X86BranchRel8}
 use Rattle.relax.specs.declared.Condition.{Condition}
 use Rattle.relax.specs.declared.Condition.the-variants.{Always, On}
 use Rattle.relax.specs.declared.LayoutEvent.{LayoutEvent}
 use Rattle.relax.specs.declared.LayoutEvent.the-variants.{Jump, Align}
+use Rattle.relax.specs.declared.RelaxableJump.{RelaxableJump}
+use Rattle.relax.specs.Events.{shortLen, longLen}
+use Rattle.buffer.specs.Calls.{padding}
 
 -- EB, or 70 + condition, and a displacement of 1 byte
 abbrev pub shortForm : Condition → List ℕ
@@ -21,12 +25,57 @@ abbrev pub longForm : Condition → List ℕ
 longForm Always = 0xE9 ∷ 0 ∷ 0 ∷ 0 ∷ 0 ∷ []
 longForm (On c) = 0x0F ∷ (0x80 + c) ∷ 0 ∷ 0 ∷ 0 ∷ 0 ∷ []
 
--- what is written for an event at the new offset n, long or not
-unfoldable pub form : LayoutEvent → Bool → ℕ → List ℕ
-form (Jump j) false n = shortForm (j .cc)
-form (Jump j) true n = longForm (j .cc)
-form (Align start len align) long n = nops (paddingLength n align)
-
--- how many bytes that is
+-- how many bytes an event takes at the new offset n, long or not
 unfoldable pub width : LayoutEvent → Bool → ℕ → ℕ
-width e long n = length (form e long n)
+width (Jump j) false n = shortLen
+width (Jump j) true n = longLen (j .cc)
+width (Align a) long n = paddingLength n (a .align)
+
+-- what is written for an event there, on an architecture; `bytes` are the event's recorded ones, which none of these forms keeps
+unfoldable pub form : ℕ → LayoutEvent → List ℕ → Bool → ℕ → List ℕ
+form arch (Jump j) bytes false n = shortForm (j .cc)
+form arch (Jump j) bytes true n = longForm (j .cc)
+form arch (Align a) bytes long n = padding arch (paddingLength n (a .align))
+
+-- a field of a kind, so many bytes after an event's start
+pub record Field : Type 0 where
+  pub kind : LabelUse
+  pub place : ℕ
+
+-- a branch: the number of the label that it names, and the field of its displacement in its short and in its long form
+pub record Branch : Type 0 where
+  pub label : ℕ
+  pub short : Field
+  pub long : Field
+
+abbrev pub fieldOf : Branch → Bool → Field
+fieldOf b false = b .short
+fieldOf b true = b .long
+
+-- an event pads, or it branches to a label
+pub data Role : Type 0 where
+  pads : Role
+  branches : Branch → Role
+
+-- a jump's displacement is its last byte, or its last four
+abbrev pub branchOf : RelaxableJump → Branch
+branchOf j =
+    record {
+      label = j .label;
+      short = record { kind = X86BranchRel8; place = shortLen - 1 };
+      long = record { kind = X86JmpRel32; place = longLen (j .cc) - 4 };
+    }
+
+unfoldable pub roleOf : LayoutEvent → Role
+roleOf (Jump j) = branches (branchOf j)
+roleOf (Align a) = pads
+
+-- an event that makes finish lay out anew: "relax if a jump stands"
+abbrev pub isMoving : LayoutEvent → Bool
+isMoving (Jump j) = true
+isMoving (Align a) = false
+
+-- one of the events does
+unfoldable pub moves : List LayoutEvent → Bool
+moves [] = false
+moves (e ∷ es) = isMoving e || moves es

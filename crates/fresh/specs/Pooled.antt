@@ -21,6 +21,7 @@ pub record Placed : Type 0 where
   pub bytes : List ℕ
 
 pub record Pooled : Type 0 where
+  pub arch : ℕ
   pub code : List ℕ
   pub events : List LayoutEvent
   pub labels : List ℕ
@@ -30,14 +31,15 @@ pub record Pooled : Type 0 where
 
 -- One constant more: the end of the code is aligned for it (an event, on X64), its label is bound there, and room is left for its bytes, which are
 -- written last.
-unfoldable pub pooledOne : ℕ → Pooled → Constant → Pooled
-pooledOne arch p k =
+unfoldable pub pooledOne : Pooled → Constant → Pooled
+pooledOne p k =
     let start = length (p .code) in
     let multiple = constantAlignment (length (k .bytes)) in
     let len = paddingLength start multiple in
     record {
-      code = p .code ++ (padding arch len ++ replicate (length (k .bytes)) 0);
-      events = p .events ++ cond (eqb arch 2) (Align start len multiple ∷ []) [];
+      arch = p .arch;
+      code = p .code ++ (padding (p .arch) len ++ replicate (length (k .bytes)) 0);
+      events = p .events ++ cond (eqb (p .arch) 2) (Align (record { start = start; len = len; align = multiple }) ∷ []) [];
       labels = set (p .labels) (k .label) (start + len);
       uses = p .uses;
       refs = p .refs;
@@ -50,8 +52,8 @@ askedConstant v j = getD (v .constants) (getD (v .asked) j 0) (record { bytes = 
 
 -- the first n of the constants asked for are pooled
 abbrev pub pooledTo : ℕ → View → ℕ → Pooled
-pooledTo arch v zero = record { code = v .code; events = v .events; labels = v .labels; uses = v .uses; refs = v .refs; pool = [] }
-pooledTo arch v (suc n) = pooledOne arch (pooledTo arch v n) (askedConstant v n)
+pooledTo arch v zero = record { arch = arch; code = v .code; events = v .events; labels = v .labels; uses = v .uses; refs = v .refs; pool = [] }
+pooledTo arch v (suc n) = pooledOne (pooledTo arch v n) (askedConstant v n)
 
 -- all of them; "a constant never asked for is not pooled"
 abbrev pub pooled : ℕ → View → Pooled

@@ -4,48 +4,53 @@ use mathlib.Core.Bool.{Bool, true, false, not, _&&_, _||_}
 use mathlib.Core.List.{List, [], _∷_}
 use Prim.Native.Nat.{ℕ, zero, suc, _+_}
 use lib.Dec.{leb}
+use Rattle.fields.specs.Kinds.{info}
 use Rattle.relax.specs.declared.LayoutEvent.{LayoutEvent}
-use Rattle.relax.specs.declared.LayoutEvent.the-variants.{Jump, Align}
 use Rattle.fresh.specs.Pooled.{Pooled}
-use Rattle.fresh.specs.Fresh.{Choice, isLong, others, walk, ends, target}
+use Rattle.fresh.specs.Forms.{Branch, Role, pads, branches, roleOf}
+use Rattle.fresh.specs.Fresh.{Choice, isLong, others, walk, starts, target}
 
 -- no jump is long
 abbrev pub allShort : List LayoutEvent → Choice
 allShort [] = []
 allShort (e ∷ es) = false ∷ allShort es
 
--- how many jumps there are
-abbrev pub jumps : List LayoutEvent → ℕ
+-- how many jumps there are: events that name a label
+abbrev pub counted : Role → ℕ
+counted pads = 0
+counted (branches b) = 1
+
+unfoldable pub jumps : List LayoutEvent → ℕ
 jumps [] = 0
-jumps (Jump j ∷ es) = 1 + jumps es
-jumps (Align start len align ∷ es) = jumps es
+jumps (e ∷ es) = counted (roleOf e) + jumps es
 
--- the label's offset minus the jump's end lies in -128..127
-unfoldable pub reaches : ℕ → ℕ → Bool
-reaches end label = leb end (label + 128) && leb label (end + 127)
+-- A short jump that starts at `start` reaches a label where its field does: of a jump, the label's offset minus the jump's end lies in -128..127.
+unfoldable pub reaches : Branch → ℕ → ℕ → Bool
+reaches b start label =
+    let field = info (b .short .kind) in
+    let from = start + b .short .place + field .from in
+    leb from (label + field .low) && leb label (from + field .high)
 
--- an event, long or not, that ends at `end` is a short jump that does not reach its label, whose offset `at` knows by its number
+-- an event, long or not, that starts at `start` is a short jump that does not reach its label, whose offset `at` knows by its number
 unfoldable pub isFar : (ℕ → ℕ) → LayoutEvent → Bool → ℕ → Bool
-isFar at (Jump j) true end = false
-isFar at (Jump j) false end = not (reaches end (at (j .label)))
-isFar at (Align start len align) long end = false
+isFar at e long start = elim (roleOf e) [ pads ↦ false | branches b ↦ not long && not (reaches b start (at (b .label))) ]
 
--- the first of the ends, and those after it
-abbrev pub firstEnd : List ℕ → ℕ
-firstEnd [] = 0
-firstEnd (x ∷ xs) = x
+-- the first of the starts, and those after it
+abbrev pub firstStart : List ℕ → ℕ
+firstStart [] = 0
+firstStart (x ∷ xs) = x
 
-abbrev pub otherEnds : List ℕ → List ℕ
-otherEnds [] = []
-otherEnds (x ∷ xs) = xs
+abbrev pub otherStarts : List ℕ → List ℕ
+otherStarts [] = []
+otherStarts (x ∷ xs) = xs
 
 unfoldable pub farOf : (ℕ → ℕ) → List LayoutEvent → Choice → List ℕ → Choice
-farOf at [] c ends = []
-farOf at (e ∷ es) c ends = isFar at e (isLong c) (firstEnd ends) ∷ farOf at es (others c) (otherEnds ends)
+farOf at [] c starts = []
+farOf at (e ∷ es) c starts = isFar at e (isLong c) (firstStart starts) ∷ farOf at es (others c) (otherStarts starts)
 
 -- which events a round lengthens: the short jumps that do not reach where the choice places them
 abbrev pub far : Pooled → Choice → Choice
-far p c = farOf (target p c) (p .events) c (ends 0 (walk p) c)
+far p c = farOf (target p c) (p .events) c (starts 0 (walk p) c)
 
 unfoldable pub any : Choice → Bool
 any [] = false

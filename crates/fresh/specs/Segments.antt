@@ -6,11 +6,11 @@ use Prim.Native.Nat.{ℕ, _+_, _-_}
 use lib.Dec.{ltb, leb, eqb}
 use Rattle.relax.specs.declared.LayoutEvent.{LayoutEvent}
 use Rattle.relax.specs.declared.Segment.{Segment}
-use Rattle.relax.specs.Events.{endOf}
+use Rattle.relax.specs.Events.{endOf, startOf}
 use Rattle.buffer.specs.State.{none}
 use Rattle.fresh.specs.Pooled.{Pooled}
 use Rattle.fresh.specs.Forms.{width}
-use Rattle.fresh.specs.Fresh.{Choice, isLong, others, startOf}
+use Rattle.fresh.specs.Fresh.{Choice, isLong, others}
 
 -- the segment of an event, where the event before ended at the recorded offset o and the new offset n
 abbrev pub segment : ℕ → ℕ → LayoutEvent → Bool → Segment

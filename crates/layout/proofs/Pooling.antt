@@ -11,15 +11,15 @@ use Rattle.seqs.proofs.Overwrites.{over-nil, over-snoc, over-append}
 use Rattle.encoder.specs.Padding.{paddingLength}
 use Rattle.encoder.proofs.Padding.{padding-below}
 use Rattle.relax.specs.declared.LayoutEvent.{LayoutEvent}
-use Rattle.relax.specs.declared.LayoutEvent.the-variants.{Jump, Align}
+use Rattle.relax.specs.declared.LayoutEvent.the-variants.{Align}
 use Rattle.relax.specs.declared.Segment.{Segment}
-use Rattle.relax.specs.Events.{eventAt, endOf}
+use Rattle.relax.specs.Events.{eventAt, endOf, startOf}
 use Rattle.recording.specs.View.{entries}
 use Rattle.fresh.specs.Pooled.{constantAlignment}
-use Rattle.fresh.specs.Fresh.{Choice, startOf}
+use Rattle.fresh.specs.Forms.{width}
+use Rattle.fresh.specs.Fresh.{Choice}
 use Rattle.fresh.specs.Segments.{segment, segments}
-use Rattle.fresh.proofs.Shape.{size, Ordered, Modest, Cursor, after}
-use Rattle.fresh.proofs.Forms.{width-size}
+use Rattle.fresh.proofs.Shape.{Ordered, Small, Modest, Cursor, after}
 use Rattle.fresh.proofs.Loops.{length-segments, segments-snoc}
 use Rattle.pool.specs.Pool.{sizeAt, poolStart, poolPadding, poolEvent, PoolFits}
 use Rattle.layout.specs.Layout.{endFrom, finishedLength, allEvents, Recorded}
@@ -42,10 +42,10 @@ pool-padding offset n multiple r h e =
 
 -- the segment of an alignment that starts at the recorded offset t, whose new offset is u
 align-segment : (old new t u len multiple : ℕ) (long : Bool) → u ≡ new + (t - old)
-    → segment old new (Align t len multiple) long
+    → segment old new (Align (record { start = t; len = len; align = multiple })) long
     ≡ record { «old_start» = t; «old_end» = t + len; «new_start» = u; «new_end» = u + paddingLength u multiple }
-unfolding size
-align-segment old new t u len multiple long h = rw (h, width-size) refl
+unfolding width
+align-segment old new t u len multiple long h = rw h refl
 
 -- The segments of the first j alignments stand over a table's from segment n on, and the loop stands at the recorded offset `old` and the new offset `new`.
 pub record PoolLaid (before ss : List Segment) (constants asked : List ℕ) (n from to j old new : ℕ) : Type 0 where
@@ -111,15 +111,13 @@ unfolding Ordered
 ordered-snoc [] o n k e h a b = (omega arith, b)
 ordered-snoc (x ∷ es) o n k e h a b = (h .0, ordered-snoc es (endOf x) n k e (h .1) a b)
 
-modest-snoc : (es : List LayoutEvent) (e : LayoutEvent) → Modest es → Modest (e ∷ []) → Modest (es ++ (e ∷ []))
+modest-snoc : (es : List LayoutEvent) (e : LayoutEvent) → Modest es → Small e → Modest (es ++ (e ∷ []))
 unfolding Modest
-modest-snoc [] e h k = k
-modest-snoc (Jump j ∷ es) e h k = (h .0, h .1, modest-snoc es e (h .2) k)
-modest-snoc (Align start len align ∷ es) e h k = (h .0, h .1, modest-snoc es e (h .2) k)
+modest-snoc [] e h k = (k, tt)
+modest-snoc (x ∷ es) e h k = (h .0, modest-snoc es e (h .1) k)
 
-modest-pool : (from : ℕ) (constants asked : List ℕ) (j : ℕ) → Modest (poolEvent from constants asked j ∷ [])
-unfolding Modest
-modest-pool from constants asked j = let r = alignment-range (sizeAt constants asked j) in (r .0, omega (arith, r), tt)
+small-pool : (from : ℕ) (constants asked : List ℕ) (j : ℕ) → Small (poolEvent from constants asked j)
+small-pool from constants asked j = let r = alignment-range (sizeAt constants asked j) in (r .0, omega (arith, r))
 
 module _ (events : List ℕ) (n code : ℕ) (constants asked : List ℕ) where
   -- one alignment more
@@ -140,7 +138,7 @@ module _ (events : List ℕ) (n code : ℕ) (constants asked : List ℕ) where
 
     pub all-modest : (j : ℕ) → Modest (allEvents events n code constants asked j)
     all-modest zero = rw all-none (rec .modest)
-    all-modest (suc j) = rw (all-suc j) (modest-snoc (allEvents events n code constants asked j) (poolEvent code constants asked j) (all-modest j) (modest-pool code constants asked j))
+    all-modest (suc j) = rw (all-suc j) (modest-snoc (allEvents events n code constants asked j) (poolEvent code constants asked j) (all-modest j) (small-pool code constants asked j))
 
   pub length-all : (j : ℕ) → length (allEvents events n code constants asked j) ≡ n + j
   length-all j =

@@ -1,7 +1,7 @@
 -- A round's scan, event by event.
 use mathlib.Core.Path.{_≡_, refl, sym, _∙_, ap}
 use mathlib.Core.Logic.{_≢_}
-use mathlib.Core.Bool.{Bool, true, false, _||_, or-true, or-false}
+use mathlib.Core.Bool.{Bool, true, false, not, cond, _||_, or-true, or-false}
 use mathlib.Core.List.{List}
 use Prim.Native.Nat.{ℕ, _+_, _≤_, _<_}
 use native.Mathlib.Omega.{arith}
@@ -12,16 +12,17 @@ use Rattle.seqs.specs.Over.{over}
 use Rattle.seqs.proofs.Overwrites.{over-nil, over-copy, getD-over-after}
 use Rattle.words.specs.Words.{wordAt}
 use Rattle.relax.specs.declared.LayoutEvent.{LayoutEvent}
-use Rattle.relax.specs.declared.LayoutEvent.the-variants.{Jump, Align}
 use Rattle.relax.specs.declared.Segment.{Segment}
-use Rattle.relax.specs.Events.{eventAt}
+use Rattle.relax.specs.Events.{eventAt, noEvent}
 use Rattle.buffer.specs.State.{none}
 use Rattle.recording.specs.View.{entries}
 use Rattle.fresh.specs.Fresh.{Choice}
-use Rattle.fresh.specs.Rounds.{isFar, any, join}
+use Rattle.fresh.specs.Rounds.{reaches, isFar, any, join}
 use Rattle.fresh.specs.Segments.{mapOffset}
-use Rattle.fresh.proofs.Shape.{newEnds}
-use Rattle.fresh.proofs.Choices.{farOf-getD, length-farOf, length-join, join-getD, any-suc}
+use Rattle.fresh.proofs.Shape.{newStarts}
+use Rattle.fresh.proofs.Tests.{by-role}
+use Rattle.fresh.proofs.Choices.{farOf-getD, length-farOf, length-join, join-getD, any-suc, pads-near, branch-far, long-near}
+use Rattle.fresh.specs.Forms.{Branch, branches, roleOf}
 use Rattle.layout.specs.Layout.{zeroSegment, Known, soughtBy, farIn}
 use Rattle.recording.proofs.Views.{length-entries, getD-entries}
 
@@ -57,41 +58,52 @@ module _ (f c : Choice) (i : ℕ) (long : Choice) (grew : Bool) (q : Scanned f c
     seen = sym (rw (add-one i) (any-suc f i h ∙ rw e (or-true (any (take i f)))));
   }
 
+sought-label : (e : LayoutEvent) (b : Branch) (long : Bool) (at : ℕ → ℕ) → roleOf e ≡ branches b → soughtBy e long at ≡ cond long none (at (b .label))
+unfolding soughtBy
+sought-label e b long at r = rw (r, soughtBy) refl
+
 -- The label that is mapped before the test is that of the test,
-pub far-sought : (g at : ℕ → ℕ) (e : LayoutEvent) (long : Bool) (end t : ℕ) → t ≡ g (soughtBy e long at)
-    → isFar (λ (l : ℕ). t) e long end ≡ isFar (λ (l : ℕ). g (at l)) e long end
-unfolding isFar soughtBy
-far-sought g at (Jump j) true end t h = refl
-far-sought g at (Jump j) false end t h = rw h refl
-far-sought g at (Align start len align) long end t h = refl
+pub far-sought : (g at : ℕ → ℕ) (e : LayoutEvent) (long : Bool) (start t : ℕ) → t ≡ g (soughtBy e long at)
+    → isFar (λ (l : ℕ). t) e long start ≡ isFar (λ (l : ℕ). g (at l)) e long start
+far-sought g at e true start t h = long-near (λ (l : ℕ). t) e start ∙ sym (long-near (λ (l : ℕ). g (at l)) e start)
+far-sought g at e false start t h = by-role e
+    (λ r. pads-near (λ (l : ℕ). t) e false start r ∙ sym (pads-near (λ (l : ℕ). g (at l)) e false start r))
+    (λ b r. let is : t ≡ g (at (b .label)) = h ∙ ap g (sought-label e b false at r) in
+    branch-far (λ (l : ℕ). t) e b false start r
+    ∙ (ap (λ (x : ℕ). not (reaches b start x)) is ∙ sym (branch-far (λ (l : ℕ). g (at l)) e b false start r)))
 
 -- and it can be mapped.
 pub sought-small : (e : LayoutEvent) (long : Bool) (labels : List ℕ) → Known e labels → soughtBy e long (wordAt labels) ≢ none
     → soughtBy e long (wordAt labels) ≤ 300000000
 unfolding soughtBy
-sought-small (Jump j) true labels known bound = absurd (bound refl)
-sought-small (Jump j) false labels known bound = known .small j refl bound
-sought-small (Align start len align) long labels known bound = absurd (bound refl)
+sought-small e long labels known bound = by-role e
+    (λ r. absurd (bound (rw (r, soughtBy) refl)))
+    (λ b r. rw (sought-label e b long (wordAt labels) r) (small b r long (rw (sought-label e b long (wordAt labels) r) at bound)))
+  where
+    small : (b : Branch) → roleOf e ≡ branches b → (long : Bool) → cond long none (wordAt labels (b .label)) ≢ none
+        → cond long none (wordAt labels (b .label)) ≤ 300000000
+    small b r true q = absurd (q refl)
+    small b r false q = known .small b r q
 
 module _ (ss : List Segment) (at : ℕ → ℕ) (events : List ℕ) (n k : ℕ) (c : Choice) (small : n ≤ k) where
   count : length (farIn (take k ss) at (entries (eventAt events) n) c) ≡ n
   count = length-farOf _ (entries (eventAt events) n) c _ ∙ length-entries (eventAt events) n
 
-  end-at : (i : ℕ) → i < n → getD (newEnds (take k ss)) i 0 ≡ (getD ss i zeroSegment) .«new_end»
-  end-at i h =
-      List·getD-map (λ (s : Segment). s .«new_end») (take k ss) i zeroSegment
-      ∙ ap (λ (s : Segment). s .«new_end») (getD-take k ss i zeroSegment (omega arith))
+  start-at : (i : ℕ) → i < n → getD (newStarts (take k ss)) i 0 ≡ (getD ss i zeroSegment) .«new_start»
+  start-at i h =
+      List·getD-map (λ (s : Segment). s .«new_start») (take k ss) i zeroSegment
+      ∙ ap (λ (s : Segment). s .«new_start») (getD-take k ss i zeroSegment (omega arith))
 
   -- what is said of an event is the entry of the round's list
   far-at : (i : ℕ) → i < n
       → getD (farIn (take k ss) at (entries (eventAt events) n) c) i false
-      ≡ isFar (λ (l : ℕ). mapOffset (take k ss) (at l)) (eventAt events i) (getD c i false) ((getD ss i zeroSegment) .«new_end»)
+      ≡ isFar (λ (l : ℕ). mapOffset (take k ss) (at l)) (eventAt events i) (getD c i false) ((getD ss i zeroSegment) .«new_start»)
   far-at i h =
-      farOf-getD _ (entries (eventAt events) n) c _ i (Align 0 0 0) (omega (arith, length-entries (eventAt events) n))
-      ∙ rw (getD-entries (eventAt events) n i (Align 0 0 0) h, end-at i h) refl
+      farOf-getD _ (entries (eventAt events) n) c _ i noEvent (omega (arith, length-entries (eventAt events) n))
+      ∙ rw (getD-entries (eventAt events) n i noEvent h, start-at i h) refl
 
   module _ (i : ℕ) (long : Choice) (grew : Bool) (q : Scanned (farIn (take k ss) at (entries (eventAt events) n) c) c i long grew) (h : i < n) (r : Bool)
-      (e : r ≡ isFar (λ (l : ℕ). mapOffset (take k ss) (at l)) (eventAt events i) (getD long i false) ((getD ss i zeroSegment) .«new_end»)) where
+      (e : r ≡ isFar (λ (l : ℕ). mapOffset (take k ss) (at l)) (eventAt events i) (getD long i false) ((getD ss i zeroSegment) .«new_start»)) where
     said : getD (farIn (take k ss) at (entries (eventAt events) n) c) i false ≡ r
     said = far-at i h ∙ (rw (← scanned-at _ c i long grew q (omega (arith, count))) (sym e))
 

@@ -10,17 +10,17 @@ use lib.Seq.{getD-append-add}
 use Rattle.seqs.proofs.Numbers.{lt-or-ge}
 use Rattle.words.specs.Words.{wordAt}
 use Rattle.relax.specs.declared.LayoutEvent.{LayoutEvent}
-use Rattle.relax.specs.declared.LayoutEvent.the-variants.{Jump, Align}
-use Rattle.relax.specs.declared.RelaxableJump.{RelaxableJump}
-use Rattle.relax.specs.Events.{eventAt}
+use Rattle.relax.specs.Events.{eventAt, noEvent}
 use Rattle.buffer.specs.State.{none}
 use Rattle.recording.specs.View.{entries}
 use Rattle.fresh.specs.Pooled.{Pooled}
+use Rattle.fresh.specs.Forms.{Branch, Role, pads, branches, roleOf}
 use Rattle.fresh.specs.Fresh.{Choice, isLong, others, placed}
-use Rattle.fresh.specs.Rounds.{allShort, jumps, isFar, firstEnd, otherEnds, farOf, far, any, join, longer, Settled, settle, settled}
+use Rattle.fresh.specs.Rounds.{allShort, counted, jumps, isFar, firstStart, otherStarts, farOf, far, any, join, longer, Settled, settle, settled}
 use Rattle.fresh.specs.Segments.{segments, mapOffset}
-use Rattle.fresh.proofs.Shape.{WellFormed, newEnds, after, runsTo}
-use Rattle.fresh.proofs.Tests.{split}
+use Rattle.fresh.proofs.Shape.{WellFormed, newStarts, after, runsTo}
+use Rattle.fresh.proofs.Tests.{split, by-role}
+use Rattle.fresh.proofs.Choices.{pads-near, branch-far}
 use Rattle.fresh.proofs.Segments.{far-segments, placed-runs}
 use Rattle.fresh.proofs.Loops.{runs-all, length-runsTo}
 use Rattle.pool.specs.Pool.{poolEvent}
@@ -28,9 +28,13 @@ use Rattle.layout.specs.Layout.{allEvents, farBy, relaxing, relaxedBy, r
 use Rattle.recording.proofs.Views.{length-entries, getD-entries}
 
 pub jumps-le : (es : List LayoutEvent) → jumps es ≤ length es
+unfolding jumps
 jumps-le [] = omega arith
-jumps-le (Jump j ∷ es) = omega (arith, jumps-le es)
-jumps-le (Align start len align ∷ es) = omega (arith, jumps-le es)
+jumps-le (e ∷ es) = omega (arith, jumps-le es, counted-le (roleOf e))
+  where
+    counted-le : (r : Role) → counted r ≤ 1
+    counted-le pads = omega arith
+    counted-le (branches b) = omega arith
 
 pub all-short : (es : List LayoutEvent) → replicate (length es) false ≡ allShort es
 all-short [] = refl
@@ -75,36 +79,37 @@ relaxed-settled p wf = relaxing-settle p wf (jumps (p .events)) (allShort (p .ev
 pub finished-placed : (p : Pooled) (c : Choice) → WellFormed p → finishedLength (p .events) c (length (p .code)) ≡ length (placed p c)
 finished-placed p c wf =
     let old = (after (length (p .events)) 0 0 (p .events) c) .old in
-    let first = runsTo (length (p .events)) 0 0 (p .code) (p .events) c in
+    let first = runsTo (length (p .events)) (p .arch) 0 0 (p .code) (p .events) c in
     omega (
       arith,
-      length-runsTo (p .events) 0 0 (p .code) c (length (p .events)) (wf .ordered) (omega arith),
-      ap length (placed-runs p c wf ∙ runs-all (p .events) 0 0 (p .code) c),
+      length-runsTo (p .arch) (p .events) 0 0 (p .code) c (length (p .events)) (wf .ordered) (omega arith),
+      ap length (placed-runs p c wf ∙ runs-all (p .arch) (p .events) 0 0 (p .code) c),
       length-append first (drop old (p .code)),
       length-drop old (p .code),
     )
 
 -- Labels that jumps name are read alike from a table and from the list of its entries.
-far-same : (g h : ℕ → ℕ) (es : List LayoutEvent) (c : Choice) (ends : List ℕ)
-    → ((i : ℕ) (j : RelaxableJump) → i < length es → getD es i (Align 0 0 0) ≡ Jump j → g (j .label) ≡ h (j .label)) → farOf g es c ends ≡ farOf h es c ends
-unfolding farOf isFar
-far-same g h [] c ends k = refl
-far-same g h (Jump j ∷ es) c ends k =
-    rw (far-same g h es (others c) (otherEnds ends) (λ i w l e. k (suc i) w (omega arith) e)) (ap (λ (b : Bool). b ∷ farOf h es (others c) (otherEnds ends)) (first (isLong c)))
+far-same : (g h : ℕ → ℕ) (es : List LayoutEvent) (c : Choice) (starts : List ℕ)
+    → ((i : ℕ) (b : Branch) → i < length es → roleOf (getD es i noEvent) ≡ branches b → g (b .label) ≡ h (b .label))
+    → farOf g es c starts ≡ farOf h es c starts
+unfolding farOf
+far-same g h [] c starts k = refl
+far-same g h (e ∷ es) c starts k =
+    rw (far-same g h es (others c) (otherStarts starts) (λ i w l r. k (suc i) w (omega arith) r)) (ap (λ (t : Bool). t ∷ farOf h es (others c) (otherStarts starts)) first)
   where
-    first : (long : Bool) → isFar g (Jump j) long (firstEnd ends) ≡ isFar h (Jump j) long (firstEnd ends)
-    first true = refl
-    first false = rw (k 0 j (omega arith) refl) refl
-far-same g h (Align start len align ∷ es) c ends k =
-    rw (far-same g h es (others c) (otherEnds ends) (λ i w l e. k (suc i) w (omega arith) e)) refl
+    first : isFar g e (isLong c) (firstStart starts) ≡ isFar h e (isLong c) (firstStart starts)
+    first = by-role e
+        (λ r. pads-near g e (isLong c) (firstStart starts) r ∙ sym (pads-near h e (isLong c) (firstStart starts) r))
+        (λ b r. branch-far g e b (isLong c) (firstStart starts) r
+        ∙ (rw (k 0 b (omega arith) r) refl ∙ sym (branch-far h e b (isLong c) (firstStart starts) r)))
 
 relaxing-same : (k : ℕ) (es : List LayoutEvent) (at at′ : ℕ → ℕ) (c : Choice)
-    → ((i : ℕ) (j : RelaxableJump) → i < length es → getD es i (Align 0 0 0) ≡ Jump j → at (j .label) ≡ at′ (j .label)) → relaxing k es at c ≡ relaxing k es at′ c
+    → ((i : ℕ) (b : Branch) → i < length es → roleOf (getD es i noEvent) ≡ branches b → at (b .label) ≡ at′ (b .label)) → relaxing k es at c ≡ relaxing k es at′ c
 unfolding relaxing
 relaxing-same zero es at at′ c h = refl
 relaxing-same (suc k) es at at′ c h =
     let f : farBy es at c ≡ farBy es at′ c
-    = far-same (λ (l : ℕ). mapOffset (segments 0 0 es c) (at l)) (λ (l : ℕ). mapOffset (segments 0 0 es c) (at′ l)) es c (newEnds (segments 0 0 es c))
+    = far-same (λ (l : ℕ). mapOffset (segments 0 0 es c) (at l)) (λ (l : ℕ). mapOffset (segments 0 0 es c) (at′ l)) es c (newStarts (segments 0 0 es c))
     (λ i j l e. ap (mapOffset (segments 0 0 es c)) (h i j l e)) in
     split (any (farBy es at c))
     (λ e.
@@ -112,34 +117,36 @@ relaxing-same (suc k) es at at′ c h =
     relaxing-again k es at c e ∙ (ap more rest ∙ sym (relaxing-again k es at′ c (ap any (sym f) ∙ e))))
     (λ e. relaxing-last (suc k) es at c e ∙ sym (relaxing-last (suc k) es at′ c (ap any (sym f) ∙ e)))
 
--- The label that an event of the whole names, if it is a jump, is named by one of the recorded events.
+-- The label that an event of the whole names is named by one of the recorded events.
 all-below : (events : List ℕ) (n code : ℕ) (constants asked : List ℕ) (m count : ℕ)
-    → ((i : ℕ) (j : RelaxableJump) → i < n → eventAt events i ≡ Jump j → j .label < count)
-    → (i : ℕ) (j : RelaxableJump) → i < length (allEvents events n code constants asked m) → getD (allEvents events n code constants asked m) i (Align 0 0 0) ≡ Jump j
-    → j .label < count
-all-below events n code constants asked m count h i j k e =
+    → ((i : ℕ) (b : Branch) → i < n → roleOf (eventAt events i) ≡ branches b → b .label < count)
+    → (i : ℕ) (b : Branch) → i < length (allEvents events n code constants asked m)
+    → roleOf (getD (allEvents events n code constants asked m) i noEvent) ≡ branches b → b .label < count
+unfolding roleOf
+all-below events n code constants asked m count h i b k e =
     let first = entries (eventAt events) n in
     let rest = entries (poolEvent code constants asked) m in
     let lf = length-entries (eventAt events) n in
     ⊎-elim
     (λ lt.
-    let at : eventAt events i ≡ getD (first ++ rest) i (Align 0 0 0)
-    = sym (List·getD-append first rest (Align 0 0 0) i (omega (arith, lf)) ∙ getD-entries (eventAt events) n i (Align 0 0 0) lt) in
-    h i j lt (at ∙ e))
+    let at : eventAt events i ≡ getD (first ++ rest) i noEvent
+    = sym (List·getD-append first rest noEvent i (omega (arith, lf)) ∙ getD-entries (eventAt events) n i noEvent lt) in
+    h i b lt (ap roleOf at ∙ e))
     (λ ge.
     let lr = length-entries (poolEvent code constants asked) m in
     let k′ : i - n < m = omega (arith, length-append first rest, lf, lr) in
     let at : i ≡ length first + (i - n) = omega (arith, lf) in
-    let p : Jump j ≡ poolEvent code constants asked (i - n)
-    = sym e ∙ (ap (λ (x : ℕ). getD (first ++ rest) x (Align 0 0 0)) at ∙ (getD-append-add first rest (i - n) (Align 0 0 0) ∙ getD-entries (poolEvent code constants asked) m (i - n) (Align 0 0 0) k′)) in
+    let p : branches b ≡ pads
+    = sym e ∙ (ap (λ (x : ℕ). roleOf (getD (first ++ rest) x noEvent)) at ∙ ap roleOf (getD-append-add first rest (i - n) noEvent ∙ getD-entries (poolEvent code constants asked) m (i - n) noEvent k′)) in
     let z : _≡_ {A = ℕ} 0 1 = cc in
     omega arith)
     (lt-or-ge i n)
 
 pub relaxed-entries : (events : List ℕ) (n code : ℕ) (constants asked : List ℕ) (m : ℕ) (labels : List ℕ) (count : ℕ)
-    → ((i : ℕ) (j : RelaxableJump) → i < n → eventAt events i ≡ Jump j → j .label < count)
-    → relaxedBy (allEvents events n code constants asked m) (wordAt labels) ≡ relaxed (allEvents events n code constants asked m) (entries (wordAt labels) count)
+    → ((i : ℕ) (b : Branch) → i < n → roleOf (eventAt events i) ≡ branches b → b .label < count)
+    → relaxedBy (allEvents events n code constants asked m) (wordAt labels) (allShort (allEvents events n code constants asked m))
+    ≡ relaxed (allEvents events n code constants asked m) (entries (wordAt labels) count)
 relaxed-entries events n code constants asked m labels count h =
     let es = allEvents events n code constants asked m in
     relaxing-same (jumps es) es (wordAt labels) (λ (l : ℕ). getD (entries (wordAt labels) count) l none) (allShort es)
-    (λ i j k e. sym (getD-entries (wordAt labels) count (j .label) none (all-below events n code constants asked m count h i j k e)))
+    (λ i b k r. sym (getD-entries (wordAt labels) count (b .label) none (all-below events n code constants asked m count h i b k r)))

@@ -4,36 +4,36 @@ use mathlib.Core.Bool.{Bool, true, false, _||_, or-false}
 use mathlib.Core.List.{List, [], _∷_, _++_}
 use Prim.Native.Nat.{ℕ, zero, suc, _+_, _-_, _≤_, _<_}
 use native.Mathlib.Omega.{arith}
-use lib.ListN.{length, getD, take, replicate, length-replicate}
+use lib.ListN.{length, getD, take}
 use lib.Seq.{take-all, take-suc}
 use Rattle.seqs.specs.Over.{over}
 use Rattle.seqs.proofs.Overwrites.{length-over, take-over-end, getD-over-after}
 use Rattle.relax.specs.declared.LayoutEvent.{LayoutEvent}
-use Rattle.relax.specs.declared.LayoutEvent.the-variants.{Align}
 use Rattle.relax.specs.declared.Segment.{Segment}
 use Rattle.relax.specs.Events.{eventAt}
 use Rattle.recording.specs.View.{entries}
+use Rattle.fresh.specs.Forms.{pads, roleOf}
 use Rattle.fresh.specs.Fresh.{Choice, isLong, others}
-use Rattle.fresh.specs.Rounds.{Settled, jumps, isFar, firstEnd, otherEnds, farOf, any, join}
+use Rattle.fresh.specs.Rounds.{Settled, jumps, isFar, firstStart, otherStarts, farOf, any, join}
 use Rattle.fresh.specs.Segments.{segments, mapOffset}
-use Rattle.fresh.proofs.Shape.{newEnds}
+use Rattle.fresh.proofs.Shape.{newStarts}
 use Rattle.fresh.proofs.Tests.{no-confusion}
 use Rattle.fresh.proofs.Loops.{length-segments}
-use Rattle.fresh.proofs.Choices.{isLong-getD, others-getD, length-farOf, length-join}
-use Rattle.pool.specs.Pool.{poolStart, PoolFits}
+use Rattle.fresh.proofs.Choices.{isLong-getD, others-getD, length-farOf, length-join, pads-near}
+use Rattle.pool.specs.Pool.{poolStart, poolEvent, PoolFits}
 use Rattle.layout.specs.Layout.{allEvents, finishedLength, farIn, farBy, relaxing, relaxedBy, Relaxed, Recorded, Rising}
 use Rattle.recording.proofs.Views.{length-entries}
 use Rattle.layout.proofs.Pooling.{all-none, all-suc, length-all, all-ordered, all-modest, pool-near}
 use Rattle.layout.proofs.Table.{table-laid, rising-laid}
-use Rattle.fresh.proofs.Rounds.{shorts, shorts-lt, shorts-all}
-use Rattle.layout.proofs.Settled.{jumps-le, all-short, relaxing-last, relaxing-again}
+use Rattle.fresh.proofs.Rounds.{shorts, shorts-lt, shorts-most}
+use Rattle.layout.proofs.Settled.{jumps-le, relaxing-last, relaxing-again}
 
--- An alignment is never lengthened.
-far-snoc : (g : ℕ → ℕ) (es : List LayoutEvent) (c : Choice) (ends : List ℕ) (start len align : ℕ)
-    → farOf g (es ++ (Align start len align ∷ [])) c ends ≡ farOf g es c ends ++ (false ∷ [])
-unfolding farOf isFar
-far-snoc g [] c ends start len align = refl
-far-snoc g (e ∷ es) c ends start len align = ap (λ (l : Choice). isFar g e (isLong c) (firstEnd ends) ∷ l) (far-snoc g es (others c) (otherEnds ends) start len align)
+-- Padding is never lengthened.
+far-snoc : (g : ℕ → ℕ) (es : List LayoutEvent) (c : Choice) (starts : List ℕ) (e : LayoutEvent) → roleOf e ≡ pads
+    → farOf g (es ++ (e ∷ [])) c starts ≡ farOf g es c starts ++ (false ∷ [])
+unfolding farOf
+far-snoc g [] c starts e r = ap (λ (t : Bool). t ∷ []) (pads-near g e (isLong c) (firstStart starts) r)
+far-snoc g (x ∷ es) c starts e r = ap (λ (l : Choice). isFar g x (isLong c) (firstStart starts) ∷ l) (far-snoc g es (others c) (otherStarts starts) e r)
 
 any-snoc : (f : Choice) → any (f ++ (false ∷ [])) ≡ any f
 unfolding any
@@ -62,30 +62,34 @@ over-again (x ∷ xs) (y ∷ ys) [] h = absurd (omega arith)
 over-again (x ∷ xs) (y ∷ ys) (z ∷ zs) h = ap (λ (l : List _). z ∷ l) (over-again xs ys zs (omega arith))
 
 module _ (events : List ℕ) (n code : ℕ) (constants asked : List ℕ) where
-  module _ (g : ℕ → ℕ) (c : Choice) (ends : List ℕ) where
-    any-all : (j : ℕ) → any (farOf g (allEvents events n code constants asked j) c ends) ≡ any (farOf g (entries (eventAt events) n) c ends)
+  pool-pads : (j : ℕ) → roleOf (poolEvent code constants asked j) ≡ pads
+  unfolding roleOf
+  pool-pads j = refl
+
+  module _ (g : ℕ → ℕ) (c : Choice) (starts : List ℕ) where
+    any-all : (j : ℕ) → any (farOf g (allEvents events n code constants asked j) c starts) ≡ any (farOf g (entries (eventAt events) n) c starts)
     any-all zero = rw (all-none events n code constants asked) refl
     any-all (suc j) =
-        rw (all-suc events n code constants asked j) (ap any (far-snoc g (allEvents events n code constants asked j) c ends _ _ _) ∙ (any-snoc _ ∙ any-all j))
+        rw (all-suc events n code constants asked j) (ap any (far-snoc g (allEvents events n code constants asked j) c starts _ (pool-pads j)) ∙ (any-snoc _ ∙ any-all j))
 
-    count : length (farOf g (entries (eventAt events) n) c ends) ≡ n
-    count = length-farOf g (entries (eventAt events) n) c ends ∙ length-entries (eventAt events) n
+    count : length (farOf g (entries (eventAt events) n) c starts) ≡ n
+    count = length-farOf g (entries (eventAt events) n) c starts ∙ length-entries (eventAt events) n
 
     join-all : (j : ℕ) → n + j ≤ length c
-        → join c (farOf g (allEvents events n code constants asked j) c ends) ≡ take (n + j) (over c 0 (join c (farOf g (entries (eventAt events) n) c ends)))
+        → join c (farOf g (allEvents events n code constants asked j) c starts) ≡ take (n + j) (over c 0 (join c (farOf g (entries (eventAt events) n) c starts)))
     join-all zero h =
-        let f = farOf g (entries (eventAt events) n) c ends in
+        let f = farOf g (entries (eventAt events) n) c starts in
         let a : 0 + length (join c f) ≡ n + 0 = omega (arith, length-join c f, count) in
         rw (all-none events n code constants asked, ← a) (sym (take-over-end c 0 (join c f) (omega arith)))
     join-all (suc j) h =
-        let f = farOf g (entries (eventAt events) n) c ends in
-        let F = farOf g (allEvents events n code constants asked j) c ends in
+        let f = farOf g (entries (eventAt events) n) c starts in
+        let F = farOf g (allEvents events n code constants asked j) c starts in
         let x = over c 0 (join c f) in
         let k : n + suc j ≡ suc (n + j) = omega arith in
-        let lF : length F ≡ n + j = length-farOf g (allEvents events n code constants asked j) c ends ∙ length-all events n code constants asked j in
+        let lF : length F ≡ n + j = length-farOf g (allEvents events n code constants asked j) c starts ∙ length-all events n code constants asked j in
         let last : getD x (n + j) false ≡ getD c (n + j) false = getD-over-after c 0 (join c f) (n + j) false (omega (arith, length-join c f, count)) in
         rw (all-suc events n code constants asked j)
-        (ap (join c) (far-snoc g (allEvents events n code constants asked j) c ends _ _ _)
+        (ap (join c) (far-snoc g (allEvents events n code constants asked j) c starts _ (pool-pads j))
         ∙ (join-snoc c F
         ∙ (ap (λ (l : Choice). l ++ (getD c (length F) false ∷ [])) (join-all j (omega arith))
         ∙ (ap (λ (i : ℕ). take (n + j) x ++ (getD c i false ∷ [])) lF
@@ -104,36 +108,34 @@ module _ (events : List ℕ) (n code : ℕ) (constants asked : List ℕ) where
       let table : take (n + m) ss′ ≡ made
       = ap (λ (k : ℕ). take k ss′) (sym (length-all events n code constants asked m))
       ∙ table-laid ss ss′ es c laid (omega (arith, length-all events n code constants asked m)) in
-      let x = over c 0 (join c (farOf g (entries (eventAt events) n) c (newEnds made))) in (
+      let x = over c 0 (join c (farOf g (entries (eventAt events) n) c (newStarts made))) in (
         next
             ∙ (rw table refl
-            ∙ (sym (take-all (n + m) x (omega (arith, length-over c 0 (join c (farOf g (entries (eventAt events) n) c (newEnds made))))))
-            ∙ sym (join-all g c (newEnds made) m (omega arith)))),
-        says ∙ (rw table refl ∙ sym (any-all g c (newEnds made) m)),
+            ∙ (sym (take-all (n + m) x (omega (arith, length-over c 0 (join c (farOf g (entries (eventAt events) n) c (newStarts made))))))
+            ∙ sym (join-all g c (newStarts made) m (omega arith)))),
+        says ∙ (rw table refl ∙ sym (any-all g c (newStarts made) m)),
       )
 
 -- The rounds stand at the choice c, with so many layouts made: what is left of them is what k more rounds make, k jumps less the layouts made.
-pub record Standing (es : List LayoutEvent) (at : ℕ → ℕ) (before ss : List Segment) (c : Choice) (layouts : ℕ) : Type 0 where
+pub record Standing (es : List LayoutEvent) (at : ℕ → ℕ) (first : Choice) (before ss : List Segment) (c : Choice) (layouts : ℕ) : Type 0 where
   pub sized : length c ≡ length es
   pub few : shorts es c + layouts ≤ jumps es
-  pub choice : (relaxing (jumps es - layouts) es at c) .choice ≡ (relaxedBy es at) .choice
-  pub rounds : layouts + (relaxing (jumps es - layouts) es at c) .rounds ≡ (relaxedBy es at) .rounds
+  pub choice : (relaxing (jumps es - layouts) es at c) .choice ≡ (relaxedBy es at first) .choice
+  pub rounds : layouts + (relaxing (jumps es - layouts) es at c) .rounds ≡ (relaxedBy es at first) .rounds
   pub past : (ys : List Segment) → length ys ≡ length es → over ss 0 ys ≡ over before 0 ys
 
-pub standing-none : (es : List LayoutEvent) (at : ℕ → ℕ) (before : List Segment) (c : Choice) (n : ℕ) → length es ≡ n → c ≡ replicate n false
-    → Standing es at before before c 0
-standing-none es at before c n size h =
-    let e = h ∙ (ap (λ (k : ℕ). replicate k false) (sym size) ∙ all-short es) in
+pub standing-none : (es : List LayoutEvent) (at : ℕ → ℕ) (before : List Segment) (c : Choice) → length c ≡ length es → Standing es at c before before c 0
+standing-none es at before c size =
     let z : jumps es - 0 ≡ jumps es = omega arith in
     record {
-      sized = ap length h ∙ (length-replicate n false ∙ sym size);
-      few = rw e (omega (arith, shorts-all es));
-      choice = rw (e, z) refl;
-      rounds = rw (e, z) (omega arith);
+      sized = size;
+      few = omega (arith, shorts-most es c);
+      choice = rw z refl;
+      rounds = rw z (omega arith);
       past = λ ys k. refl;
     }
 
-module _ (es : List LayoutEvent) (at : ℕ → ℕ) (before ss : List Segment) (c : Choice) (layouts : ℕ) (q : Standing es at before ss c layouts) where
+module _ (es : List LayoutEvent) (at : ℕ → ℕ) (first : Choice) (before ss : List Segment) (c : Choice) (layouts : ℕ) (q : Standing es at first before ss c layouts) where
   pub layouts-few : layouts ≤ length es
   layouts-few = omega (arith, q .few, jumps-le es)
 
@@ -148,7 +150,7 @@ module _ (es : List LayoutEvent) (at : ℕ → ℕ) (before ss : List Segment) (
     standing-less : grew ≡ true → layouts < jumps es
     standing-less t = omega (arith, q .few, fewer t)
 
-    standing-more : grew ≡ true → Standing es at before ss′ c′ (layouts + 1)
+    standing-more : grew ≡ true → Standing es at first before ss′ c′ (layouts + 1)
     standing-more t =
         let k : jumps es - layouts ≡ suc (jumps es - (layouts + 1)) = omega (arith, standing-less t) in
         let rest : Settled = relaxing (jumps es - (layouts + 1)) es at (join c (farBy es at c)) in
@@ -164,12 +166,12 @@ module _ (es : List LayoutEvent) (at : ℕ → ℕ) (before ss : List Segment) (
               ∙ (over-again ss (segments 0 0 es c) ys (length-segments es 0 0 c ∙ sym h) ∙ q .past ys h);
         }
 
-    standing-done : grew ≡ false → (total len : ℕ) → len ≡ finishedLength es c total → Relaxed es at total before ss′ c′ (layouts + 1) len
+    standing-done : grew ≡ false → (total len : ℕ) → len ≡ finishedLength es c total → Relaxed es at first total before ss′ c′ (layouts + 1) len
     standing-done t total len finished =
         let none = sym (round .1) ∙ t in
         let same : c′ ≡ c = round .0 ∙ join-none c (farBy es at c) (q .sized ∙ sym far-count) none in
         let step = relaxing-last (jumps es - layouts) es at c none in
-        let here : c ≡ (relaxedBy es at) .choice = sym (ap (λ (s : Settled). s .choice) step) ∙ q .choice in
+        let here : c ≡ (relaxedBy es at first) .choice = sym (ap (λ (s : Settled). s .choice) step) ∙ q .choice in
         record {
           choice = same ∙ here;
           rounds = omega (arith, ap (λ (s : Settled). s .rounds) step, q .rounds);
@@ -178,8 +180,8 @@ module _ (es : List LayoutEvent) (at : ℕ → ℕ) (before ss : List Segment) (
         }
 
 -- A round as the program makes it: all events are laid out, and the recorded ones are scanned.
-module _ (events : List ℕ) (n code : ℕ) (constants asked : List ℕ) (m : ℕ) (at : ℕ → ℕ) (before ss : List Segment) (c : Choice) (layouts : ℕ)
-    (q : Standing (allEvents events n code constants asked m) at before ss c layouts) (room : n + m ≤ length ss) (ss′ : List Segment) (c′ : Choice)
+module _ (events : List ℕ) (n code : ℕ) (constants asked : List ℕ) (m : ℕ) (at : ℕ → ℕ) (first : Choice) (before ss : List Segment) (c : Choice) (layouts : ℕ)
+    (q : Standing (allEvents events n code constants asked m) at first before ss c layouts) (room : n + m ≤ length ss) (ss′ : List Segment) (c′ : Choice)
     (grew : Bool) (laid : ss′ ≡ over ss 0 (segments 0 0 (allEvents events n code constants asked m) c))
     (next : c′ ≡ over c 0 (join c (farIn (take (n + m) ss′) at (entries (eventAt events) n) c)))
     (says : grew ≡ any (farIn (take (n + m) ss′) at (entries (eventAt events) n) c)) where
@@ -188,14 +190,14 @@ module _ (events : List ℕ) (n code : ℕ) (constants asked : List ℕ) (m : �
       round-is events n code constants asked m at c c′ grew ss ss′ (q .sized ∙ length-all events n code constants asked m) room laid next says
 
   pub round-less : grew ≡ true → layouts < jumps (allEvents events n code constants asked m)
-  round-less = standing-less (allEvents events n code constants asked m) at before ss c layouts q ss′ c′ grew laid round
+  round-less = standing-less (allEvents events n code constants asked m) at first before ss c layouts q ss′ c′ grew laid round
 
-  pub round-more : grew ≡ true → Standing (allEvents events n code constants asked m) at before ss′ c′ (layouts + 1)
-  round-more = standing-more (allEvents events n code constants asked m) at before ss c layouts q ss′ c′ grew laid round
+  pub round-more : grew ≡ true → Standing (allEvents events n code constants asked m) at first before ss′ c′ (layouts + 1)
+  round-more = standing-more (allEvents events n code constants asked m) at first before ss c layouts q ss′ c′ grew laid round
 
   pub round-done : grew ≡ false → (total len : ℕ) → len ≡ finishedLength (allEvents events n code constants asked m) c total
-      → Relaxed (allEvents events n code constants asked m) at total before ss′ c′ (layouts + 1) len
-  round-done = standing-done (allEvents events n code constants asked m) at before ss c layouts q ss′ c′ grew laid round
+      → Relaxed (allEvents events n code constants asked m) at first total before ss′ c′ (layouts + 1) len
+  round-done = standing-done (allEvents events n code constants asked m) at first before ss c layouts q ss′ c′ grew laid round
 
 -- The table of a layout is as the scan wants it.
 pub rising-all : (events : List ℕ) (n code : ℕ) (constants asked : List ℕ) (m : ℕ) (c : Choice) (ss ss′ : List Segment) → Recorded events n code

@@ -8,14 +8,14 @@ use lib.ListN.{length, getD, take}
 use Rattle.seqs.specs.Over.{over}
 use Rattle.seqs.proofs.Overwrites.{length-over, getD-over-in, take-over-end}
 use Rattle.relax.specs.declared.LayoutEvent.{LayoutEvent}
-use Rattle.relax.specs.declared.LayoutEvent.the-variants.{Align}
 use Rattle.relax.specs.declared.Segment.{Segment}
-use Rattle.fresh.specs.Fresh.{Choice, startOf}
+use Rattle.relax.specs.Events.{startOf, noEvent}
+use Rattle.fresh.specs.Fresh.{Choice}
 use Rattle.fresh.specs.Segments.{segments}
 use Rattle.fresh.proofs.Shape.{Ordered, Modest, after, segmentAt}
-use Rattle.fresh.proofs.Events.{end-is, starts-rise}
-use Rattle.fresh.proofs.Forms.{width-size}
-use Rattle.fresh.proofs.Loops.{length-segments, segments-getD, after-le, after-start, size-le}
+use Rattle.fresh.proofs.Events.{starts-rise}
+use Rattle.fresh.proofs.Forms.{width-small}
+use Rattle.fresh.proofs.Loops.{length-segments, segments-getD, after-le, after-start, modest-at}
 use Rattle.layout.specs.Layout.{zeroSegment, Rising}
 
 module _ (before ss : List Segment) (es : List LayoutEvent) (c : Choice) (laid : ss ≡ over before 0 (segments 0 0 es c)) (room : length es ≤ length before) where
@@ -51,15 +51,13 @@ module _ (before ss : List Segment) (es : List LayoutEvent) (c : Choice) (laid :
         );
     small = λ i h.
         let there = after i 0 0 es c in
-        let e = getD es i (Align 0 0 0) in
+        let e = getD es i noEvent in
         omega (
           arith,
           ap (λ (s : Segment). s .«new_start») (segment-laid i h),
           ap (λ (s : Segment). s .«new_end») (segment-laid i h),
           after-le es 0 0 len c i m o (omega arith),
           after-start es 0 0 len c i o h,
-          end-is e,
-          width-size e (getD c i false) (there .new + (startOf e - there .old)),
-          size-le es i (getD c i false) (there .new + (startOf e - there .old)) m h,
+          width-small e (getD c i false) (there .new + (startOf e - there .old)) (modest-at es i m h),
         );
   }

@@ -1,6 +1,6 @@
 -- A turn of the layout: the next event follows, its sums fit, and its segment joins those before.
 use mathlib.Core.Path.{_≡_, refl, sym, _∙_, ap}
-use mathlib.Core.Bool.{Bool, false}
+use mathlib.Core.Bool.{false}
 use mathlib.Core.List.{List, [], _∷_, _++_}
 use Prim.Native.Nat.{ℕ, suc, _+_, _-_, _≤_, _<_}
 use native.Mathlib.Omega.{arith}
@@ -8,24 +8,18 @@ use lib.ListN.{length, getD, set}
 use Rattle.seqs.specs.Over.{over}
 use Rattle.seqs.proofs.Overwrites.{over-nil, over-snoc}
 use Rattle.relax.specs.declared.LayoutEvent.{LayoutEvent}
-use Rattle.relax.specs.declared.LayoutEvent.the-variants.{Jump, Align}
 use Rattle.relax.specs.declared.Segment.{Segment}
-use Rattle.relax.specs.Events.{eventAt, endOf}
+use Rattle.relax.specs.Events.{eventAt, endOf, startOf}
 use Rattle.recording.specs.View.{entries}
-use Rattle.fresh.specs.Forms.{width}
-use Rattle.fresh.specs.Fresh.{Choice, others, startOf}
+use Rattle.fresh.specs.Fresh.{Choice, others}
 use Rattle.fresh.specs.Segments.{segment, segments}
-use Rattle.fresh.proofs.Shape.{Ordered, Modest, Cursor, after}
-use Rattle.fresh.proofs.Events.{end-is, ordered-le}
+use Rattle.fresh.proofs.Shape.{Ordered, Small, Modest, Cursor, after}
+use Rattle.fresh.proofs.Events.{ordered-le}
 use Rattle.fresh.proofs.Choices.{isLong-getD, others-getD}
-use Rattle.fresh.proofs.Forms.{width-size}
-use Rattle.fresh.proofs.Loops.{length-segments, segments-snoc, size-le, after-le}
+use Rattle.fresh.proofs.Loops.{length-segments, segments-snoc, after-le}
 use Rattle.layout.specs.Layout.{Follows, Recorded, Laid}
 use Rattle.recording.proofs.Views.{length-entries}
 use Rattle.layout.proofs.Entries.{entries-split}
-
-pub width-le : (e : LayoutEvent) (long : Bool) (n : ℕ) → Modest (e ∷ []) → width e long n ≤ 4096
-width-le e long n h = omega (arith, width-size e long n, size-le (e ∷ []) 0 long n h (omega arith))
 
 -- What holds of events holds of the first of them.
 prefix-ordered : (es fs : List LayoutEvent) (o n : ℕ) → Ordered o n (es ++ fs) → Ordered o n es
@@ -36,14 +30,12 @@ prefix-ordered (e ∷ es) fs o n h = (h .0, prefix-ordered es fs (endOf e) n (h 
 prefix-modest : (es fs : List LayoutEvent) → Modest (es ++ fs) → Modest es
 unfolding Modest
 prefix-modest [] fs h = tt
-prefix-modest (Jump j ∷ es) fs h = (h .0, h .1, prefix-modest es fs (h .2))
-prefix-modest (Align start len align ∷ es) fs h = (h .0, h .1, prefix-modest es fs (h .2))
+prefix-modest (e ∷ es) fs h = (h .0, prefix-modest es fs (h .1))
 
-last-modest : (es : List LayoutEvent) (e : LayoutEvent) → Modest (es ++ (e ∷ [])) → Modest (e ∷ [])
+last-modest : (es : List LayoutEvent) (e : LayoutEvent) → Modest (es ++ (e ∷ [])) → Small e
 unfolding Modest
-last-modest [] e h = h
-last-modest (Jump j ∷ es) e h = last-modest es e (h .2)
-last-modest (Align start len align ∷ es) e h = last-modest es e (h .2)
+last-modest [] e h = h .0
+last-modest (x ∷ es) e h = last-modest es e (h .1)
 
 -- The event after es starts where they have ended, or later.
 last-ordered : (es : List LayoutEvent) (o n len : ℕ) (c : Choice) (e : LayoutEvent) → Ordered o len (es ++ (e ∷ []))
@@ -74,7 +66,7 @@ module _ (before ss : List Segment) (es : List LayoutEvent) (c : Choice) (old ne
         order = omega (arith, low, a);
         modest = last-modest es e m;
         ends = omega (arith, low);
-        small = omega (arith, low, sum, a, b, end-is e);
+        small = omega (arith, low, sum, a, b);
       }
 
   laid-more : (i : ℕ) (s : Segment) → i ≡ length es → s ≡ segment old new e (getD c i false)

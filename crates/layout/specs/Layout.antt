@@ -1,23 +1,22 @@
 -- The table of segments, what a layout leaves in it, and the rounds by segments.
 use mathlib.Core.Path.{_≡_}
 use mathlib.Core.Logic.{_≢_}
-use mathlib.Core.Bool.{Bool, true, false}
+use mathlib.Core.Bool.{Bool, true, false, cond}
 use mathlib.Core.List.{List, [], _∷_, _++_}
 use Prim.Native.Nat.{ℕ, zero, suc, _+_, _-_, _*_, _≤_, _<_}
 use lib.ListN.{length, getD}
 use Rattle.seqs.specs.Over.{over}
 use Rattle.words.specs.Words.{wordAt}
 use Rattle.relax.specs.declared.LayoutEvent.{LayoutEvent}
-use Rattle.relax.specs.declared.LayoutEvent.the-variants.{Jump, Align}
-use Rattle.relax.specs.declared.RelaxableJump.{RelaxableJump}
 use Rattle.relax.specs.declared.Segment.{Segment}
-use Rattle.relax.specs.Events.{eventAt, endOf}
+use Rattle.relax.specs.Events.{eventAt, endOf, startOf}
 use Rattle.buffer.specs.State.{none}
 use Rattle.recording.specs.View.{entries}
-use Rattle.fresh.specs.Fresh.{Choice, startOf}
+use Rattle.fresh.specs.Forms.{Branch, pads, branches, roleOf}
+use Rattle.fresh.specs.Fresh.{Choice}
 use Rattle.fresh.specs.Rounds.{Settled, allShort, jumps, farOf, any, join}
 use Rattle.fresh.specs.Segments.{segments, mapOffset}
-use Rattle.fresh.proofs.Shape.{Ordered, Modest, newEnds, after}
+use Rattle.fresh.proofs.Shape.{Ordered, Small, Modest, newStarts, after}
 use Rattle.pool.specs.Pool.{poolEvent}
 
 -- all zeros: the segment before the first, and what a table has past its end
@@ -44,7 +43,7 @@ pub record Between (ss : List Segment) (n offset lo hi : ℕ) : Type 0 where
 -- an event of modest size that follows the recorded offset `old`, where its new offsets are small
 pub record Follows (event : LayoutEvent) (old new : ℕ) : Type 0 where
   pub order : old ≤ startOf event
-  pub modest : Modest (event ∷ [])
+  pub modest : Small event
   pub ends : endOf event ≤ 300000000
   pub small : new + (startOf event - old) ≤ 300000000
 
@@ -72,10 +71,10 @@ pub record Laid (before ss : List Segment) (es : List LayoutEvent) (c : Choice) 
   pub table : ss ≡ over before 0 (segments 0 0 es c)
   pub here : after (length es) 0 0 es c ≡ record { old = old; new = new }
 
--- the label of an event, if it is a jump, lies in its table, and is unbound or small
+-- the label that an event names lies in its table, and is unbound or small
 pub record Known (event : LayoutEvent) (labels : List ℕ) : Type 0 where
-  pub room : (j : RelaxableJump) → event ≡ Jump j → j .label * 4 + 4 ≤ length labels
-  pub small : (j : RelaxableJump) → event ≡ Jump j → wordAt labels (j .label) ≢ none → wordAt labels (j .label) ≤ 300000000
+  pub room : (b : Branch) → roleOf event ≡ branches b → b .label * 4 + 4 ≤ length labels
+  pub small : (b : Branch) → roleOf event ≡ branches b → wordAt labels (b .label) ≢ none → wordAt labels (b .label) ≤ 300000000
 
 -- so for each of the first n events
 pub record Labelled (events labels : List ℕ) (n : ℕ) : Type 0 where
@@ -83,13 +82,11 @@ pub record Labelled (events labels : List ℕ) (n : ℕ) : Type 0 where
 
 -- the recorded offset of the label that an event, long or not, is to reach, if it is a short jump
 unfoldable pub soughtBy : LayoutEvent → Bool → (ℕ → ℕ) → ℕ
-soughtBy (Jump j) true at = none
-soughtBy (Jump j) false at = at (j .label)
-soughtBy (Align start len align) long at = none
+soughtBy e long at = elim (roleOf e) [ pads ↦ none | branches b ↦ cond long none (at (b .label)) ]
 
 -- which events a round lengthens, as segments say; `at` knows the recorded offset of a label by its number
 abbrev pub farIn : List Segment → (ℕ → ℕ) → List LayoutEvent → Choice → Choice
-farIn ss at es c = farOf (λ (l : ℕ). mapOffset ss (at l)) es c (newEnds ss)
+farIn ss at es c = farOf (λ (l : ℕ). mapOffset ss (at l)) es c (newStarts ss)
 
 -- the same by the layout of the choice
 abbrev pub farBy : List LayoutEvent → (ℕ → ℕ) → Choice → Choice
@@ -106,17 +103,17 @@ relaxing (suc k) es at c = elim (any (farBy es at c)) [
   }
 ]
 
--- all rounds, of labels that `at` knows, and of a list of labels
-abbrev pub relaxedBy : List LayoutEvent → (ℕ → ℕ) → Settled
-relaxedBy es at = relaxing (jumps es) es at (allShort es)
+-- all rounds from a choice on, of labels that `at` knows; and from no jump long, of a list of labels
+abbrev pub relaxedBy : List LayoutEvent → (ℕ → ℕ) → Choice → Settled
+relaxedBy es at c = relaxing (jumps es) es at c
 
 abbrev pub relaxed : List LayoutEvent → List ℕ → Settled
-relaxed es labels = relaxedBy es (λ (l : ℕ). getD labels l none)
+relaxed es labels = relaxedBy es (λ (l : ℕ). getD labels l none) (allShort es)
 
--- What the rounds leave of these events, `at` knowing the recorded offsets of labels and `total` being the recorded length: the settled choice, its
--- layout in the table, the number of layouts made, and the finished length.
-pub record Relaxed (es : List LayoutEvent) (at : ℕ → ℕ) (total : ℕ) (before ss : List Segment) (long : Choice) (layouts len : ℕ) : Type 0 where
-  pub choice : long ≡ (relaxedBy es at) .choice
-  pub rounds : layouts ≡ (relaxedBy es at) .rounds
-  pub table : ss ≡ over before 0 (segments 0 0 es ((relaxedBy es at) .choice))
-  pub finished : len ≡ finishedLength es ((relaxedBy es at) .choice) total
+-- What the rounds from the choice `first` on leave of these events, `at` knowing the recorded offsets of labels and `total` being the recorded length:
+-- the settled choice, its layout in the table, the number of layouts made, and the finished length.
+pub record Relaxed (es : List LayoutEvent) (at : ℕ → ℕ) (first : Choice) (total : ℕ) (before ss : List Segment) (long : Choice) (layouts len : ℕ) : Type 0 where
+  pub choice : long ≡ (relaxedBy es at first) .choice
+  pub rounds : layouts ≡ (relaxedBy es at first) .rounds
+  pub table : ss ≡ over before 0 (segments 0 0 es ((relaxedBy es at first) .choice))
+  pub finished : len ≡ finishedLength es ((relaxedBy es at first) .choice) total

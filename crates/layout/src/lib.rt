@@ -2,24 +2,22 @@
 // asmkit's core/relax.rs (see NOTICE). The table is a lent slice of `Segment`; only `segment_at` and `put_segment` reach into it.
 ghost use mathlib.Core.Path.{_≡_};
 ghost use mathlib.Core.Logic.{_≢_};
-ghost use mathlib.Core.Bool.{false};
+ghost use mathlib.Core.Bool.{_&&_};
 ghost use mathlib.Core.List.{[]};
 ghost use Prim.Native.Nat.{_+_, _*_, _≤_, _<_};
-ghost use lib.ListN.{length, getD, take, set, replicate};
+ghost use lib.Dec.{leb};
+ghost use lib.ListN.{length, getD, take, set};
 ghost use Rattle.seqs.specs.Over.{over};
 ghost use Rattle.words.specs.Words.{wordAt};
-ghost use Rattle.relax.specs.Events.{eventAt};
+ghost use Rattle.relax.specs.Events.{shortLen, eventAt};
 ghost use Rattle.buffer.specs.State.{none};
 ghost use Rattle.recording.specs.View.{entries};
 ghost use Rattle.fresh.specs.Forms.{width};
-ghost use Rattle.fresh.specs.Fresh.{startOf};
-ghost use Rattle.fresh.specs.Rounds.{reaches, isFar, any, join};
+ghost use Rattle.fresh.specs.Rounds.{isFar, any, join};
 ghost use Rattle.fresh.specs.Segments.{segment, image, mapOffset};
 ghost use Rattle.fresh.specs.Segments as fresh;
-ghost use Rattle.fresh.proofs.Shape.{longSize};
 ghost use Rattle.pool.specs.Pool.{poolStart, poolEvent, PoolFits};
 ghost use Rattle.layout.specs.Layout.{zeroSegment, Rising, Between, Follows, Recorded, allEvents, endFrom, finishedLength, Laid, Known, soughtBy, Labelled, farIn, Relaxed};
-use relax::Condition;
 use relax::LayoutEvent;
 use relax::Segment;
 
@@ -90,16 +88,6 @@ pub fn map(segments: &[Segment], n: usize, offset: u32) -> u32
     place(segment_at(segments, found - 1), offset)
 }
 
-// The bytes that a jump takes in its long form.
-fn long_size(cc: Condition) -> u32
-    ensures { λ r. ⌜ r ≡ longSize cc ⌝ }
-{
-    match cc {
-        Condition::Always => 5,
-        Condition::On(_) => 6,
-    }
-}
-
 // How many bytes an event takes at the new offset `at`.
 pub fn width_of(event: LayoutEvent, long: bool, at: u32) -> u32
     ensures { λ r. ⌜ r ≡ width event long at ⌝ }
@@ -107,30 +95,12 @@ pub fn width_of(event: LayoutEvent, long: bool, at: u32) -> u32
     match event {
         LayoutEvent::Jump(jump) => {
             if long {
-                let cc = jump.cc;
-                long_size(cc)
+                jump.long_len()
             } else {
-                2
+                relax::SHORT_LEN
             }
         }
-        LayoutEvent::Align {
-            start: _,
-            len: _,
-            align,
-        } => encoder::padding_len(at, align),
-    }
-}
-
-fn start_of(event: LayoutEvent) -> u32
-    ensures { λ r. ⌜ r ≡ startOf event ⌝ }
-{
-    match event {
-        LayoutEvent::Jump(jump) => jump.start,
-        LayoutEvent::Align {
-            start,
-            len: _,
-            align: _,
-        } => start,
+        LayoutEvent::Align(alignment) => encoder::padding_len(at, alignment.align),
     }
 }
 
@@ -139,7 +109,7 @@ pub fn next_segment(event: LayoutEvent, long: bool, old: u32, new: u32) -> Segme
     requires { ⌜ Follows event old new ⌝ }
     ensures { λ r. ⌜ r ≡ segment old new event long ⌝ }
 {
-    let start = start_of(event);
+    let start = relax::event_start(event);
     let at = new + (start - old);
     Segment {
         old_start: start,
@@ -229,12 +199,13 @@ pub fn layout(
     layout_pool(segments, constants, asked, n, m, code, new)
 }
 
-// Whether a label's offset minus a jump's end lies in -128..127.
-pub fn in_reach(end: u32, label: u32) -> bool
-    ensures { λ r. ⌜ r ≡ reaches end label ⌝ }
+// Whether a label's offset minus the end of a short jump lies in -128..127.
+pub fn in_reach(start: u32, label: u32) -> bool
+    ensures { λ r. ⌜ r ≡ (leb (start + shortLen) (label + 128) && leb label (start + shortLen + 127)) ⌝ }
 {
-    if end as u64 <= label as u64 + 128 {
-        label as u64 <= end as u64 + 127
+    let end = start as u64 + relax::SHORT_LEN as u64;
+    if end <= label as u64 + 128 {
+        label as u64 <= end + 127
     } else {
         false
     }
@@ -252,31 +223,23 @@ fn sought(event: LayoutEvent, long: bool, labels: &[u8]) -> u32
             }
             words::word_at(labels, jump.label as usize)
         }
-        LayoutEvent::Align {
-            start: _,
-            len: _,
-            align: _,
-        } => buffer::NONE,
+        LayoutEvent::Align(_) => buffer::NONE,
     }
 }
 
-// Whether an event is a short jump that does not reach its label. It ends at the new offset `end`, and its label stands at the new offset `target`.
-fn is_far(event: LayoutEvent, long: bool, end: u32, target: u32) -> bool
-    ensures { λ r. ⌜ r ≡ isFar (λ l. target) event long end ⌝ }
+// Whether an event is a short jump that does not reach its label, which stands at the new offset `target`.
+fn is_far(event: LayoutEvent, long: bool, segment: Segment, target: u32) -> bool
+    ensures { λ r. ⌜ r ≡ isFar (λ l. target) event long (segment .«new_start») ⌝ }
 {
     match event {
         LayoutEvent::Jump(_) => {
             if long {
                 return false;
             }
-            let near = in_reach(end, target);
+            let near = in_reach(segment.new_start, target);
             !near
         }
-        LayoutEvent::Align {
-            start: _,
-            len: _,
-            align: _,
-        } => false,
+        LayoutEvent::Align(_) => false,
     }
 }
 
@@ -300,7 +263,7 @@ pub fn lengthen(
         let segment = segment_at(segments, i);
         let is_long = long[i];
         let target = map(segments, n + m, sought(event, is_long, labels));
-        if is_far(event, is_long, segment.new_end, target) {
+        if is_far(event, is_long, segment, target) {
             long[i] = true;
             grew = true;
         }
@@ -309,7 +272,7 @@ pub fn lengthen(
     grew
 }
 
-// The rounds: lays out and lengthens until a round lengthens none.
+// The rounds, from the choice that stands in `long`: lays out and lengthens until a round lengthens none.
 pub fn relax_jumps(
     segments: &mut [Segment],
     events: &[u8],
@@ -321,8 +284,8 @@ pub fn relax_jumps(
     m: usize,
     code: u32,
 ) -> Summary
-    requires { ⌜ Recorded (now events) n code ⌝ ∗ ⌜ PoolFits (now constants) (now asked) m ⌝ ∗ ⌜ Labelled (now events) (now labels) n ⌝ ∗ ⌜ (n + m ≤ 65536) × (n + m ≤ length (now segments)) × (now long ≡ replicate (n + m) false) ⌝ }
-    ensures { λ r. ⌜ Relaxed (allEvents (now (events .entry)) n code (now (constants .entry)) (now (asked .entry)) m) (wordAt (now (labels .entry))) (poolStart code (now (constants .entry)) (now (asked .entry)) m) (now (segments .entry)) (now (segments .exit)) (now (long .exit)) (r .layouts) (r .len) ⌝ }
+    requires { ⌜ Recorded (now events) n code ⌝ ∗ ⌜ PoolFits (now constants) (now asked) m ⌝ ∗ ⌜ Labelled (now events) (now labels) n ⌝ ∗ ⌜ (n + m ≤ 65536) × (n + m ≤ length (now segments)) × (length (now long) ≡ n + m) ⌝ }
+    ensures { λ r. ⌜ Relaxed (allEvents (now (events .entry)) n code (now (constants .entry)) (now (asked .entry)) m) (wordAt (now (labels .entry))) (now (long .entry)) (poolStart code (now (constants .entry)) (now (asked .entry)) m) (now (segments .entry)) (now (segments .exit)) (now (long .exit)) (r .layouts) (r .len) ⌝ }
 {
     let mut layouts: u32 = 0;
     let settled = loop {

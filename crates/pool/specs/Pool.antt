@@ -41,7 +41,11 @@ poolOffset from constants asked j = poolStart from constants asked j + poolPaddi
 -- the alignment of constant j as an event
 abbrev pub poolEvent : ℕ → List ℕ → List ℕ → ℕ → LayoutEvent
 poolEvent from constants asked j =
-    Align (poolStart from constants asked j) (poolPadding from constants asked j) (constantAlignment (sizeAt constants asked j))
+    Align (record {
+      start = poolStart from constants asked j;
+      len = poolPadding from constants asked j;
+      align = constantAlignment (sizeAt constants asked j);
+    })
 
 -- what the first n constants take: padding, and zeros where their bytes will stand
 unfoldable pub poolBytes : ℕ → ℕ → List ℕ → List ℕ → ℕ → List ℕ

@@ -1,7 +1,7 @@
 -- A sound entry appended to a sound table leaves a sound table.
-use mathlib.Core.Path.{_≡_, refl, sym, ap, _∙_, subst}
+use mathlib.Core.Path.{_≡_, sym, ap, _∙_, subst}
 use mathlib.Core.Logic.{_⊎_, _≢_, inl, inr, ⊎-elim}
-use mathlib.Core.Bool.{Bool, true, false}
+use mathlib.Core.Bool.{true, false}
 use mathlib.Core.List.{List, [], _∷_}
 use Prim.Native.Nat.{ℕ, _+_, _-_, _*_, _/_, _≤_, _<_}
 use native.Mathlib.Omega.{arith}
@@ -11,9 +11,7 @@ use lib.Dec.{eqb}
 use lib.ListN.{length, getD}
 use Rattle.seqs.specs.Pick.{pick}
 use Rattle.seqs.proofs.Picking.{no-eq, yes-lt, no-lt}
-use Rattle.relax.specs.declared.RelaxableJump.{RelaxableJump}
-use Rattle.relax.specs.declared.LayoutEvent.the-variants.{Jump, Align}
-use Rattle.relax.specs.Events.{eventOf, eventAt, endOf}
+use Rattle.relax.specs.Events.{eventAt, endOf}
 use Rattle.seqs.proofs.Numbers.{lt-or-ge, eq-or-ne}
 use Rattle.words.specs.Words.{wordAt, setWord}
 use Rattle.seqs.specs.Over.{over}
@@ -21,6 +19,7 @@ use Rattle.seqs.proofs.Overwrites.{length-over}
 use Rattle.words.proofs.Laws.{length-setWord, wordAt-same, wordAt-before, wordAt-other}
 use Rattle.words.proofs.Entries.{Small, setWords, length-setWords, setWords-below, setWords-in}
 use Rattle.fields.specs.Kinds.{decoded}
+use Rattle.relax.proofs.Columns.{end-at}
 use Rattle.buffer.specs.declared.CodeBuffer.{CodeBuffer}
 use Rattle.buffer.specs.State.{none}
 use Rattle.buffer.specs.Refusals.{foreign, foreignReloc, targetKnown, lastEnd}
@@ -237,21 +236,12 @@ bind-label t n events count labels code arch i l room small ended s =
           (eq-or-ne j i);
     }
 
-ends-alike : (t : Bool) (j : RelaxableJump) (what : ℕ) → endOf (pick t (Jump j) (Align (j .start) (j .len) what)) ≡ j .start + j .len
-unfolding pick
-ends-alike true j what = refl
-ends-alike false j what = refl
-
-event-ends : (events : List ℕ) (j : ℕ) → endOf (eventAt events j) ≡ endAt events j
-unfolding eventAt eventOf
-event-ends events j = ends-alike (eqb (wordAt events (j * 5)) 1) _ (wordAt events (j * 5 + 3))
-
 -- every event ends before the last one does
 pub ends-by-last : (t : List ℕ) (n labels code arch : ℕ) → EventsSound t n labels code arch → (i : ℕ) → i < n → endAt t i ≤ lastEnd t n
 unfolding lastEnd
 ends-by-last t n labels code arch s i l =
     let last : n - 1 < n = omega arith in
-    let e : pick (eqb n 0) 0 (endOf (eventAt t (n - 1))) ≡ endAt t (n - 1) = no-eq n 0 _ _ (λ z. omega arith) ∙ event-ends t (n - 1) in
+    let e : pick (eqb n 0) 0 (endOf (eventAt t (n - 1))) ≡ endAt t (n - 1) = no-eq n 0 _ _ (λ z. omega arith) ∙ end-at t (n - 1) in
     rw e
     (⊎-elim
     (λ lt. let f = s .entry (n - 1) last .follows i lt in omega arith)

@@ -13,10 +13,18 @@ use Rattle.relax.specs.declared.LayoutEvent.the-variants.{Jump, Align}
 unfoldable pub conditionOf : ℕ → Condition
 conditionOf n = pick (eqb n 16) Always (On n)
 
+-- the bytes of a short jump, and of a long one: document 01, "Short is 2 bytes", "Long is E9 (5 bytes), or 0F, 80 + condition (6)"
+abbrev pub shortLen : ℕ
+shortLen = 2
+
+abbrev pub longLen : Condition → ℕ
+longLen Always = 5
+longLen (On c) = 6
+
 -- the columns of an event: kind (1 a jump, else an alignment), start, length, label or multiple, condition or 0
 unfoldable pub eventOf : ℕ → ℕ → ℕ → ℕ → ℕ → LayoutEvent
 eventOf kind start len what cc =
-    pick (eqb kind 1) (Jump (record { start = start; len = len; label = what; cc = conditionOf cc })) (Align start len what)
+    pick (eqb kind 1) (Jump (record { start = start; len = len; label = what; cc = conditionOf cc })) (Align (record { start = start; len = len; align = what }))
 
 -- event i of the table
 unfoldable pub eventAt : List ℕ → ℕ → LayoutEvent
@@ -28,7 +36,18 @@ unfoldable pub setEvent : List ℕ → ℕ → ℕ → ℕ → ℕ → ℕ → �
 setEvent events i kind start len what cc =
     setWord (setWord (setWord (setWord (setWord events (i * 5) kind) (i * 5 + 1) start) (i * 5 + 2) len) (i * 5 + 3) what) (i * 5 + 4) cc
 
--- the offset after an event
+-- where an event was recorded, how many bytes of it were, and the offset after it
+abbrev pub startOf : LayoutEvent → ℕ
+startOf (Jump j) = j .start
+startOf (Align a) = a .start
+
+abbrev pub extentOf : LayoutEvent → ℕ
+extentOf (Jump j) = j .len
+extentOf (Align a) = a .len
+
 abbrev pub endOf : LayoutEvent → ℕ
-endOf (Jump j) = j .start + j .len
-endOf (Align start len align) = start + len
+endOf e = startOf e + extentOf e
+
+-- what a list of events has past its end
+abbrev pub noEvent : LayoutEvent
+noEvent = Align (record { start = 0; len = 0; align = 0 })

@@ -2,7 +2,7 @@
 ghost use mathlib.Core.Path.{_≡_};
 ghost use Prim.Native.Nat.{_+_, _*_, _≤_};
 ghost use lib.ListN.{length};
-ghost use Rattle.relax.specs.Events.{conditionOf, eventAt, setEvent, endOf};
+ghost use Rattle.relax.specs.Events.{conditionOf, longLen, eventAt, setEvent, startOf, endOf};
 
 // When a jump is taken.
 pub enum Condition {
@@ -21,10 +21,33 @@ pub struct RelaxableJump {
     pub cc: Condition,
 }
 
+// The bytes of a short jump.
+pub const SHORT_LEN: u32 = 2;
+
+impl RelaxableJump {
+    // The bytes of its long form: `E9 rel32` or `0F 8x rel32`.
+    pub fn long_len(self) -> u32
+        ensures { λ r. ⌜ r ≡ longLen (self .cc) ⌝ }
+    {
+        let cc = self.cc;
+        match cc {
+            Condition::Always => 5,
+            Condition::On(_) => 6,
+        }
+    }
+}
+
+// Padding up to a multiple of `align`.
+pub struct Alignment {
+    pub start: u32,
+    // Bytes recorded.
+    pub len: u32,
+    pub align: u32,
+}
+
 pub enum LayoutEvent {
     Jump(RelaxableJump),
-    // Padding recorded at `start`.
-    Align { start: u32, len: u32, align: u32 },
+    Align(Alignment),
 }
 
 // Where one `LayoutEvent` was recorded and where it ended up.
@@ -66,11 +89,11 @@ pub fn event_at(events: &[u8], i: usize) -> LayoutEvent
             cc,
         });
     }
-    LayoutEvent::Align {
+    LayoutEvent::Align(Alignment {
         start,
         len,
         align: what,
-    }
+    })
 }
 
 // Writes entry `i` of the table.
@@ -86,16 +109,21 @@ pub fn put_event(events: &mut [u8], i: usize, kind: u32, start: u32, len: u32, w
     words::put_word(events, k + 4, cc);
 }
 
+pub fn event_start(event: LayoutEvent) -> u32
+    ensures { λ r. ⌜ r ≡ startOf event ⌝ }
+{
+    match event {
+        LayoutEvent::Jump(jump) => jump.start,
+        LayoutEvent::Align(alignment) => alignment.start,
+    }
+}
+
 // The offset after the event. Entries made by hand may pass 32 bits.
 pub fn event_end(event: LayoutEvent) -> u64
     ensures { λ r. ⌜ r ≡ endOf event ⌝ }
 {
     match event {
         LayoutEvent::Jump(jump) => jump.start as u64 + jump.len as u64,
-        LayoutEvent::Align {
-            start,
-            len,
-            align: _,
-        } => start as u64 + len as u64,
+        LayoutEvent::Align(alignment) => alignment.start as u64 + alignment.len as u64,
     }
 }

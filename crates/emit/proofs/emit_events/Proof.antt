@@ -15,10 +15,10 @@ use Rattle.emit.proofs.emit_events.Statement.{statement}
 use Rattle.emit.proofs.emit_events.Proof.Tie as tie
 
 abbrev Inv-loop : tie.InvT-loop
-Inv-loop output₀ code events long segments n len old₀ new₀ i₀ output old new i = (i ≤ n) × (after i 0 0 (entries (eventAt events) n) long ≡ record { old = old; new = new }) × (length output ≡ length output₀) × (output ≡ over output₀ 0 (runsTo i 0 0 (take len code) (entries (eventAt events) n) long))
+Inv-loop output₀ code events long segments n len arch old₀ new₀ i₀ output old new i = (i ≤ n) × (after i 0 0 (entries (eventAt events) n) long ≡ record { old = old; new = new }) × (length output ≡ length output₀) × (output ≡ over output₀ 0 (runsTo i arch 0 0 (take len code) (entries (eventAt events) n) long))
 
 abbrev μ-loop : tie.MeasureT-loop
-μ-loop output₀ code events long segments n len old₀ new₀ i₀ output old new i = n - i
+μ-loop output₀ code events long segments n len arch old₀ new₀ i₀ output old new i = n - i
 
 loop-holds : tie.Need-loop-holds Inv-loop μ-loop
 unfolding after runsTo
@@ -27,7 +27,7 @@ loop-holds c = (omega arith, refl, refl, sym (over-nil _ 0))
 segment-at-requires : tie.Need-segment-at-requires Inv-loop μ-loop
 segment-at-requires c κs =
     let start : tie.Start Inv-loop μ-loop = search in
-    omega (arith, segments-size _ _ _ _ _ _ _ (start .pre))
+    omega (arith, segments-size _ _ _ _ _ _ _ _ (start .pre))
 
 shared-slice-read-emit-segment : tie.Need-shared-slice-read-emit-segment Inv-loop μ-loop
 shared-slice-read-emit-segment c =
@@ -41,15 +41,15 @@ emit-segment-requires c κs =
     let at-loop : tie.At-loop Inv-loop μ-loop = search in
     let start : tie.Start Inv-loop μ-loop = search in
     let p = start .pre in
-    let begins = begins _ _ _ _ _ _ _ (start .pre) _ _ _ (at-loop .loop .inv .1) (in-loop .loop-test .taken) _ (after-segment-at .segment-at .ensures) in
-    let ends = ends _ _ _ _ _ _ _ (start .pre) _ _ _ (at-loop .loop .inv .1) (in-loop .loop-test .taken) _ (after-segment-at .segment-at .ensures) in
-    let inside = inside _ _ _ _ _ _ _ (start .pre) _ _ _ (at-loop .loop .inv .1) (in-loop .loop-test .taken) _ (after-segment-at .segment-at .ensures) in
-    let starts = starts _ _ _ _ _ _ _ (start .pre) _ _ _ (at-loop .loop .inv .1) (in-loop .loop-test .taken) _ (after-segment-at .segment-at .ensures) in
+    let begins = begins _ _ _ _ _ _ _ _ (start .pre) _ _ _ (at-loop .loop .inv .1) (in-loop .loop-test .taken) _ (after-segment-at .segment-at .ensures) in
+    let ends = ends _ _ _ _ _ _ _ _ (start .pre) _ _ _ (at-loop .loop .inv .1) (in-loop .loop-test .taken) _ (after-segment-at .segment-at .ensures) in
+    let inside = inside _ _ _ _ _ _ _ _ (start .pre) _ _ _ (at-loop .loop .inv .1) (in-loop .loop-test .taken) _ (after-segment-at .segment-at .ensures) in
+    let starts = starts _ _ _ _ _ _ _ _ (start .pre) _ _ _ (at-loop .loop .inv .1) (in-loop .loop-test .taken) _ (after-segment-at .segment-at .ensures) in
     let kept = at-loop .loop .inv .2 in (
       (omega (arith, p .recorded), p .writes _ (in-loop .loop-test .taken)),
       (
         (
-          order _ _ _ _ _ _ _ (start .pre) _ _ _ (at-loop .loop .inv .1) (in-loop .loop-test .taken) _ (after-segment-at .segment-at .ensures),
+          order _ _ _ _ _ _ _ _ (start .pre) _ _ _ (at-loop .loop .inv .1) (in-loop .loop-test .taken) _ (after-segment-at .segment-at .ensures),
           omega (arith, starts, p .coded),
           omega (arith, begins, ends, inside, kept),
         ),
@@ -78,9 +78,9 @@ loop-again c =
     let l = at-loop .loop in
     let kept = ap length (after-emit-segment .emit-segment .ensures) ∙ (length-over _ _ _ ∙ length-over _ _ _) in (
       omega arith,
-      arrived _ _ _ _ _ _ _ (start .pre) _ _ _ (at-loop .loop .inv .1) (in-loop .loop-test .taken) _ (after-segment-at .segment-at .ensures),
+      arrived _ _ _ _ _ _ _ _ (start .pre) _ _ _ (at-loop .loop .inv .1) (in-loop .loop-test .taken) _ (after-segment-at .segment-at .ensures),
       omega (arith, kept, l .inv .2),
-      turn _ _ _ _ _ _ _ (start .pre) _ _ _ (at-loop .loop .inv .1) (in-loop .loop-test .taken) _ (after-segment-at .segment-at .ensures) _ _ _ (l .inv .3) refl (after-emit-segment .emit-segment .ensures),
+      turn _ _ _ _ _ _ _ _ (start .pre) _ _ _ (at-loop .loop .inv .1) (in-loop .loop-test .taken) _ (after-segment-at .segment-at .ensures) _ _ _ (l .inv .3) refl (after-emit-segment .emit-segment .ensures),
     )
 
 copy-run-requires : tie.Need-copy-run-requires Inv-loop μ-loop
@@ -90,7 +90,7 @@ copy-run-requires c κs =
     let l = at-loop .loop in
     let p = start .pre in
     let all : l .i ≡ start .args .n = omega arith in
-    (last-old _ _ _ _ _ _ _ p _ _ _ (l .inv .1) all, p .coded, omega (arith, last-room _ _ _ _ _ _ _ p _ _ _ (l .inv .1) all, l .inv .2))
+    (last-old _ _ _ _ _ _ _ _ p _ _ _ (l .inv .1) all, p .coded, omega (arith, last-room _ _ _ _ _ _ _ _ p _ _ _ (l .inv .1) all, l .inv .2))
 
 returns : tie.Need-returns Inv-loop μ-loop
 returns c =
@@ -99,7 +99,7 @@ returns c =
     let start : tie.Start Inv-loop μ-loop = search in
     let l = at-loop .loop in
     let all : l .i ≡ start .args .n = omega arith in
-    finished _ _ _ _ _ _ _ (start .pre) _ _ _ (l .inv .1) all _ _ (l .inv .3) (after-copy-run .copy-run .ensures)
+    finished _ _ _ _ _ _ _ _ (start .pre) _ _ _ (l .inv .1) all _ _ (l .inv .3) (after-copy-run .copy-run .ensures)
 
 pub emit-events-spec : {M : Type 1} → statement M
 emit-events-spec =

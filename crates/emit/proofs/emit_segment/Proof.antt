@@ -4,6 +4,8 @@ use native.Mathlib.Omega.{arith}
 use lib.ListN.{length}
 use Rattle.seqs.proofs.Overwrites.{length-over}
 use borrow.Author.Needs.{needs}
+use Rattle.relax.specs.Events.{eventAt, startOf, extentOf}
+use Rattle.fresh.specs.Fill.{part}
 use Rattle.emit.proofs.emit_segment.Statement.{statement}
 use Rattle.emit.proofs.emit_segment.Tie as tie
 
@@ -21,7 +23,10 @@ returns c =
     let after-emit-event : tie.After-emit-event = search in
     let after-copy-run : tie.After-copy-run = search in
     let after-event-at : tie.After-event-at = search in
-    after-emit-event .emit-event .ensures ∙ rw (after-copy-run .copy-run .ensures, after-event-at .event-at .ensures) refl
+    let start : tie.Start = search in
+    let event = eventAt (start .args .events .now) (start .args .i) in
+    let wrote = after-emit-event .emit-event .ensures (part (start .args .code .now) (startOf event) (extentOf event)) in
+    wrote ∙ rw (after-copy-run .copy-run .ensures, after-event-at .event-at .ensures) refl
 
 pub emit-segment-spec : {M : Type 1} → statement M
 emit-segment-spec =

@@ -1,36 +1,43 @@
--- `patch_jump` meets its contract: a jump's displacement is written, an alignment is passed over.
-use mathlib.Core.Path.{sym, _∙_}
-use Rattle.emit.proofs.Turns.{jump-fits, jump-filled, align-filled}
+-- `patch_jump` meets its contract: a jump's field is written, an alignment is passed over.
+use mathlib.Core.Path.{sym, _∙_, ap}
+use Rattle.fresh.specs.Forms.{branchOf, roleOf}
+use Rattle.fresh.proofs.Fill.{fillJump-pads, fillJump-branch}
 use borrow.Author.Needs.{needs}
 use Rattle.emit.proofs.patch_jump.Statement.{statement}
 use Rattle.emit.proofs.patch_jump.Tie as tie
 
 word-at-requires : tie.Need-word-at-requires
+unfolding roleOf
 word-at-requires c κs =
-    let after-event : tie.After-event = search in
-    let after-event-at : tie.After-event-at = search in
+    let met : tie.After-event = search in
+    let read : tie.After-event-at = search in
     let start : tie.Start = search in
-    (jump-fits _ _ _ _ _ _ (sym (after-event-at .event-at .ensures) ∙ after-event .event .given .1) (start .pre .within)) .0
+    start .pre .known (branchOf (met .event .given .0 .0)) (ap roleOf (sym (read .event-at .ensures) ∙ met .event .given .1))
 
-put-displacement-requires : tie.Need-put-displacement-requires
-put-displacement-requires c κs =
-    let after-event : tie.After-event = search in
-    let after-event-at : tie.After-event-at = search in
+patch-displacement-requires : tie.Need-patch-displacement-requires
+unfolding roleOf
+patch-displacement-requires c κs =
+    let met : tie.After-event = search in
+    let read : tie.After-event-at = search in
     let start : tie.Start = search in
-    let w = jump-fits _ _ _ _ _ _ (sym (after-event-at .event-at .ensures) ∙ after-event .event .given .1) (start .pre .within) in (w .1, w .2)
+    (start .pre .within (branchOf (met .event .given .0 .0)) (ap roleOf (sym (read .event-at .ensures) ∙ met .event .given .1)), start .pre .small)
 
 returns : tie.Need-returns
+unfolding roleOf
 returns c =
-    let after-put-displacement : tie.After-put-displacement = search in
-    let after-word-at : tie.After-word-at = search in
-    let after-event : tie.After-event = search in
-    let after-event-at : tie.After-event-at = search in
-    after-put-displacement .put-displacement .ensures ∙ rw (after-word-at .word-at .ensures) (jump-filled _ _ _ _ _ _ (sym (after-event-at .event-at .ensures) ∙ after-event .event .given .1))
+    let patched : tie.After-patch-displacement = search in
+    let looked : tie.After-word-at = search in
+    let met : tie.After-event = search in
+    let read : tie.After-event-at = search in
+    patched .patch-displacement .ensures
+    ∙ rw (looked .word-at .ensures)
+    (sym (fillJump-branch _ _ (branchOf (met .event .given .0 .0)) _ _ _ (ap roleOf (sym (read .event-at .ensures) ∙ met .event .given .1))))
 
 returns-2 : tie.Need-returns-2
+unfolding roleOf
 returns-2 c =
-    let after-event-at : tie.After-event-at = search in
-    align-filled _ _ _ _ _ _ _ _ (sym (after-event-at .event-at .ensures) ∙ c .enum-told .given .1)
+    let read : tie.After-event-at = search in
+    sym (fillJump-pads _ _ _ _ _ (ap roleOf (sym (read .event-at .ensures) ∙ c .enum-told .given .1)))
 
 pub patch-jump-spec : {M : Type 1} → statement M
 patch-jump-spec =
@@ -40,7 +47,7 @@ patch-jump-spec =
     (λ c. search needs)
     (λ c. search needs)
     word-at-requires
-    put-displacement-requires
+    patch-displacement-requires
     (λ c. search needs)
     (λ c. search needs)
     returns

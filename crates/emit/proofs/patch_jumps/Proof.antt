@@ -5,7 +5,8 @@ use Prim.Native.Nat.{_-_, _≤_}
 use native.Mathlib.Omega.{arith}
 use lib.ListN.{length}
 use Rattle.emit.specs.Emit.{jumpsFilled}
-use Rattle.emit.proofs.Turns.{jumps-turn, length-jumpFilled}
+use Rattle.emit.proofs.Turns.{jumps-turn}
+use Rattle.fresh.proofs.Fill.{length-fillJump}
 use borrow.Author.Needs.{needs}
 use Rattle.emit.proofs.patch_jumps.Statement.{statement}
 use Rattle.emit.proofs.patch_jumps.Proof.Tie as tie
@@ -44,7 +45,7 @@ loop-again c =
     let after-segment-at : tie.After-segment-at Inv-loop μ-loop = search in
     let at-loop : tie.At-loop Inv-loop μ-loop = search in
     let filled = rw (after-segment-at .segment-at .ensures) at (after-patch-jump .patch-jump .ensures) in
-    (omega arith, rw filled (length-jumpFilled _ _ _ _ _ ∙ at-loop .loop .inv .1), jumps-turn _ _ _ _ _ _ _ _ (at-loop .loop .inv .2) filled)
+    (omega arith, rw filled (length-fillJump _ _ _ _ _ ∙ at-loop .loop .inv .1), jumps-turn _ _ _ _ _ _ _ _ (at-loop .loop .inv .2) filled)
 
 returns : tie.Need-returns Inv-loop μ-loop
 returns c =

@@ -4,8 +4,8 @@ use mathlib.Core.Path.{_≡_, refl, _∙_}
 use Prim.Native.Nat.{_-_, _≤_}
 use native.Mathlib.Omega.{arith}
 use lib.ListN.{length}
+use Rattle.fresh.proofs.Fill.{length-fillField}
 use Rattle.emit.specs.Emit.{refsFilled}
-use Rattle.emit.proofs.Fields.{length-fillField}
 use Rattle.emit.proofs.Turns.{refs-turn}
 use borrow.Author.Needs.{needs}
 use Rattle.emit.proofs.patch_refs.Statement.{statement}

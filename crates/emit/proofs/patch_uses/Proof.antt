@@ -3,8 +3,8 @@ use mathlib.Core.Path.{_≡_, refl, _∙_}
 use Prim.Native.Nat.{_-_, _≤_}
 use native.Mathlib.Omega.{arith}
 use lib.ListN.{length}
+use Rattle.fresh.proofs.Fill.{length-fillUse}
 use Rattle.emit.specs.Emit.{usesFilled}
-use Rattle.emit.proofs.Fields.{length-fillUse}
 use Rattle.emit.proofs.Turns.{uses-turn}
 use borrow.Author.Needs.{needs}
 use Rattle.emit.proofs.patch_uses.Statement.{statement}

@@ -12,17 +12,18 @@ put-jump-requires c κs =
     (jump-writes _ _ (after-event .event .given .1) (start .pre .0), jump-width _ _ _ _ _ (after-event .event .given .1) (start .pre .1))
 
 returns : tie.Need-returns
-returns c =
+returns c bytes =
     let after-put-jump : tie.After-put-jump = search in
     let after-event : tie.After-event = search in
-    after-put-jump .put-jump .ensures ∙ jump-form _ _ _ _ (after-event .event .given .1)
+    let start : tie.Start = search in
+    after-put-jump .put-jump .ensures ∙ jump-form _ _ _ _ (start .args .arch) bytes (after-event .event .given .1)
 
 returns-2 : tie.Need-returns-2
-returns-2 c =
-    let after-push-nops : tie.After-push-nops = search in
+returns-2 c bytes =
+    let after-pad : tie.After-pad = search in
     let after-enum-told : tie.After-enum-told = search in
     let start : tie.Start = search in
-    after-push-nops .push-nops .ensures ∙ align-form _ _ _ _ _ _ (start .args .part .now) (after-enum-told .enum-told .given .1) (start .pre .1)
+    after-pad .pad .ensures ∙ align-form _ (after-enum-told .enum-told .given .0 .0) _ _ (start .args .arch) bytes (start .args .part .now) (after-enum-told .enum-told .given .1) (start .pre .1)
 
 pub put-event-spec : {M : Type 1} → statement M
 put-event-spec =

@@ -7,9 +7,6 @@ use borrow.Author.Tests.{not-true, not-false}
 use Rattle.finish.proofs.finish.Statement.{statement}
 use Rattle.finish.proofs.finish.Proof.Tie as tie
 
-cast-relaxed-5 : tie.Need-cast-relaxed-5
-cast-relaxed-5 c = omega (arith, c .struct-known6 .given)
-
 returns : tie.Need-returns
 returns c =
     let then1 : tie.Then1 = search in
@@ -29,7 +26,7 @@ conclude-requires c κs =
     let else1 : tie.Else1 = search in
     let after-begin : tie.After-begin = search in
     let ready = after-begin .begin .ensures .1 (not-false _ (else1 .if1 .left)) .relaxable .ready in
-    (ready .pool, record { known = λ j h. omega (arith, ready .named .known j h, after-relaxed .relaxed .kept .1 .0) })
+    (ready .pool, record { known = λ j h. omega (arith, ready .named .known j h, after-relaxed .relaxed .kept) })
 
 abbrev after-relaxed-arg2-from-after-relaxed : tie.After-relaxed → tie.After-relaxed-arg2
 after-relaxed-arg2-from-after-relaxed c = search
@@ -45,13 +42,13 @@ same-length-4 c =
     let after-conclude : tie.After-conclude = search in
     let after-relaxed : tie.After-relaxed = search in
     let after-begin = after-begin-from-after-relaxed after-relaxed in
-    after-conclude .conclude .kept .1 .0 ∙ after-relaxed .relaxed .kept .1 .0 ∙ after-begin .begin .kept .1 .1 .0
+    omega (arith, after-conclude .conclude .kept, after-relaxed .relaxed .kept, after-begin .begin .kept)
 
 same-length-7 : tie.Need-same-length-7
 same-length-7 c =
     let after-relaxed : tie.After-relaxed = search in
     let after-begin = after-begin-from-after-relaxed after-relaxed in
-    after-relaxed .relaxed .kept .1 .1 .1 .1 .1 .1 .1 .1 .0 ∙ after-begin .begin .kept .1 .1 .1 .1 .1 .1 .1 .1 .1 .1 .0
+    omega (arith, after-relaxed .relaxed .kept, after-begin .begin .kept)
 
 abbrev else1-from-after-relaxed : tie.After-relaxed → tie.Else1
 else1-from-after-relaxed c = search
@@ -74,11 +71,6 @@ finish-spec =
     (λ c. search needs)
     (λ c. search needs)
     returns
-    (λ c. search needs)
-    (λ c. search needs)
-    (λ c. search needs)
-    (λ c. search needs)
-    cast-relaxed-5
     relaxed-requires
     conclude-requires
     same-length-4

@@ -1,6 +1,6 @@
 -- `relax_jumps` meets its contract: a round that lengthens a jump leaves fewer short ones, and one that lengthens none is the last.
 mod Tie
-use mathlib.Core.Path.{_≡_, refl, _∙_}
+use mathlib.Core.Path.{_≡_, refl, sym, _∙_}
 use Prim.Native.Nat.{_-_}
 use native.Mathlib.Omega.{arith}
 use lib.ListN.{length}
@@ -16,7 +16,7 @@ use Rattle.layout.proofs.relax_jumps.Proof.Tie as tie
 
 abbrev Inv-loop : tie.InvT-loop
 Inv-loop segments₀ events labels constants asked long₀ n m code layouts₀ segments long layouts =
-    (length segments ≡ length segments₀) × (length long ≡ length long₀) × Standing (allEvents events n code constants asked m) (wordAt labels) segments₀ segments long layouts
+    (length segments ≡ length segments₀) × (length long ≡ length long₀) × Standing (allEvents events n code constants asked m) (wordAt labels) long₀ segments₀ segments long layouts
 
 abbrev μ-loop : tie.MeasureT-loop
 μ-loop segments₀ events labels constants asked long₀ n m code layouts₀ segments long layouts = jumps (allEvents events n code constants asked m) - layouts
@@ -25,7 +25,8 @@ loop-holds : tie.Need-loop-holds Inv-loop μ-loop
 loop-holds c =
     let start : tie.Start Inv-loop μ-loop = search in
     let a = start .args in
-    (refl, refl, standing-none _ _ _ _ _ (length-all (a .events .now) (a .n) (a .code) (a .constants .now) (a .asked .now) (a .m)) (start .pre .1 .1 .1 .2))
+    let size = length-all (a .events .now) (a .n) (a .code) (a .constants .now) (a .asked .now) (a .m) in
+    (refl, refl, standing-none _ _ _ _ (start .pre .1 .1 .1 .2 ∙ sym size))
 
 layout-requires : tie.Need-layout-requires Inv-loop μ-loop
 layout-requires c κs =
@@ -43,7 +44,7 @@ add-layouts c =
     let start : tie.Start Inv-loop μ-loop = search in
     let a = start .args in
     let size = length-all (a .events .now) (a .n) (a .code) (a .constants .now) (a .asked .now) (a .m) in
-    omega (arith, layouts-few _ _ _ _ _ _ (at-loop .loop .inv .2), size)
+    omega (arith, layouts-few _ _ _ _ _ _ _ (at-loop .loop .inv .2), size)
 
 lengthen-requires : tie.Need-lengthen-requires Inv-loop μ-loop
 lengthen-requires c κs =
@@ -69,7 +70,7 @@ loop-less c =
     let l = at-loop .loop in
     let scan = after-lengthen .lengthen .ensures in
     let less =
-    round-less (a .events .now) (a .n) (a .code) (a .constants .now) (a .asked .now) (a .m) _ _ _ _ _ (l .inv .2) (omega (arith, l .inv .0)) _ _ _
+    round-less (a .events .now) (a .n) (a .code) (a .constants .now) (a .asked .now) (a .m) _ _ _ _ _ _ (l .inv .2) (omega (arith, l .inv .0)) _ _ _
     (after-layout .layout .ensures .0) (scan .0) (scan .1) (not-false _ (c .if1 .left)) in
     omega (arith, less)
 
@@ -83,7 +84,7 @@ loop-again c =
     let l = at-loop .loop in
     let scan = after-lengthen .lengthen .ensures in
     let next =
-    round-more (a .events .now) (a .n) (a .code) (a .constants .now) (a .asked .now) (a .m) _ _ _ _ _ (l .inv .2) (omega (arith, l .inv .0)) _ _ _
+    round-more (a .events .now) (a .n) (a .code) (a .constants .now) (a .asked .now) (a .m) _ _ _ _ _ _ (l .inv .2) (omega (arith, l .inv .0)) _ _ _
     (after-layout .layout .ensures .0) (scan .0) (scan .1) (not-false _ (c .if1 .left)) in
     (after-layout .layout .kept .0 ∙ l .inv .0, after-lengthen .lengthen .kept .1 .1 .1 .0 ∙ l .inv .1, next)
 
@@ -96,7 +97,7 @@ returns c =
     let a = start .args in
     let l = at-loop .loop in
     let scan = after-lengthen .lengthen .ensures in
-    round-done (a .events .now) (a .n) (a .code) (a .constants .now) (a .asked .now) (a .m) _ _ _ _ _ (l .inv .2) (omega (arith, l .inv .0)) _ _ _
+    round-done (a .events .now) (a .n) (a .code) (a .constants .now) (a .asked .now) (a .m) _ _ _ _ _ _ (l .inv .2) (omega (arith, l .inv .0)) _ _ _
     (after-layout .layout .ensures .0) (scan .0) (scan .1) (not-true _ (c .if1 .taken)) _ _ (after-layout .layout .ensures .1)
 
 pub relax-jumps-spec : {M : Type 1} → statement M

@@ -1,29 +1,28 @@
 -- `width_of` meets its contract: a form's length, by cases.
 use mathlib.Core.Path.{refl}
-use Rattle.fresh.proofs.Shape.{size}
-use Rattle.fresh.proofs.Forms.{width-size}
+use Rattle.fresh.specs.Forms.{width}
 use borrow.Author.Needs.{needs}
 use Rattle.layout.proofs.width_of.Statement.{statement}
 use Rattle.layout.proofs.width_of.Tie as tie
 
 returns : tie.Need-returns
-unfolding size
+unfolding width
 returns c =
     let then1 : tie.Then1 = search in
     let after-event : tie.After-event = search in
-    rw (after-event .event .given .1, then1 .if1 .taken, width-size) (c .long-size .ensures)
+    rw (after-event .event .given .1, then1 .if1 .taken) (c .long-len .ensures)
 
 returns-2 : tie.Need-returns-2
-unfolding size
+unfolding width
 returns-2 c =
     let after-event : tie.After-event = search in
-    rw (after-event .event .given .1, c .if1 .left, width-size) refl
+    rw (after-event .event .given .1, c .if1 .left) refl
 
 returns-3 : tie.Need-returns-3
-unfolding size
+unfolding width
 returns-3 c =
     let after-event2 : tie.After-event2 = search in
-    rw (after-event2 .event2 .given .1, width-size) (c .padding-len .ensures)
+    rw (after-event2 .event2 .given .1) (c .padding-len .ensures)
 
 pub width-of-spec : {M : Type 1} → statement M
 width-of-spec =

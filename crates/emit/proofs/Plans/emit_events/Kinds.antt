@@ -14,7 +14,7 @@ abbrev pub e0· : RT·.RattleType
 e0· = Referent.rtF (Referent.fInt Syntax.w8)
 
 abbrev pub ps : List.List (Kinds.PK 5)
-ps = (MutSlice.pMutS e0· 0 tt) ∷ (ShrSlice.pShrS e0· 1 tt) ∷ (ShrSlice.pShrS e0· 2 tt) ∷ (ShrSlice.pShrS (Referent.rtF Referent.fBool) 3 tt) ∷ (ShrSlice.pShrS ROW·.the-row 4 tt) ∷ (Kinds.pNum Syntax.w64) ∷ (Kinds.pNum Syntax.w64) ∷ []
+ps = (MutSlice.pMutS e0· 0 tt) ∷ (ShrSlice.pShrS e0· 1 tt) ∷ (ShrSlice.pShrS e0· 2 tt) ∷ (ShrSlice.pShrS (Referent.rtF Referent.fBool) 3 tt) ∷ (ShrSlice.pShrS ROW·.the-row 4 tt) ∷ (Kinds.pNum Syntax.w64) ∷ (Kinds.pNum Syntax.w64) ∷ (Kinds.pNum Syntax.w32) ∷ []
 
 abbrev pub r : Kinds.RK 5
 r = Kinds.rUnit

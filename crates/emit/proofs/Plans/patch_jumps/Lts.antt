@@ -24,9 +24,10 @@ use borrow.Rule.Slice.Know
 use borrow.Rule.Slice.Mut
 use borrow.Rule.Slice.Relend
 use borrow.Rule.Slice.Shared
-use borrow.Struct.Reads
+use borrow.Rule.Yields
+use borrow.Table.Copies
 use borrow.Table.Elements
-use borrow.Table.Reads as Reads'
+use borrow.Table.Reads
 use borrow.Table.Referent
 use borrow.Table.Row
 use borrow.Table.Rows
@@ -183,7 +184,7 @@ abbrev pub r·0 : Kinds.RK 1
 r·0 = Value.rVal record { ty = Declared.row Segment.the-type; one = Path'.refl; val = Laws'.val Segment.the-type Laws.the-laws; tells = Laws'.tells Segment.the-type Laws.the-laws; still = Laws'.still Segment.the-type Laws.the-copy Exit.yes; row = Rows.whole (Declared.row Segment.the-type); rd = λ x. x; mk = λ x. x } λ M 𝓤 H A W. record { copies = Laws'.copy Segment.the-type Laws.the-copy 𝓤 H A W; lawful = Laws'.lawful Segment.the-type Laws.the-laws 𝓤 H A W; makes = Laws'.makes Segment.the-type Laws.the-plain 𝓤 H A; in-mem = Local.mem-whole 𝓤 H A W (Declared.row Segment.the-type); of-mem = Local.whole-mem 𝓤 H A W (Declared.row Segment.the-type) }
 
 abbrev pub ps·1 : List.List (Kinds.PK 3)
-ps·1 = (MutSlice.pMutS e0· 0 tt) ∷ (ShrSlice.pShrS e0· 1 tt) ∷ (ShrSlice.pShrS e0· 2 tt) ∷ Bool.pBool ∷ (Num.pNum Syntax.w32) ∷ (Num.pNum Syntax.w64) ∷ []
+ps·1 = (MutSlice.pMutS e0· 0 tt) ∷ (ShrSlice.pShrS e0· 1 tt) ∷ (ShrSlice.pShrS e0· 2 tt) ∷ Bool.pBool ∷ (Value.pVal record { ty = Declared.row Segment.the-type; one = Path'.refl; val = Laws'.val Segment.the-type Laws.the-laws; tells = Laws'.tells Segment.the-type Laws.the-laws; still = Laws'.still Segment.the-type Laws.the-copy Exit.yes; row = Rows.whole (Declared.row Segment.the-type); rd = λ x. x; mk = λ x. x } λ M 𝓤 H A W. record { copies = Laws'.copy Segment.the-type Laws.the-copy 𝓤 H A W; lawful = Laws'.lawful Segment.the-type Laws.the-laws 𝓤 H A W; makes = Laws'.makes Segment.the-type Laws.the-plain 𝓤 H A; in-mem = Local.mem-whole 𝓤 H A W (Declared.row Segment.the-type); of-mem = Local.whole-mem 𝓤 H A W (Declared.row Segment.the-type) }) ∷ (Num.pNum Syntax.w64) ∷ []
 
 abbrev pub r·1 : Kinds.RK 3
 r·1 = Unit'.rUnit
@@ -222,7 +223,7 @@ abbrev b9 : Syntax.Body
 b9 = Syntax.assign (Syntax.place 9 List.[]) (Syntax.rvOpd (Syntax.copy (Syntax.place 13 ((Syntax.deref Syntax.tyBool) ∷ []))))
 
 abbrev b10 : Syntax.Body
-b10 = Syntax.call "emit::patch_jump" ((Syntax.copy (Syntax.place 12 List.[])) ∷ (Syntax.copy (Syntax.place 2 List.[])) ∷ (Syntax.copy (Syntax.place 3 List.[])) ∷ (Syntax.copy (Syntax.place 9 List.[])) ∷ (Syntax.copy (Syntax.place 8 ((Syntax.field 3) ∷ []))) ∷ (Syntax.copy (Syntax.place 7 List.[])) ∷ []) (Syntax.place 10 List.[])
+b10 = Syntax.call "emit::patch_jump" ((Syntax.copy (Syntax.place 12 List.[])) ∷ (Syntax.copy (Syntax.place 2 List.[])) ∷ (Syntax.copy (Syntax.place 3 List.[])) ∷ (Syntax.copy (Syntax.place 9 List.[])) ∷ (Syntax.copy (Syntax.place 8 List.[])) ∷ (Syntax.copy (Syntax.place 7 List.[])) ∷ []) (Syntax.place 10 List.[])
 
 abbrev b11 : Syntax.Body
 b11 = Syntax.assign (Syntax.place 7 List.[]) (Syntax.op2 (Syntax.add Syntax.unsigned) (Syntax.copy (Syntax.place 7 List.[])) (Syntax.int Syntax.w64 1))
@@ -469,7 +470,7 @@ module _ (claims· : Claims) where
   s11 = Relend.k-sl-aggregate e0· (Relend.asMut e0·) T14 11 12 5 y6· y6· (λ x. x) (Scalar.oFld 1 ((Syntax.field 1) ∷ []) y0· 8 λ v. Shared.lenV (v .0))
 
   abbrev s12 : Typed.Asks T15 T16
-  s12 = Scalar.k-op2 T15 Syntax.offset (Scalar.oFld 4 ((Syntax.field 0) ∷ []) y3· 0 Reads'.ptrVal) (Scalar.oAt 7 y0· (Row.valS (Row.sInt Syntax.w64))) 13 (Rows.sc-here Row.sPtr) (Row.sPtr .of)
+  s12 = Scalar.k-op2 T15 Syntax.offset (Scalar.oFld 4 ((Syntax.field 0) ∷ []) y3· 0 Reads.ptrVal) (Scalar.oAt 7 y0· (Row.valS (Row.sInt Syntax.w64))) 13 (Rows.sc-here Row.sPtr) (Row.sPtr .of)
 
   abbrev s13 : Typed.Gives T16 T17
   s13 = Know.k-shs-known Referent.fBool T16 4 3 y3· Row.off Bool'.false λ x. x
@@ -481,7 +482,7 @@ module _ (claims· : Claims) where
   s15 = Scalar.n-room T18 13 Syntax.tyPtr
 
   abbrev s16 : Typed.Both T19 T20
-  s16 = Call.callB ps·1 r·1 (claims· .2) (claims· .3) T19 (record { pos = 12; ty = Syntax.tyRef Syntax.erased Syntax.mut y2·; ref = λ x. x }, (record { pos = 2; ty = Syntax.tyRef (Syntax.named 1) Syntax.imm y2·; ref = λ x. x }, (record { pos = 3; ty = Syntax.tyRef (Syntax.named 2) Syntax.imm y2·; ref = λ x. x }, (Bool.bAt 9 λ x. x, (Num.vFld 8 ((Syntax.field 3) ∷ []) 12 λ x. Segment.struct .as-values x .1 .1 .1 .0, (Num.vAt 7 λ x. x, tt)))))) 10 (5 ∷ 1 ∷ 2 ∷ []) Syntax.tyUnit
+  s16 = Call.callB ps·1 r·1 (claims· .2) (claims· .3) T19 (record { pos = 12; ty = Syntax.tyRef Syntax.erased Syntax.mut y2·; ref = λ x. x }, (record { pos = 2; ty = Syntax.tyRef (Syntax.named 1) Syntax.imm y2·; ref = λ x. x }, (record { pos = 3; ty = Syntax.tyRef (Syntax.named 2) Syntax.imm y2·; ref = λ x. x }, (Bool.bAt 9 λ x. x, (record { pos = 8; st = List.[]; d = 0; at = λ x. x }, (Num.vAt 7 λ x. x, tt)))))) 10 (5 ∷ 1 ∷ 2 ∷ []) Syntax.tyUnit
 
   abbrev s17 : Typed.Mo T20 → Typed.Mo T21
   s17 = Scalar.n-room T20 8 y5·
@@ -832,10 +833,10 @@ module _ (claims· : Claims) where
           d6 = Typed.g-pre 𝓤 H A W 𝓣 E G26 G27 b11 Δ3 (λ Ψ. Ψ) at5 (Lifetime.g-forget 𝓤 H A W E G26 5 Row.dead Path'.refl) d5
 
           d7 : Typed.Typed 𝓤 H A 𝓣 E G25 b11 Δ3 at7
-          d7 = Typed.g-pre 𝓤 H A W 𝓣 E G25 G26 b11 Δ3 (Typed.give s22) at6 (Know.g-sl-known 𝓤 H A W (Referent.fInt Syntax.w8) E G25 1 0 y7· k0· 0 (λ x. x) record { fits = Dec'.lit< tt } (Reads'.as-is 𝓤 H A (Mut.mslice e0· y7· 0)) Path'.refl tt) d6
+          d7 = Typed.g-pre 𝓤 H A W 𝓣 E G25 G26 b11 Δ3 (Typed.give s22) at6 (Know.g-sl-known 𝓤 H A W (Referent.fInt Syntax.w8) E G25 1 0 y7· k0· 0 (λ x. x) record { fits = Dec'.lit< tt } (Reads.as-is 𝓤 H A (Mut.mslice e0· y7· 0)) Path'.refl tt) d6
 
           d8 : Typed.Typed 𝓤 H A 𝓣 E G24 b11 Δ3 at8
-          d8 = Typed.g-pre 𝓤 H A W 𝓣 E G24 G25 b11 Δ3 (Typed.both s21) at7 (Relend.g-back-sl 𝓤 H A W E e0· G24 12 1 0 5 y7· y6· k0· (λ x. x) (λ x. x) (Reads'.as-is 𝓤 H A (Mut.msleft e0· y6·)) (Reads'.as-is 𝓤 H A (Relend.mslice-owed e0· y7· 0 5 k0·)) Path'.refl Path'.refl) d7
+          d8 = Typed.g-pre 𝓤 H A W 𝓣 E G24 G25 b11 Δ3 (Typed.both s21) at7 (Relend.g-back-sl 𝓤 H A W E e0· G24 12 1 0 5 y7· y6· k0· (λ x. x) (λ x. x) (Reads.as-is 𝓤 H A (Mut.msleft e0· y6·)) (Reads.as-is 𝓤 H A (Relend.mslice-owed e0· y7· 0 5 k0·)) Path'.refl Path'.refl) d7
 
           d9 : Typed.Typed 𝓤 H A 𝓣 E G23 b11 Δ3 at9
           d9 = Typed.g-pre 𝓤 H A W 𝓣 E G23 G24 b11 Δ3 (λ Ψ. Ψ) at8 (Lifetime.g-end 𝓤 H A W E G23 5 Path'.refl) d8
@@ -850,37 +851,37 @@ module _ (claims· : Claims) where
           d12 = Typed.g-pre 𝓤 H A W 𝓣 E G20 G21 b11 Δ3 (Typed.pass T20 T21 s17) at11 (Scalar.g-room 𝓤 H A W E G20 8 y5· (Local.room-whole 𝓤 H A W (Declared.row Segment.the-type) y5· Path'.refl)) d11
 
           d13 : Typed.Typed 𝓤 H A 𝓣 E G19 b12 Δ3 at13
-          d13 = Typed.s-seq 𝓤 H A W 𝓣 E G19 G20 b10 b11 Δ3 (Typed.both s16) at12 (Plain.t-call-plain 𝓤 H A W 𝓣 3 ps·1 r·1 (claims· .2) (claims· .3) "emit::patch_jump" (known .1) E (λ pos β. β) G19 (record { pos = 12; ty = Syntax.tyRef Syntax.erased Syntax.mut y2·; ref = λ x. x }, (record { pos = 2; ty = Syntax.tyRef (Syntax.named 1) Syntax.imm y2·; ref = λ x. x }, (record { pos = 3; ty = Syntax.tyRef (Syntax.named 2) Syntax.imm y2·; ref = λ x. x }, (Bool.bAt 9 λ x. x, (Num.vFld 8 ((Syntax.field 3) ∷ []) 12 λ x. Segment.struct .as-values x .1 .1 .1 .0, (Num.vAt 7 λ x. x, tt)))))) 10 (5 ∷ 1 ∷ 2 ∷ []) (Call.sub-id 𝓤 H A W (G19 .slots)) (Reads'.as-is 𝓤 H A (Mut.mslice e0· y6· 5), Mut.reads-mslice 𝓤 H A W e0· y6· 5, Path'.refl, (ShrSlice.spares-sslice 𝓤 H A W e0· y8· 1, Shared.reads-sslice 𝓤 H A W e0· y8· 1, Path'.refl, (ShrSlice.spares-sslice 𝓤 H A W e0· y9· 2, Shared.reads-sslice 𝓤 H A W e0· y9· 2, Path'.refl, ((Scalar.reads-sc 𝓤 H A W Row.sBool, Path'.refl), ((Reads.reads-field 𝓤 H A W Segment.the-type Laws.the-laws 3 y1· 12 Path'.refl, Path'.refl), ((Scalar.reads-sc 𝓤 H A W (Row.sInt Syntax.w64), Path'.refl), tt)))))) (Reads'.room-gone 𝓤 H A Syntax.tyUnit) (tt, (tt, (tt, tt))) Path'.refl) d12
+          d13 = Typed.s-seq 𝓤 H A W 𝓣 E G19 G20 b10 b11 Δ3 (Typed.both s16) at12 (Plain.t-call-plain 𝓤 H A W 𝓣 3 ps·1 r·1 (claims· .2) (claims· .3) "emit::patch_jump" (known .1) E (λ pos β. β) G19 (record { pos = 12; ty = Syntax.tyRef Syntax.erased Syntax.mut y2·; ref = λ x. x }, (record { pos = 2; ty = Syntax.tyRef (Syntax.named 1) Syntax.imm y2·; ref = λ x. x }, (record { pos = 3; ty = Syntax.tyRef (Syntax.named 2) Syntax.imm y2·; ref = λ x. x }, (Bool.bAt 9 λ x. x, (record { pos = 8; st = List.[]; d = 0; at = λ x. x }, (Num.vAt 7 λ x. x, tt)))))) 10 (5 ∷ 1 ∷ 2 ∷ []) (Call.sub-id 𝓤 H A W (G19 .slots)) (Reads.as-is 𝓤 H A (Mut.mslice e0· y6· 5), Mut.reads-mslice 𝓤 H A W e0· y6· 5, Path'.refl, (ShrSlice.spares-sslice 𝓤 H A W e0· y8· 1, Shared.reads-sslice 𝓤 H A W e0· y8· 1, Path'.refl, (ShrSlice.spares-sslice 𝓤 H A W e0· y9· 2, Shared.reads-sslice 𝓤 H A W e0· y9· 2, Path'.refl, ((Scalar.reads-sc 𝓤 H A W Row.sBool, Path'.refl), ((Yields.yields-copy 𝓤 H A W (λ ρ. Unit) (Declared.row Segment.the-type) Path'.refl (Copies.cStruct Segment.the-type Laws.the-laws Laws.the-copy .copy 𝓤 H A W) (Rows.whole (Declared.row Segment.the-type)) (λ x. x) (λ x. x) (λ ρ told. Local.mem-whole 𝓤 H A W (Declared.row Segment.the-type) ρ) λ ρ told. Local.whole-mem 𝓤 H A W (Declared.row Segment.the-type) ρ, Path'.refl), ((Scalar.reads-sc 𝓤 H A W (Row.sInt Syntax.w64), Path'.refl), tt)))))) (Reads.room-gone 𝓤 H A Syntax.tyUnit) (tt, (tt, (tt, tt))) Path'.refl) d12
 
           d14 : Typed.Typed 𝓤 H A 𝓣 E G18 b12 Δ3 at14
           d14 = Typed.g-pre 𝓤 H A W 𝓣 E G18 G19 b12 Δ3 (Typed.pass T18 T19 s15) at13 (Scalar.g-room 𝓤 H A W E G18 13 Syntax.tyPtr (Scalar.room-sc 𝓤 H A W Row.sPtr)) d13
 
           d15 : Typed.Typed 𝓤 H A 𝓣 E G17 b13 Δ3 at15
-          d15 = Typed.s-seq 𝓤 H A W 𝓣 E G17 G18 b9 b12 Δ3 (Typed.ask s14) at14 (Shared.t-shs-read 𝓤 H A W E 𝓣 Referent.fBool G17 4 13 9 3 y3· k3· (Rows.sc-here Row.sBool) Shared.byByte Bool'.false (λ x. x) (λ x. x) (Row.valS Row.sBool) (Row.sBool .of) (λ u. u .1 .1 .1 .1 .1 .1 .1 .0) (λ i o. Elements.at-byte o i) (Reads'.as-is 𝓤 H A (Rows.sslice (Referent.rtF Referent.fBool) y3· 3)) (Reads'.as-is 𝓤 H A (Rows.sc-here Row.sPtr)) (Reads'.room-gone 𝓤 H A Syntax.tyBool) (Scalar.holds-sc 𝓤 H A W Row.sBool) (λ u. Path'.refl) Path'.refl tt Path'.refl Path'.refl) d14
+          d15 = Typed.s-seq 𝓤 H A W 𝓣 E G17 G18 b9 b12 Δ3 (Typed.ask s14) at14 (Shared.t-shs-read 𝓤 H A W E 𝓣 Referent.fBool G17 4 13 9 3 y3· k3· (Rows.sc-here Row.sBool) Shared.byByte Bool'.false (λ x. x) (λ x. x) (Row.valS Row.sBool) (Row.sBool .of) (λ u. u .1 .1 .1 .1 .1 .1 .1 .0) (λ i o. Elements.at-byte o i) (Reads.as-is 𝓤 H A (Rows.sslice (Referent.rtF Referent.fBool) y3· 3)) (Reads.as-is 𝓤 H A (Rows.sc-here Row.sPtr)) (Reads.room-gone 𝓤 H A Syntax.tyBool) (Scalar.holds-sc 𝓤 H A W Row.sBool) (λ u. Path'.refl) Path'.refl tt Path'.refl Path'.refl) d14
 
           d16 : Typed.Typed 𝓤 H A 𝓣 E G16 b13 Δ3 at16
-          d16 = Typed.g-pre 𝓤 H A W 𝓣 E G16 G17 b13 Δ3 (Typed.give s13) at15 (Know.g-shs-known 𝓤 H A W Referent.fBool E G16 4 3 y3· k3· Bool'.false (λ x. x) tt (Reads'.as-is 𝓤 H A (Rows.sslice (Referent.rtF Referent.fBool) y3· 3)) Path'.refl tt) d15
+          d16 = Typed.g-pre 𝓤 H A W 𝓣 E G16 G17 b13 Δ3 (Typed.give s13) at15 (Know.g-shs-known 𝓤 H A W Referent.fBool E G16 4 3 y3· k3· Bool'.false (λ x. x) tt (Reads.as-is 𝓤 H A (Rows.sslice (Referent.rtF Referent.fBool) y3· 3)) Path'.refl tt) d15
 
           d17 : Typed.Typed 𝓤 H A 𝓣 E G15 b14 Δ3 at17
-          d17 = Typed.s-seq 𝓤 H A W 𝓣 E G15 G16 b8 b13 Δ3 (Typed.ask s12) at16 (Scalar.t-op2 𝓤 H A W E 𝓣 G15 Syntax.offset (Scalar.oFld 4 ((Syntax.field 0) ∷ []) y3· 0 Reads'.ptrVal) (Scalar.oAt 7 y0· (Row.valS (Row.sInt Syntax.w64))) 13 (Rows.sc-here Row.sPtr) Syntax.tyPtr (Row.valS Row.sPtr) (Row.sPtr .of) (Shared.reads-sslice-ptr 𝓤 H A W (Referent.rtF Referent.fBool) y3· 3 0 Path'.refl, Path'.refl) (Scalar.reads-sc 𝓤 H A W (Row.sInt Syntax.w64), Path'.refl) (Reads'.room-gone 𝓤 H A Syntax.tyPtr) (Scalar.holds-sc 𝓤 H A W Row.sPtr) Path'.refl (λ u. Path'.refl) λ u. tt) d16
+          d17 = Typed.s-seq 𝓤 H A W 𝓣 E G15 G16 b8 b13 Δ3 (Typed.ask s12) at16 (Scalar.t-op2 𝓤 H A W E 𝓣 G15 Syntax.offset (Scalar.oFld 4 ((Syntax.field 0) ∷ []) y3· 0 Reads.ptrVal) (Scalar.oAt 7 y0· (Row.valS (Row.sInt Syntax.w64))) 13 (Rows.sc-here Row.sPtr) Syntax.tyPtr (Row.valS Row.sPtr) (Row.sPtr .of) (Shared.reads-sslice-ptr 𝓤 H A W (Referent.rtF Referent.fBool) y3· 3 0 Path'.refl, Path'.refl) (Scalar.reads-sc 𝓤 H A W (Row.sInt Syntax.w64), Path'.refl) (Reads.room-gone 𝓤 H A Syntax.tyPtr) (Scalar.holds-sc 𝓤 H A W Row.sPtr) Path'.refl (λ u. Path'.refl) λ u. tt) d16
 
           d18 : Typed.Typed 𝓤 H A 𝓣 E G14 b15 Δ3 at18
-          d18 = Typed.s-seq 𝓤 H A W 𝓣 E G14 G15 b7 b14 Δ3 (Typed.ask s11) at17 (Relend.t-sl-aggregate 𝓤 H A W E e0· 𝓣 (Relend.asMut e0·) G14 11 12 5 y6· y6· (λ x. x) (Scalar.oFld 1 ((Syntax.field 1) ∷ []) y0· 8 λ v. Shared.lenV (v .0)) (Reads'.as-is 𝓤 H A (Relend.msptr e0· y6· 5)) (Reads'.room-gone 𝓤 H A y10·) (Relend.reads-owed-len 𝓤 H A W e0· y7· 0 5 k0· 8 Path'.refl, Path'.refl) Path'.refl Path'.refl λ b o k. tt) d17
+          d18 = Typed.s-seq 𝓤 H A W 𝓣 E G14 G15 b7 b14 Δ3 (Typed.ask s11) at17 (Relend.t-sl-aggregate 𝓤 H A W E e0· 𝓣 (Relend.asMut e0·) G14 11 12 5 y6· y6· (λ x. x) (Scalar.oFld 1 ((Syntax.field 1) ∷ []) y0· 8 λ v. Shared.lenV (v .0)) (Reads.as-is 𝓤 H A (Relend.msptr e0· y6· 5)) (Reads.room-gone 𝓤 H A y10·) (Relend.reads-owed-len 𝓤 H A W e0· y7· 0 5 k0· 8 Path'.refl, Path'.refl) Path'.refl Path'.refl λ b o k. tt) d17
 
           d19 : Typed.Typed 𝓤 H A 𝓣 E G13 b16 Δ3 at19
-          d19 = Typed.s-seq 𝓤 H A W 𝓣 E G13 G14 b6 b15 Δ3 (Typed.give s10) at18 (Relend.t-sl-relend 𝓤 H A W E e0· 𝓣 G13 1 11 0 5 y7· y6· k0· 0 (λ x. x) (Reads'.as-is 𝓤 H A (Mut.mslice e0· y7· 0)) (Reads'.room-gone 𝓤 H A y6·) Path'.refl tt Path'.refl Path'.refl Path'.refl λ b o. tt) d18
+          d19 = Typed.s-seq 𝓤 H A W 𝓣 E G13 G14 b6 b15 Δ3 (Typed.give s10) at18 (Relend.t-sl-relend 𝓤 H A W E e0· 𝓣 G13 1 11 0 5 y7· y6· k0· 0 (λ x. x) (Reads.as-is 𝓤 H A (Mut.mslice e0· y7· 0)) (Reads.room-gone 𝓤 H A y6·) Path'.refl tt Path'.refl Path'.refl Path'.refl λ b o. tt) d18
 
           d20 : Typed.Typed 𝓤 H A 𝓣 E G12 b16 Δ3 at20
           d20 = Typed.g-pre 𝓤 H A W 𝓣 E G12 G13 b16 Δ3 (λ Ψ. Ψ) at19 (Lifetime.g-begin 𝓤 H A W E G12 5 (tt, (tt, (tt, (tt, (tt, (tt, (tt, (tt, (tt, (tt, (tt, (tt, (tt, (tt, tt))))))))))))))) d19
 
           d21 : Typed.Typed 𝓤 H A 𝓣 E G9 b17 Δ3 at21
-          d21 = Typed.s-seq 𝓤 H A W 𝓣 E G9 G12 b5 b16 Δ3 (Typed.both s8) at20 (Plain.t-call-plain 𝓤 H A W 𝓣 1 ps·0 r·0 (claims· .0) (claims· .1) "layout::segment_at" (known .0) E (λ pos β. β) G9 (record { pos = 5; ty = Syntax.tyRef (Syntax.named 4) Syntax.imm (MEM·.pointee (Segment.the-row .written)); ref = λ x. x }, (Num.vAt 7 λ x. x, tt)) 8 (4 ∷ []) (Call.sub-id 𝓤 H A W (G9 .slots)) (ShrSlice.spares-sslice 𝓤 H A W Segment.the-row y4· 4, Shared.reads-sslice 𝓤 H A W Segment.the-row y4· 4, Path'.refl, ((Scalar.reads-sc 𝓤 H A W (Row.sInt Syntax.w64), Path'.refl), tt)) (Reads'.room-gone 𝓤 H A y5·) (tt, tt) Path'.refl) d20
+          d21 = Typed.s-seq 𝓤 H A W 𝓣 E G9 G12 b5 b16 Δ3 (Typed.both s8) at20 (Plain.t-call-plain 𝓤 H A W 𝓣 1 ps·0 r·0 (claims· .0) (claims· .1) "layout::segment_at" (known .0) E (λ pos β. β) G9 (record { pos = 5; ty = Syntax.tyRef (Syntax.named 4) Syntax.imm (MEM·.pointee (Segment.the-row .written)); ref = λ x. x }, (Num.vAt 7 λ x. x, tt)) 8 (4 ∷ []) (Call.sub-id 𝓤 H A W (G9 .slots)) (ShrSlice.spares-sslice 𝓤 H A W Segment.the-row y4· 4, Shared.reads-sslice 𝓤 H A W Segment.the-row y4· 4, Path'.refl, ((Scalar.reads-sc 𝓤 H A W (Row.sInt Syntax.w64), Path'.refl), tt)) (Reads.room-gone 𝓤 H A y5·) (tt, tt) Path'.refl) d20
 
           d22 : Typed.Typed 𝓤 H A 𝓣 E G8 b18 Δ3 at22
           d22 = Typed.t-seq 𝓤 H A W 𝓣 E G8 G9 b4 b17 Δ3 at4 at21 d4 d21
 
           d23 : Typed.Typed 𝓤 H A 𝓣 E G6 b19 Δ3 at23
-          d23 = Typed.s-seq 𝓤 H A W 𝓣 E G6 G8 b1 b18 Δ3 (Typed.ask s5) at22 (Scalar.t-op2 𝓤 H A W E 𝓣 G6 (Syntax.lt Syntax.unsigned) (Scalar.oAt 7 y0· (Row.valS (Row.sInt Syntax.w64))) (Scalar.oAt 6 y0· (Row.valS (Row.sInt Syntax.w64))) 9 (Rows.sc-here Row.sBool) Syntax.tyBool (Row.valS Row.sBool) (Row.sBool .of) (Scalar.reads-sc 𝓤 H A W (Row.sInt Syntax.w64), Path'.refl) (Scalar.reads-sc 𝓤 H A W (Row.sInt Syntax.w64), Path'.refl) (Reads'.room-gone 𝓤 H A Syntax.tyBool) (Scalar.holds-sc 𝓤 H A W Row.sBool) Path'.refl (λ u. Path'.refl) λ u. tt) d22
+          d23 = Typed.s-seq 𝓤 H A W 𝓣 E G6 G8 b1 b18 Δ3 (Typed.ask s5) at22 (Scalar.t-op2 𝓤 H A W E 𝓣 G6 (Syntax.lt Syntax.unsigned) (Scalar.oAt 7 y0· (Row.valS (Row.sInt Syntax.w64))) (Scalar.oAt 6 y0· (Row.valS (Row.sInt Syntax.w64))) 9 (Rows.sc-here Row.sBool) Syntax.tyBool (Row.valS Row.sBool) (Row.sBool .of) (Scalar.reads-sc 𝓤 H A W (Row.sInt Syntax.w64), Path'.refl) (Scalar.reads-sc 𝓤 H A W (Row.sInt Syntax.w64), Path'.refl) (Reads.room-gone 𝓤 H A Syntax.tyBool) (Scalar.holds-sc 𝓤 H A W Row.sBool) Path'.refl (λ u. Path'.refl) λ u. tt) d22
 
           d24 : Typed.Typed 𝓤 H A 𝓣 E G6 b20 Δ2 at24
           d24 = Typed.t-loop-by 𝓤 H A W 𝓣 E G6 b19 Δ2 put0 (λ u vs. Inv·0 (Row.get 1 (T6 .locals) u .now) (Row.get 2 (T6 .locals) u .now) (Row.get 3 (T6 .locals) u .now) (Row.get 4 (T6 .locals) u .now) (Row.get 5 (T6 .locals) u .now) (Row.get 6 (T6 .locals) u) (Row.get 7 (T6 .locals) u) (vs .0) (vs .1)) (λ u vs. μ·0 (Row.get 1 (T6 .locals) u .now) (Row.get 2 (T6 .locals) u .now) (Row.get 3 (T6 .locals) u .now) (Row.get 4 (T6 .locals) u .now) (Row.get 5 (T6 .locals) u .now) (Row.get 6 (T6 .locals) u) (Row.get 7 (T6 .locals) u) (vs .0) (vs .1)) at23 d23
@@ -898,25 +899,25 @@ module _ (claims· : Claims) where
           d28 = Typed.g-pre 𝓤 H A W 𝓣 E G29 G30 b23 Δ0 (Typed.pass T29 T30 s26) at27 (Scalar.g-room 𝓤 H A W E G29 7 y0· (Scalar.room-sc 𝓤 H A W (Row.sInt Syntax.w64))) d27
 
           d29 : Typed.Typed 𝓤 H A 𝓣 E G7 b24 Δ0 at29
-          d29 = Typed.s-seq 𝓤 H A W 𝓣 E G7 G29 b22 b23 Δ0 (Typed.pass T7 T29 s25) at28 (Scalar.t-use 𝓤 H A W E 𝓣 G7 Scalar.oUnit 0 (Rows.sc-here Row.sUnit) Syntax.tyUnit (Row.valS Row.sUnit) (Row.sUnit .of) tt (Reads'.room-gone 𝓤 H A Syntax.tyUnit) (Scalar.holds-sc 𝓤 H A W Row.sUnit) Path'.refl (λ u. Path'.refl) λ u. tt) d28
+          d29 = Typed.s-seq 𝓤 H A W 𝓣 E G7 G29 b22 b23 Δ0 (Typed.pass T7 T29 s25) at28 (Scalar.t-use 𝓤 H A W E 𝓣 G7 Scalar.oUnit 0 (Rows.sc-here Row.sUnit) Syntax.tyUnit (Row.valS Row.sUnit) (Row.sUnit .of) tt (Reads.room-gone 𝓤 H A Syntax.tyUnit) (Scalar.holds-sc 𝓤 H A W Row.sUnit) Path'.refl (λ u. Path'.refl) λ u. tt) d28
 
           d30 : Typed.Typed 𝓤 H A 𝓣 E G6 b25 Δ0 at30
           d30 = Typed.t-seq 𝓤 H A W 𝓣 E G6 G7 b21 b24 Δ0 at25 at29 d25 d29
 
           d31 : Typed.Typed 𝓤 H A 𝓣 E G5 b26 Δ0 at31
-          d31 = Typed.s-seq 𝓤 H A W 𝓣 E G5 G6 b0 b25 Δ0 (Typed.pass T5 T6 s4) at30 (Scalar.t-use 𝓤 H A W E 𝓣 G5 (Scalar.oInt Syntax.w64 0) 7 (Rows.sc-here (Row.sInt Syntax.w64)) y0· (Row.valS (Row.sInt Syntax.w64)) (Row.sInt Syntax.w64 .of) tt (Reads'.room-gone 𝓤 H A y0·) (Scalar.holds-sc 𝓤 H A W (Row.sInt Syntax.w64)) Path'.refl (λ u. Path'.refl) λ u. tt) d30
+          d31 = Typed.s-seq 𝓤 H A W 𝓣 E G5 G6 b0 b25 Δ0 (Typed.pass T5 T6 s4) at30 (Scalar.t-use 𝓤 H A W E 𝓣 G5 (Scalar.oInt Syntax.w64 0) 7 (Rows.sc-here (Row.sInt Syntax.w64)) y0· (Row.valS (Row.sInt Syntax.w64)) (Row.sInt Syntax.w64 .of) tt (Reads.room-gone 𝓤 H A y0·) (Scalar.holds-sc 𝓤 H A W (Row.sInt Syntax.w64)) Path'.refl (λ u. Path'.refl) λ u. tt) d30
 
           d32 : Typed.Typed 𝓤 H A 𝓣 E G4 b26 Δ0 at32
-          d32 = Typed.g-pre 𝓤 H A W 𝓣 E G4 G5 b26 Δ0 (Typed.give s3) at31 (Know.g-shs-known 𝓤 H A W Referent.fBool E G4 4 3 y3· k3· Bool'.false (λ x. x) tt (Reads'.as-is 𝓤 H A (Rows.sslice (Referent.rtF Referent.fBool) y3· 3)) Path'.refl tt) d31
+          d32 = Typed.g-pre 𝓤 H A W 𝓣 E G4 G5 b26 Δ0 (Typed.give s3) at31 (Know.g-shs-known 𝓤 H A W Referent.fBool E G4 4 3 y3· k3· Bool'.false (λ x. x) tt (Reads.as-is 𝓤 H A (Rows.sslice (Referent.rtF Referent.fBool) y3· 3)) Path'.refl tt) d31
 
           d33 : Typed.Typed 𝓤 H A 𝓣 E G3 b26 Δ0 at33
-          d33 = Typed.g-pre 𝓤 H A W 𝓣 E G3 G4 b26 Δ0 (Typed.give s2) at32 (Know.g-shs-known 𝓤 H A W (Referent.fInt Syntax.w8) E G3 3 2 y9· k2· 0 (λ x. x) record { fits = Dec'.lit< tt } (Reads'.as-is 𝓤 H A (Rows.sslice e0· y9· 2)) Path'.refl tt) d32
+          d33 = Typed.g-pre 𝓤 H A W 𝓣 E G3 G4 b26 Δ0 (Typed.give s2) at32 (Know.g-shs-known 𝓤 H A W (Referent.fInt Syntax.w8) E G3 3 2 y9· k2· 0 (λ x. x) record { fits = Dec'.lit< tt } (Reads.as-is 𝓤 H A (Rows.sslice e0· y9· 2)) Path'.refl tt) d32
 
           d34 : Typed.Typed 𝓤 H A 𝓣 E G2 b26 Δ0 at34
-          d34 = Typed.g-pre 𝓤 H A W 𝓣 E G2 G3 b26 Δ0 (Typed.give s1) at33 (Know.g-shs-known 𝓤 H A W (Referent.fInt Syntax.w8) E G2 2 1 y8· k1· 0 (λ x. x) record { fits = Dec'.lit< tt } (Reads'.as-is 𝓤 H A (Rows.sslice e0· y8· 1)) Path'.refl tt) d33
+          d34 = Typed.g-pre 𝓤 H A W 𝓣 E G2 G3 b26 Δ0 (Typed.give s1) at33 (Know.g-shs-known 𝓤 H A W (Referent.fInt Syntax.w8) E G2 2 1 y8· k1· 0 (λ x. x) record { fits = Dec'.lit< tt } (Reads.as-is 𝓤 H A (Rows.sslice e0· y8· 1)) Path'.refl tt) d33
 
           d35 : Typed.Typed 𝓤 H A 𝓣 E G0 b26 Δ0 at35
-          d35 = Typed.g-pre 𝓤 H A W 𝓣 E G0 G2 b26 Δ0 (Typed.give s0) at34 (Know.g-sl-known 𝓤 H A W (Referent.fInt Syntax.w8) E G0 1 0 y7· k0· 0 (λ x. x) record { fits = Dec'.lit< tt } (Reads'.as-is 𝓤 H A (Mut.mslice e0· y7· 0)) Path'.refl tt) d34
+          d35 = Typed.g-pre 𝓤 H A W 𝓣 E G0 G2 b26 Δ0 (Typed.give s0) at34 (Know.g-sl-known 𝓤 H A W (Referent.fInt Syntax.w8) E G0 1 0 y7· k0· 0 (λ x. x) record { fits = Dec'.lit< tt } (Reads.as-is 𝓤 H A (Mut.mslice e0· y7· 0)) Path'.refl tt) d34
 
           pub typed : Typed.Typed 𝓤 H A 𝓣 E (Function.Γin 5 ps r xs m κs qs) b26 (Function.Δret 5 ps r xs m κs qs) Φ
           typed = d35
@@ -1112,14 +1113,14 @@ module _ (claims· : Claims) where
 
       module _ (before· : After-shared-slice-known4) where
         abbrev pub After-patch-jump·own : Type 0
-        After-patch-jump·own = Called.Called ps·1 r·1 (claims· .3) T19 (record { pos = 12; ty = Syntax.tyRef Syntax.erased Syntax.mut y2·; ref = λ x. x }, (record { pos = 2; ty = Syntax.tyRef (Syntax.named 1) Syntax.imm y2·; ref = λ x. x }, (record { pos = 3; ty = Syntax.tyRef (Syntax.named 2) Syntax.imm y2·; ref = λ x. x }, (Bool.bAt 9 λ x. x, (Num.vFld 8 ((Syntax.field 3) ∷ []) 12 λ x. Segment.struct .as-values x .1 .1 .1 .0, (Num.vAt 7 λ x. x, tt)))))) (m16 (before· .before) (before· .shared-slice-known4 .given))
+        After-patch-jump·own = Called.Called ps·1 r·1 (claims· .3) T19 (record { pos = 12; ty = Syntax.tyRef Syntax.erased Syntax.mut y2·; ref = λ x. x }, (record { pos = 2; ty = Syntax.tyRef (Syntax.named 1) Syntax.imm y2·; ref = λ x. x }, (record { pos = 3; ty = Syntax.tyRef (Syntax.named 2) Syntax.imm y2·; ref = λ x. x }, (Bool.bAt 9 λ x. x, (record { pos = 8; st = List.[]; d = 0; at = λ x. x }, (Num.vAt 7 λ x. x, tt)))))) (m16 (before· .before) (before· .shared-slice-known4 .given))
 
       pub record After-patch-jump : Type 0 where
         pub before : After-shared-slice-known4
         pub patch-jump : After-patch-jump·own before
 
       abbrev pub After-patch-jump·gave : (c : After-patch-jump) → s16 .gives (m16 (c .before .before) (c .before .shared-slice-known4 .given))
-      After-patch-jump·gave = λ c. Called.given ps·1 r·1 (claims· .3) T19 (record { pos = 12; ty = Syntax.tyRef Syntax.erased Syntax.mut y2·; ref = λ x. x }, (record { pos = 2; ty = Syntax.tyRef (Syntax.named 1) Syntax.imm y2·; ref = λ x. x }, (record { pos = 3; ty = Syntax.tyRef (Syntax.named 2) Syntax.imm y2·; ref = λ x. x }, (Bool.bAt 9 λ x. x, (Num.vFld 8 ((Syntax.field 3) ∷ []) 12 λ x. Segment.struct .as-values x .1 .1 .1 .0, (Num.vAt 7 λ x. x, tt)))))) (m16 (c .before .before) (c .before .shared-slice-known4 .given)) (c .patch-jump)
+      After-patch-jump·gave = λ c. Called.given ps·1 r·1 (claims· .3) T19 (record { pos = 12; ty = Syntax.tyRef Syntax.erased Syntax.mut y2·; ref = λ x. x }, (record { pos = 2; ty = Syntax.tyRef (Syntax.named 1) Syntax.imm y2·; ref = λ x. x }, (record { pos = 3; ty = Syntax.tyRef (Syntax.named 2) Syntax.imm y2·; ref = λ x. x }, (Bool.bAt 9 λ x. x, (record { pos = 8; st = List.[]; d = 0; at = λ x. x }, (Num.vAt 7 λ x. x, tt)))))) (m16 (c .before .before) (c .before .shared-slice-known4 .given)) (c .patch-jump)
 
       abbrev pub m18 : (before : After-shared-slice-known4) → (given : s16 .gives (m16 (before .before) (before .shared-slice-known4 .given))) → Typed.Mo T21
       m18 = λ before given. s17 (m17 before given)
@@ -1187,7 +1188,7 @@ module _ (claims· : Claims) where
         lay5 = λ c. (Path'.refl, λ g. λ g'. (add-i record { before = record { before = record { before = c .before; patch-jump = c .patch-jump }; output = record { given = g } }; slice-known2 = record { given = g' } }, (μ·0 (Row.get 1 (T6 .locals) (m5 (c .before .before .before .before .before .before .before) (c .before .before .before .before .before .before .shared-slice-known3 .given)) .now) (Row.get 2 (T6 .locals) (m5 (c .before .before .before .before .before .before .before) (c .before .before .before .before .before .before .shared-slice-known3 .given)) .now) (Row.get 3 (T6 .locals) (m5 (c .before .before .before .before .before .before .before) (c .before .before .before .before .before .before .shared-slice-known3 .given)) .now) (Row.get 4 (T6 .locals) (m5 (c .before .before .before .before .before .before .before) (c .before .before .before .before .before .before .shared-slice-known3 .given)) .now) (Row.get 5 (T6 .locals) (m5 (c .before .before .before .before .before .before .before) (c .before .before .before .before .before .before .shared-slice-known3 .given)) .now) (Row.get 6 (T6 .locals) (m5 (c .before .before .before .before .before .before .before) (c .before .before .before .before .before .before .shared-slice-known3 .given))) (Row.get 7 (T6 .locals) (m5 (c .before .before .before .before .before .before .before) (c .before .before .before .before .before .before .shared-slice-known3 .given))) (Row.get 1 (T6 .locals) (m23 record { before = record { before = c .before; patch-jump = c .patch-jump }; output = record { given = g } } g') .now) (Row.get 7 (T6 .locals) (m23 record { before = record { before = c .before; patch-jump = c .patch-jump }; output = record { given = g } } g')), loop-less record { before = record { before = record { before = c .before; patch-jump = c .patch-jump }; output = record { given = g } }; slice-known2 = record { given = g' } }, ((Row.get 1 (T6 .locals) (m23 record { before = record { before = c .before; patch-jump = c .patch-jump }; output = record { given = g } } g') .now, Row.get 7 (T6 .locals) (m23 record { before = record { before = c .before; patch-jump = c .patch-jump }; output = record { given = g } } g')), Path'.refl {a = m23 record { before = record { before = c .before; patch-jump = c .patch-jump }; output = record { given = g } } g'}, loop-again record { before = record { before = record { before = c .before; patch-jump = c .patch-jump }; output = record { given = g } }; slice-known2 = record { given = g' } }, Path'.refl {a = μ·0 (Row.get 1 (T6 .locals) (m5 (c .before .before .before .before .before .before .before) (c .before .before .before .before .before .before .shared-slice-known3 .given)) .now) (Row.get 2 (T6 .locals) (m5 (c .before .before .before .before .before .before .before) (c .before .before .before .before .before .before .shared-slice-known3 .given)) .now) (Row.get 3 (T6 .locals) (m5 (c .before .before .before .before .before .before .before) (c .before .before .before .before .before .before .shared-slice-known3 .given)) .now) (Row.get 4 (T6 .locals) (m5 (c .before .before .before .before .before .before .before) (c .before .before .before .before .before .before .shared-slice-known3 .given)) .now) (Row.get 5 (T6 .locals) (m5 (c .before .before .before .before .before .before .before) (c .before .before .before .before .before .before .shared-slice-known3 .given)) .now) (Row.get 6 (T6 .locals) (m5 (c .before .before .before .before .before .before .before) (c .before .before .before .before .before .before .shared-slice-known3 .given))) (Row.get 7 (T6 .locals) (m5 (c .before .before .before .before .before .before .before) (c .before .before .before .before .before .before .shared-slice-known3 .given))) (Row.get 1 (T6 .locals) (m23 record { before = record { before = c .before; patch-jump = c .patch-jump }; output = record { given = g } } g') .now) (Row.get 7 (T6 .locals) (m23 record { before = record { before = c .before; patch-jump = c .patch-jump }; output = record { given = g } } g'))}))))
 
         lay4 : (c : After-segment-at) → at20 (W3 (c .before .before .before) (c .before .before .loop .output) (c .before .before .loop .i)) (m10 (c .before) (After-segment-at·gave c))
-        lay4 = λ c. λ g. (Path'.refl, (tt, λ g'. ((Path'.refl, Path'.refl, shared-slice-read-patch-jump record { before = record { before = record { before = c .before; segment-at = c .segment-at }; patch-jump-arg = record { given = g } }; shared-slice-known4 = record { given = g' } }), (patch-jump-requires record { before = record { before = record { before = c .before; segment-at = c .segment-at }; patch-jump-arg = record { given = g } }; shared-slice-known4 = record { given = g' } }, λ g''. lay5 record { before = record { before = record { before = record { before = c .before; segment-at = c .segment-at }; patch-jump-arg = record { given = g } }; shared-slice-known4 = record { given = g' } }; patch-jump = Called.called ps·1 r·1 (claims· .3) T19 (record { pos = 12; ty = Syntax.tyRef Syntax.erased Syntax.mut y2·; ref = λ x. x }, (record { pos = 2; ty = Syntax.tyRef (Syntax.named 1) Syntax.imm y2·; ref = λ x. x }, (record { pos = 3; ty = Syntax.tyRef (Syntax.named 2) Syntax.imm y2·; ref = λ x. x }, (Bool.bAt 9 λ x. x, (Num.vFld 8 ((Syntax.field 3) ∷ []) 12 λ x. Segment.struct .as-values x .1 .1 .1 .0, (Num.vAt 7 λ x. x, tt)))))) (m16 record { before = record { before = c .before; segment-at = c .segment-at }; patch-jump-arg = record { given = g } } g') g'' }))))
+        lay4 = λ c. λ g. (Path'.refl, (tt, λ g'. ((Path'.refl, Path'.refl, shared-slice-read-patch-jump record { before = record { before = record { before = c .before; segment-at = c .segment-at }; patch-jump-arg = record { given = g } }; shared-slice-known4 = record { given = g' } }), (patch-jump-requires record { before = record { before = record { before = c .before; segment-at = c .segment-at }; patch-jump-arg = record { given = g } }; shared-slice-known4 = record { given = g' } }, λ g''. lay5 record { before = record { before = record { before = record { before = c .before; segment-at = c .segment-at }; patch-jump-arg = record { given = g } }; shared-slice-known4 = record { given = g' } }; patch-jump = Called.called ps·1 r·1 (claims· .3) T19 (record { pos = 12; ty = Syntax.tyRef Syntax.erased Syntax.mut y2·; ref = λ x. x }, (record { pos = 2; ty = Syntax.tyRef (Syntax.named 1) Syntax.imm y2·; ref = λ x. x }, (record { pos = 3; ty = Syntax.tyRef (Syntax.named 2) Syntax.imm y2·; ref = λ x. x }, (Bool.bAt 9 λ x. x, (record { pos = 8; st = List.[]; d = 0; at = λ x. x }, (Num.vAt 7 λ x. x, tt)))))) (m16 record { before = record { before = c .before; segment-at = c .segment-at }; patch-jump-arg = record { given = g } } g') g'' }))))
 
         lay3 : (c : In-loop) → at21 (W3 (c .before .before) (c .before .loop .output) (c .before .loop .i)) (m8 (c .before))
         lay3 = λ c. (segment-at-requires record { before = c .before; loop-test = c .loop-test }, λ g. lay4 record { before = record { before = c .before; loop-test = c .loop-test }; segment-at = Called.called ps·0 r·0 (claims· .1) T9 (record { pos = 5; ty = Syntax.tyRef (Syntax.named 4) Syntax.imm (MEM·.pointee (Segment.the-row .written)); ref = λ x. x }, (Num.vAt 7 λ x. x, tt)) (m8 (c .before)) g })

@@ -234,145 +234,121 @@ abbrev pub r29· : Row.Entry
 r29· = (29, Rows.any-gone y21·)
 
 abbrev pub r30· : Row.Entry
-r30· = (30, Rows.any-gone y2·)
+r30· = (30, Rows.any-gone y8·)
 
 abbrev pub r31· : Row.Entry
-r31· = (31, Rows.any-gone y2·)
+r31· = (31, Rows.any-gone y21·)
 
 abbrev pub r32· : Row.Entry
-r32· = (32, Rows.any-gone y2·)
+r32· = (0, Rows.whole (Declared.row Finished.the-type))
 
 abbrev pub r33· : Row.Entry
-r33· = (33, Rows.any-gone y2·)
+r33· = (1, Rows.any-gone y5·)
 
 abbrev pub r34· : Row.Entry
-r34· = (34, Rows.any-gone y8·)
+r34· = (3, Relend.mslice-owed e0· y12· 1 10 Row.off)
 
 abbrev pub r35· : Row.Entry
-r35· = (35, Rows.any-gone y21·)
+r35· = (14, Relend.msptr e0· y8· 10)
 
 abbrev pub r36· : Row.Entry
-r36· = (0, Rows.whole (Declared.row Finished.the-type))
+r36· = (15, Mut.mslice e0· y8· 10)
 
 abbrev pub r37· : Row.Entry
-r37· = (1, Rows.any-gone y5·)
+r37· = (9, Reshare.mslice-owedS e0· y18· 7 11 Row.off)
 
 abbrev pub r38· : Row.Entry
-r38· = (3, Relend.mslice-owed e0· y12· 1 10 Row.off)
+r38· = (16, Relend.ssptr e0· y9· 11)
 
 abbrev pub r39· : Row.Entry
-r39· = (14, Relend.msptr e0· y8· 10)
+r39· = (17, Rows.sslice e0· y9· 11)
 
 abbrev pub r40· : Row.Entry
-r40· = (15, Mut.mslice e0· y8· 10)
+r40· = (18, Rows.sc-here (Row.sInt Syntax.w64))
 
 abbrev pub r41· : Row.Entry
-r41· = (9, Reshare.mslice-owedS e0· y18· 7 11 Row.off)
+r41· = (11, Relend.mslice-owed e0· y19· 9 12 Row.off)
 
 abbrev pub r42· : Row.Entry
-r42· = (16, Relend.ssptr e0· y9· 11)
+r42· = (19, Relend.msptr e0· y8· 12)
 
 abbrev pub r43· : Row.Entry
-r43· = (17, Rows.sslice e0· y9· 11)
+r43· = (20, Mut.mslice e0· y8· 12)
 
 abbrev pub r44· : Row.Entry
-r44· = (18, Rows.sc-here (Row.sInt Syntax.w64))
+r44· = (12, Rows.whole (Declared.row Begun.the-type))
 
 abbrev pub r45· : Row.Entry
-r45· = (11, Relend.mslice-owed e0· y19· 9 12 Row.off)
+r45· = (15, Mut.msleft e0· y8·)
 
 abbrev pub r46· : Row.Entry
-r46· = (19, Relend.msptr e0· y8· 12)
+r46· = (20, Mut.msleft e0· y8·)
 
 abbrev pub r47· : Row.Entry
-r47· = (20, Mut.mslice e0· y8· 12)
+r47· = (21, Rows.sc-here Row.sBool)
 
 abbrev pub r48· : Row.Entry
-r48· = (12, Rows.whole (Declared.row Begun.the-type))
+r48· = (3, Relend.mslice-owed e0· y12· 1 13 Row.off)
 
 abbrev pub r49· : Row.Entry
-r49· = (15, Mut.msleft e0· y8·)
+r49· = (22, Relend.msptr e0· y8· 13)
 
 abbrev pub r50· : Row.Entry
-r50· = (20, Mut.msleft e0· y8·)
+r50· = (23, Mut.mslice e0· y8· 13)
 
 abbrev pub r51· : Row.Entry
-r51· = (21, Rows.sc-here Row.sBool)
+r51· = (9, Relend.mslice-owed e0· y18· 7 14 Row.off)
 
 abbrev pub r52· : Row.Entry
-r52· = (3, Relend.mslice-owed e0· y12· 1 13 Row.off)
+r52· = (24, Relend.msptr e0· y8· 14)
 
 abbrev pub r53· : Row.Entry
-r53· = (22, Relend.msptr e0· y8· 13)
+r53· = (25, Mut.mslice e0· y8· 14)
 
 abbrev pub r54· : Row.Entry
-r54· = (23, Mut.mslice e0· y8· 13)
+r54· = (10, Relend.mslice-owed ROW·.the-row y4· 8 15 Row.off)
 
 abbrev pub r55· : Row.Entry
-r55· = (9, Relend.mslice-owed e0· y18· 7 14 Row.off)
+r55· = (26, Relend.msptr ROW·.the-row y3· 15)
 
 abbrev pub r56· : Row.Entry
-r56· = (24, Relend.msptr e0· y8· 14)
+r56· = (27, Mut.mslice ROW·.the-row y3· 15)
 
 abbrev pub r57· : Row.Entry
-r57· = (25, Mut.mslice e0· y8· 14)
+r57· = (11, Relend.mslice-owed e0· y19· 9 16 Row.off)
 
 abbrev pub r58· : Row.Entry
-r58· = (10, Relend.mslice-owed ROW·.the-row y4· 8 15 Row.off)
+r58· = (28, Relend.msptr e0· y8· 16)
 
 abbrev pub r59· : Row.Entry
-r59· = (26, Relend.msptr ROW·.the-row y3· 15)
+r59· = (29, Mut.mslice e0· y8· 16)
 
 abbrev pub r60· : Row.Entry
-r60· = (27, Mut.mslice ROW·.the-row y3· 15)
+r60· = (13, Rows.whole (Declared.row Outcome.the-type))
 
 abbrev pub r61· : Row.Entry
-r61· = (11, Relend.mslice-owed e0· y19· 9 16 Row.off)
+r61· = (23, Mut.msleft e0· y8·)
 
 abbrev pub r62· : Row.Entry
-r62· = (28, Relend.msptr e0· y8· 16)
+r62· = (25, Mut.msleft e0· y8·)
 
 abbrev pub r63· : Row.Entry
-r63· = (29, Mut.mslice e0· y8· 16)
+r63· = (27, Mut.msleft ROW·.the-row y3·)
 
 abbrev pub r64· : Row.Entry
-r64· = (30, Rows.sc-here (Row.sInt Syntax.w64))
+r64· = (29, Mut.msleft e0· y8·)
 
 abbrev pub r65· : Row.Entry
-r65· = (31, Rows.sc-here (Row.sInt Syntax.w64))
+r65· = (3, Relend.mslice-owed e0· y12· 1 17 Row.off)
 
 abbrev pub r66· : Row.Entry
-r66· = (32, Rows.sc-here (Row.sInt Syntax.w64))
+r66· = (30, Relend.msptr e0· y8· 17)
 
 abbrev pub r67· : Row.Entry
-r67· = (33, Rows.sc-here (Row.sInt Syntax.w64))
+r67· = (31, Mut.mslice e0· y8· 17)
 
 abbrev pub r68· : Row.Entry
-r68· = (13, Rows.whole (Declared.row Outcome.the-type))
-
-abbrev pub r69· : Row.Entry
-r69· = (23, Mut.msleft e0· y8·)
-
-abbrev pub r70· : Row.Entry
-r70· = (25, Mut.msleft e0· y8·)
-
-abbrev pub r71· : Row.Entry
-r71· = (27, Mut.msleft ROW·.the-row y3·)
-
-abbrev pub r72· : Row.Entry
-r72· = (29, Mut.msleft e0· y8·)
-
-abbrev pub r73· : Row.Entry
-r73· = (3, Relend.mslice-owed e0· y12· 1 17 Row.off)
-
-abbrev pub r74· : Row.Entry
-r74· = (34, Relend.msptr e0· y8· 17)
-
-abbrev pub r75· : Row.Entry
-r75· = (35, Mut.mslice e0· y8· 17)
-
-abbrev pub r76· : Row.Entry
-r76· = (35, Mut.msleft e0· y8·)
+r68· = (31, Mut.msleft e0· y8·)
 
 abbrev pub ps : List.List (Kinds.PK 10)
 ps = (Value.pVal record { ty = Declared.row CodeBuffer.the-type; one = Path'.refl; val = Laws'4.val CodeBuffer.the-type Laws.the-laws; tells = Laws'4.tells CodeBuffer.the-type Laws.the-laws; still = Laws'4.still CodeBuffer.the-type Laws.the-copy Exit.yes; row = Rows.whole (Declared.row CodeBuffer.the-type); rd = λ x. x; mk = λ x. x } λ M 𝓤 H A W. record { copies = Laws'4.copy CodeBuffer.the-type Laws.the-copy 𝓤 H A W; lawful = Laws'4.lawful CodeBuffer.the-type Laws.the-laws 𝓤 H A W; makes = Laws'4.makes CodeBuffer.the-type Laws.the-plain 𝓤 H A; in-mem = Local.mem-whole 𝓤 H A W (Declared.row CodeBuffer.the-type); of-mem = Local.whole-mem 𝓤 H A W (Declared.row CodeBuffer.the-type) }) ∷ (ShrSlice.pShrS e0· 0 tt) ∷ (MutSlice.pMutS e0· 1 tt) ∷ (ShrSlice.pShrS e0· 2 tt) ∷ (ShrSlice.pShrS e0· 3 tt) ∷ (ShrSlice.pShrS e0· 4 tt) ∷ (ShrSlice.pShrS e0· 5 tt) ∷ (ShrSlice.pShrS e0· 6 tt) ∷ (MutSlice.pMutS e0· 7 tt) ∷ (MutSlice.pMutS ROW·.the-row 8 tt) ∷ (MutSlice.pMutS e0· 9 tt) ∷ []
@@ -381,7 +357,7 @@ abbrev pub r : Kinds.RK 10
 r = Value.rVal record { ty = Declared.row Finished.the-type; one = Path'.refl; val = Laws'4.val Finished.the-type Laws''.the-laws; tells = Laws'4.tells Finished.the-type Laws''.the-laws; still = Laws'4.still Finished.the-type Laws''.the-copy Exit.yes; row = Rows.whole (Declared.row Finished.the-type); rd = λ x. x; mk = λ x. x } λ M 𝓤 H A W. record { copies = Laws'4.copy Finished.the-type Laws''.the-copy 𝓤 H A W; lawful = Laws'4.lawful Finished.the-type Laws''.the-laws 𝓤 H A W; makes = Laws'4.makes Finished.the-type Laws''.the-plain 𝓤 H A; in-mem = Local.mem-whole 𝓤 H A W (Declared.row Finished.the-type); of-mem = Local.whole-mem 𝓤 H A W (Declared.row Finished.the-type) }
 
 abbrev pub xs : List.List Syntax.Ty
-xs = y23· ∷ y7· ∷ y8· ∷ y21· ∷ y9· ∷ y22· ∷ y2· ∷ y8· ∷ y21· ∷ Syntax.tyBool ∷ y8· ∷ y21· ∷ y8· ∷ y21· ∷ y3· ∷ y10· ∷ y8· ∷ y21· ∷ y2· ∷ y2· ∷ y2· ∷ y2· ∷ y8· ∷ y21· ∷ []
+xs = y23· ∷ y7· ∷ y8· ∷ y21· ∷ y9· ∷ y22· ∷ y2· ∷ y8· ∷ y21· ∷ Syntax.tyBool ∷ y8· ∷ y21· ∷ y8· ∷ y21· ∷ y3· ∷ y10· ∷ y8· ∷ y21· ∷ y8· ∷ y21· ∷ []
 
 abbrev pub m : Nat.ℕ
 m = 8
@@ -393,7 +369,7 @@ abbrev pub r·0 : Kinds.RK 9
 r·0 = Value.rVal record { ty = Declared.row Begun.the-type; one = Path'.refl; val = Laws'4.val Begun.the-type Laws'.the-laws; tells = Laws'4.tells Begun.the-type Laws'.the-laws; still = Laws'4.still Begun.the-type Laws'.the-copy Exit.yes; row = Rows.whole (Declared.row Begun.the-type); rd = λ x. x; mk = λ x. x } λ M 𝓤 H A W. record { copies = Laws'4.copy Begun.the-type Laws'.the-copy 𝓤 H A W; lawful = Laws'4.lawful Begun.the-type Laws'.the-laws 𝓤 H A W; makes = Laws'4.makes Begun.the-type Laws'.the-plain 𝓤 H A; in-mem = Local.mem-whole 𝓤 H A W (Declared.row Begun.the-type); of-mem = Local.whole-mem 𝓤 H A W (Declared.row Begun.the-type) }
 
 abbrev pub ps·1 : List.List (Kinds.PK 9)
-ps·1 = (ShrSlice.pShrS e0· 0 tt) ∷ (MutSlice.pMutS e0· 1 tt) ∷ (ShrSlice.pShrS e0· 2 tt) ∷ (ShrSlice.pShrS e0· 3 tt) ∷ (ShrSlice.pShrS e0· 4 tt) ∷ (ShrSlice.pShrS e0· 5 tt) ∷ (MutSlice.pMutS e0· 6 tt) ∷ (MutSlice.pMutS ROW·.the-row 7 tt) ∷ (MutSlice.pMutS e0· 8 tt) ∷ (Num.pNum Syntax.w32) ∷ (Num.pNum Syntax.w64) ∷ (Num.pNum Syntax.w64) ∷ (Num.pNum Syntax.w64) ∷ (Num.pNum Syntax.w64) ∷ (Num.pNum Syntax.w64) ∷ []
+ps·1 = (Value.pVal record { ty = Declared.row CodeBuffer.the-type; one = Path'.refl; val = Laws'4.val CodeBuffer.the-type Laws.the-laws; tells = Laws'4.tells CodeBuffer.the-type Laws.the-laws; still = Laws'4.still CodeBuffer.the-type Laws.the-copy Exit.yes; row = Rows.whole (Declared.row CodeBuffer.the-type); rd = λ x. x; mk = λ x. x } λ M 𝓤 H A W. record { copies = Laws'4.copy CodeBuffer.the-type Laws.the-copy 𝓤 H A W; lawful = Laws'4.lawful CodeBuffer.the-type Laws.the-laws 𝓤 H A W; makes = Laws'4.makes CodeBuffer.the-type Laws.the-plain 𝓤 H A; in-mem = Local.mem-whole 𝓤 H A W (Declared.row CodeBuffer.the-type); of-mem = Local.whole-mem 𝓤 H A W (Declared.row CodeBuffer.the-type) }) ∷ (ShrSlice.pShrS e0· 0 tt) ∷ (MutSlice.pMutS e0· 1 tt) ∷ (ShrSlice.pShrS e0· 2 tt) ∷ (ShrSlice.pShrS e0· 3 tt) ∷ (ShrSlice.pShrS e0· 4 tt) ∷ (ShrSlice.pShrS e0· 5 tt) ∷ (MutSlice.pMutS e0· 6 tt) ∷ (MutSlice.pMutS ROW·.the-row 7 tt) ∷ (MutSlice.pMutS e0· 8 tt) ∷ []
 
 abbrev pub r·1 : Kinds.RK 9
 r·1 = Value.rVal record { ty = Declared.row Outcome.the-type; one = Path'.refl; val = Laws'4.val Outcome.the-type Laws'3.the-laws; tells = Laws'4.tells Outcome.the-type Laws'3.the-laws; still = Laws'4.still Outcome.the-type Laws'3.the-copy Exit.yes; row = Rows.whole (Declared.row Outcome.the-type); rd = λ x. x; mk = λ x. x } λ M 𝓤 H A W. record { copies = Laws'4.copy Outcome.the-type Laws'3.the-copy 𝓤 H A W; lawful = Laws'4.lawful Outcome.the-type Laws'3.the-laws 𝓤 H A W; makes = Laws'4.makes Outcome.the-type Laws'3.the-plain 𝓤 H A; in-mem = Local.mem-whole 𝓤 H A W (Declared.row Outcome.the-type); of-mem = Local.whole-mem 𝓤 H A W (Declared.row Outcome.the-type) }
@@ -405,7 +381,7 @@ abbrev pub r·2 : Kinds.RK 3
 r·2 = Value.rVal record { ty = Declared.row Finished.the-type; one = Path'.refl; val = Laws'4.val Finished.the-type Laws''.the-laws; tells = Laws'4.tells Finished.the-type Laws''.the-laws; still = Laws'4.still Finished.the-type Laws''.the-copy Exit.yes; row = Rows.whole (Declared.row Finished.the-type); rd = λ x. x; mk = λ x. x } λ M 𝓤 H A W. record { copies = Laws'4.copy Finished.the-type Laws''.the-copy 𝓤 H A W; lawful = Laws'4.lawful Finished.the-type Laws''.the-laws 𝓤 H A W; makes = Laws'4.makes Finished.the-type Laws''.the-plain 𝓤 H A; in-mem = Local.mem-whole 𝓤 H A W (Declared.row Finished.the-type); of-mem = Local.whole-mem 𝓤 H A W (Declared.row Finished.the-type) }
 
 abbrev pub hs : List.List Syntax.Home
-hs = Syntax.valueLocal ∷ Syntax.valueLocal ∷ Syntax.valueLocal ∷ Syntax.valueLocal ∷ Syntax.valueLocal ∷ Syntax.valueLocal ∷ Syntax.valueLocal ∷ Syntax.valueLocal ∷ Syntax.valueLocal ∷ Syntax.valueLocal ∷ Syntax.valueLocal ∷ Syntax.valueLocal ∷ Syntax.valueLocal ∷ Syntax.valueLocal ∷ Syntax.valueLocal ∷ Syntax.valueLocal ∷ Syntax.valueLocal ∷ Syntax.valueLocal ∷ Syntax.valueLocal ∷ Syntax.valueLocal ∷ Syntax.valueLocal ∷ Syntax.valueLocal ∷ Syntax.valueLocal ∷ Syntax.valueLocal ∷ Syntax.valueLocal ∷ Syntax.valueLocal ∷ Syntax.valueLocal ∷ Syntax.valueLocal ∷ Syntax.valueLocal ∷ Syntax.valueLocal ∷ Syntax.valueLocal ∷ Syntax.valueLocal ∷ Syntax.valueLocal ∷ Syntax.valueLocal ∷ Syntax.valueLocal ∷ Syntax.valueLocal ∷ []
+hs = Syntax.valueLocal ∷ Syntax.valueLocal ∷ Syntax.valueLocal ∷ Syntax.valueLocal ∷ Syntax.valueLocal ∷ Syntax.valueLocal ∷ Syntax.valueLocal ∷ Syntax.valueLocal ∷ Syntax.valueLocal ∷ Syntax.valueLocal ∷ Syntax.valueLocal ∷ Syntax.valueLocal ∷ Syntax.valueLocal ∷ Syntax.valueLocal ∷ Syntax.valueLocal ∷ Syntax.valueLocal ∷ Syntax.valueLocal ∷ Syntax.valueLocal ∷ Syntax.valueLocal ∷ Syntax.valueLocal ∷ Syntax.valueLocal ∷ Syntax.valueLocal ∷ Syntax.valueLocal ∷ Syntax.valueLocal ∷ Syntax.valueLocal ∷ Syntax.valueLocal ∷ Syntax.valueLocal ∷ Syntax.valueLocal ∷ Syntax.valueLocal ∷ Syntax.valueLocal ∷ Syntax.valueLocal ∷ Syntax.valueLocal ∷ []
 
 abbrev b0 : Syntax.Body
 b0 = Syntax.assign (Syntax.place 14 List.[]) (Syntax.addrOf (Syntax.place 3 ((Syntax.field 0) ∷ (Syntax.deref y1·) ∷ [])))
@@ -474,118 +450,88 @@ abbrev b21 : Syntax.Body
 b21 = Syntax.assign (Syntax.place 29 List.[]) (Syntax.aggregate ((Syntax.copy (Syntax.place 28 List.[])) ∷ (Syntax.copy (Syntax.place 11 ((Syntax.field 1) ∷ []))) ∷ []))
 
 abbrev b22 : Syntax.Body
-b22 = Syntax.assign (Syntax.place 18 List.[]) (Syntax.op1 (Syntax.cast Syntax.unsigned Syntax.unsigned Syntax.w64) (Syntax.copy (Syntax.place 1 ((Syntax.field 5) ∷ []))))
+b22 = Syntax.call "finish::pooled::relaxed" ((Syntax.copy (Syntax.place 1 List.[])) ∷ (Syntax.copy (Syntax.place 2 List.[])) ∷ (Syntax.copy (Syntax.place 23 List.[])) ∷ (Syntax.copy (Syntax.place 4 List.[])) ∷ (Syntax.copy (Syntax.place 6 List.[])) ∷ (Syntax.copy (Syntax.place 7 List.[])) ∷ (Syntax.copy (Syntax.place 8 List.[])) ∷ (Syntax.copy (Syntax.place 25 List.[])) ∷ (Syntax.copy (Syntax.place 27 List.[])) ∷ (Syntax.copy (Syntax.place 29 List.[])) ∷ []) (Syntax.place 13 List.[])
 
 abbrev b23 : Syntax.Body
-b23 = Syntax.assign (Syntax.place 30 List.[]) (Syntax.op1 (Syntax.cast Syntax.unsigned Syntax.unsigned Syntax.w64) (Syntax.copy (Syntax.place 1 ((Syntax.field 6) ∷ []))))
+b23 = Syntax.assign (Syntax.place 30 List.[]) (Syntax.addrOf (Syntax.place 3 ((Syntax.field 0) ∷ (Syntax.deref y1·) ∷ [])))
 
 abbrev b24 : Syntax.Body
-b24 = Syntax.assign (Syntax.place 31 List.[]) (Syntax.op1 (Syntax.cast Syntax.unsigned Syntax.unsigned Syntax.w64) (Syntax.copy (Syntax.place 1 ((Syntax.field 10) ∷ []))))
+b24 = Syntax.assign (Syntax.place 31 List.[]) (Syntax.aggregate ((Syntax.copy (Syntax.place 30 List.[])) ∷ (Syntax.copy (Syntax.place 3 ((Syntax.field 1) ∷ []))) ∷ []))
 
 abbrev b25 : Syntax.Body
-b25 = Syntax.assign (Syntax.place 32 List.[]) (Syntax.op1 (Syntax.cast Syntax.unsigned Syntax.unsigned Syntax.w64) (Syntax.copy (Syntax.place 1 ((Syntax.field 8) ∷ []))))
+b25 = Syntax.call "finish::conclude" ((Syntax.copy (Syntax.place 1 List.[])) ∷ (Syntax.copy (Syntax.place 31 List.[])) ∷ (Syntax.copy (Syntax.place 7 List.[])) ∷ (Syntax.copy (Syntax.place 8 List.[])) ∷ (Syntax.copy (Syntax.place 13 List.[])) ∷ []) (Syntax.place 0 List.[])
 
 abbrev b26 : Syntax.Body
-b26 = Syntax.assign (Syntax.place 33 List.[]) (Syntax.op1 (Syntax.cast Syntax.unsigned Syntax.unsigned Syntax.w64) (Syntax.copy (Syntax.place 1 ((Syntax.field 11) ∷ []))))
+b26 = Syntax.return
 
 abbrev b27 : Syntax.Body
-b27 = Syntax.call "finish::pooled::relaxed" ((Syntax.copy (Syntax.place 2 List.[])) ∷ (Syntax.copy (Syntax.place 23 List.[])) ∷ (Syntax.copy (Syntax.place 4 List.[])) ∷ (Syntax.copy (Syntax.place 6 List.[])) ∷ (Syntax.copy (Syntax.place 7 List.[])) ∷ (Syntax.copy (Syntax.place 8 List.[])) ∷ (Syntax.copy (Syntax.place 25 List.[])) ∷ (Syntax.copy (Syntax.place 27 List.[])) ∷ (Syntax.copy (Syntax.place 29 List.[])) ∷ (Syntax.copy (Syntax.place 1 ((Syntax.field 4) ∷ []))) ∷ (Syntax.copy (Syntax.place 18 List.[])) ∷ (Syntax.copy (Syntax.place 30 List.[])) ∷ (Syntax.copy (Syntax.place 31 List.[])) ∷ (Syntax.copy (Syntax.place 32 List.[])) ∷ (Syntax.copy (Syntax.place 33 List.[])) ∷ []) (Syntax.place 13 List.[])
+b27 = Syntax.seq b25 b26
 
 abbrev b28 : Syntax.Body
-b28 = Syntax.assign (Syntax.place 34 List.[]) (Syntax.addrOf (Syntax.place 3 ((Syntax.field 0) ∷ (Syntax.deref y1·) ∷ [])))
+b28 = Syntax.seq b24 b27
 
 abbrev b29 : Syntax.Body
-b29 = Syntax.assign (Syntax.place 35 List.[]) (Syntax.aggregate ((Syntax.copy (Syntax.place 34 List.[])) ∷ (Syntax.copy (Syntax.place 3 ((Syntax.field 1) ∷ []))) ∷ []))
+b29 = Syntax.seq b23 b28
 
 abbrev b30 : Syntax.Body
-b30 = Syntax.call "finish::conclude" ((Syntax.copy (Syntax.place 1 List.[])) ∷ (Syntax.copy (Syntax.place 35 List.[])) ∷ (Syntax.copy (Syntax.place 7 List.[])) ∷ (Syntax.copy (Syntax.place 8 List.[])) ∷ (Syntax.copy (Syntax.place 13 List.[])) ∷ []) (Syntax.place 0 List.[])
+b30 = Syntax.seq b22 b29
 
 abbrev b31 : Syntax.Body
-b31 = Syntax.return
+b31 = Syntax.seq b21 b30
 
 abbrev b32 : Syntax.Body
-b32 = Syntax.seq b30 b31
+b32 = Syntax.seq b20 b31
 
 abbrev b33 : Syntax.Body
-b33 = Syntax.seq b29 b32
+b33 = Syntax.seq b19 b32
 
 abbrev b34 : Syntax.Body
-b34 = Syntax.seq b28 b33
+b34 = Syntax.seq b18 b33
 
 abbrev b35 : Syntax.Body
-b35 = Syntax.seq b27 b34
+b35 = Syntax.seq b17 b34
 
 abbrev b36 : Syntax.Body
-b36 = Syntax.seq b26 b35
+b36 = Syntax.seq b16 b35
 
 abbrev b37 : Syntax.Body
-b37 = Syntax.seq b25 b36
+b37 = Syntax.seq b15 b36
 
 abbrev b38 : Syntax.Body
-b38 = Syntax.seq b24 b37
+b38 = Syntax.seq b14 b37
 
 abbrev b39 : Syntax.Body
-b39 = Syntax.seq b23 b38
+b39 = Syntax.seq b13 b38
 
 abbrev b40 : Syntax.Body
-b40 = Syntax.seq b22 b39
+b40 = Syntax.seq b8 b39
 
 abbrev b41 : Syntax.Body
-b41 = Syntax.seq b21 b40
+b41 = Syntax.seq b7 b40
 
 abbrev b42 : Syntax.Body
-b42 = Syntax.seq b20 b41
+b42 = Syntax.seq b6 b41
 
 abbrev b43 : Syntax.Body
-b43 = Syntax.seq b19 b42
+b43 = Syntax.seq b5 b42
 
 abbrev b44 : Syntax.Body
-b44 = Syntax.seq b18 b43
+b44 = Syntax.seq b4 b43
 
 abbrev b45 : Syntax.Body
-b45 = Syntax.seq b17 b44
+b45 = Syntax.seq b3 b44
 
 abbrev b46 : Syntax.Body
-b46 = Syntax.seq b16 b45
+b46 = Syntax.seq b2 b45
 
 abbrev b47 : Syntax.Body
-b47 = Syntax.seq b15 b46
+b47 = Syntax.seq b1 b46
 
 abbrev b48 : Syntax.Body
-b48 = Syntax.seq b14 b47
-
-abbrev b49 : Syntax.Body
-b49 = Syntax.seq b13 b48
-
-abbrev b50 : Syntax.Body
-b50 = Syntax.seq b8 b49
-
-abbrev b51 : Syntax.Body
-b51 = Syntax.seq b7 b50
-
-abbrev b52 : Syntax.Body
-b52 = Syntax.seq b6 b51
-
-abbrev b53 : Syntax.Body
-b53 = Syntax.seq b5 b52
-
-abbrev b54 : Syntax.Body
-b54 = Syntax.seq b4 b53
-
-abbrev b55 : Syntax.Body
-b55 = Syntax.seq b3 b54
-
-abbrev b56 : Syntax.Body
-b56 = Syntax.seq b2 b55
-
-abbrev b57 : Syntax.Body
-b57 = Syntax.seq b1 b56
-
-abbrev b58 : Syntax.Body
-b58 = Syntax.seq b0 b57
+b48 = Syntax.seq b0 b47
 
 abbrev pub body : Syntax.Body
-body = b58
+body = b48
 
 abbrev pub Claims : Type 1
 Claims = Kinds.In 9 ps·0 × Kinds.Out 9 ps·0 r·0 × Kinds.In 9 ps·1 × Kinds.Out 9 ps·1 r·1 × Kinds.In 3 ps·2 × Kinds.Out 3 ps·2 r·2
@@ -597,397 +543,322 @@ abbrev pub t1 : List.List Row.Entry
 t1 = r16· ∷ r17· ∷ r18· ∷ r19· ∷ r20· ∷ r21· ∷ r22· ∷ r23· ∷ r24· ∷ r25· ∷ r26· ∷ r27· ∷ r28· ∷ r29· ∷ r30· ∷ r31· ∷ []
 
 abbrev pub t2 : List.List Row.Entry
-t2 = r32· ∷ r33· ∷ r34· ∷ r35· ∷ []
+t2 = r32· ∷ r33· ∷ r2· ∷ r3· ∷ r4· ∷ r5· ∷ r6· ∷ r7· ∷ r8· ∷ r9· ∷ r10· ∷ r11· ∷ r12· ∷ r13· ∷ r14· ∷ r15· ∷ []
 
 abbrev pub t3 : List.List Row.Entry
-t3 = r36· ∷ r37· ∷ r2· ∷ r3· ∷ r4· ∷ r5· ∷ r6· ∷ r7· ∷ r8· ∷ r9· ∷ r10· ∷ r11· ∷ r12· ∷ r13· ∷ r14· ∷ r15· ∷ []
+t3 = r0· ∷ r1· ∷ r2· ∷ r34· ∷ r4· ∷ r5· ∷ r6· ∷ r7· ∷ r8· ∷ r9· ∷ r10· ∷ r11· ∷ r12· ∷ r13· ∷ r35· ∷ r15· ∷ []
 
 abbrev pub t4 : List.List Row.Entry
-t4 = r0· ∷ r1· ∷ r2· ∷ r38· ∷ r4· ∷ r5· ∷ r6· ∷ r7· ∷ r8· ∷ r9· ∷ r10· ∷ r11· ∷ r12· ∷ r13· ∷ r39· ∷ r15· ∷ []
+t4 = r0· ∷ r1· ∷ r2· ∷ r34· ∷ r4· ∷ r5· ∷ r6· ∷ r7· ∷ r8· ∷ r9· ∷ r10· ∷ r11· ∷ r12· ∷ r13· ∷ r14· ∷ r36· ∷ []
 
 abbrev pub t5 : List.List Row.Entry
-t5 = r0· ∷ r1· ∷ r2· ∷ r38· ∷ r4· ∷ r5· ∷ r6· ∷ r7· ∷ r8· ∷ r9· ∷ r10· ∷ r11· ∷ r12· ∷ r13· ∷ r14· ∷ r40· ∷ []
+t5 = r0· ∷ r1· ∷ r2· ∷ r34· ∷ r4· ∷ r5· ∷ r6· ∷ r7· ∷ r8· ∷ r37· ∷ r10· ∷ r11· ∷ r12· ∷ r13· ∷ r14· ∷ r36· ∷ []
 
 abbrev pub t6 : List.List Row.Entry
-t6 = r0· ∷ r1· ∷ r2· ∷ r38· ∷ r4· ∷ r5· ∷ r6· ∷ r7· ∷ r8· ∷ r41· ∷ r10· ∷ r11· ∷ r12· ∷ r13· ∷ r14· ∷ r40· ∷ []
+t6 = r38· ∷ r17· ∷ r18· ∷ r19· ∷ r20· ∷ r21· ∷ r22· ∷ r23· ∷ r24· ∷ r25· ∷ r26· ∷ r27· ∷ r28· ∷ r29· ∷ r30· ∷ r31· ∷ []
 
 abbrev pub t7 : List.List Row.Entry
-t7 = r42· ∷ r17· ∷ r18· ∷ r19· ∷ r20· ∷ r21· ∷ r22· ∷ r23· ∷ r24· ∷ r25· ∷ r26· ∷ r27· ∷ r28· ∷ r29· ∷ r30· ∷ r31· ∷ []
+t7 = r16· ∷ r39· ∷ r18· ∷ r19· ∷ r20· ∷ r21· ∷ r22· ∷ r23· ∷ r24· ∷ r25· ∷ r26· ∷ r27· ∷ r28· ∷ r29· ∷ r30· ∷ r31· ∷ []
 
 abbrev pub t8 : List.List Row.Entry
-t8 = r16· ∷ r43· ∷ r18· ∷ r19· ∷ r20· ∷ r21· ∷ r22· ∷ r23· ∷ r24· ∷ r25· ∷ r26· ∷ r27· ∷ r28· ∷ r29· ∷ r30· ∷ r31· ∷ []
+t8 = r16· ∷ r39· ∷ r40· ∷ r19· ∷ r20· ∷ r21· ∷ r22· ∷ r23· ∷ r24· ∷ r25· ∷ r26· ∷ r27· ∷ r28· ∷ r29· ∷ r30· ∷ r31· ∷ []
 
 abbrev pub t9 : List.List Row.Entry
-t9 = r16· ∷ r43· ∷ r44· ∷ r19· ∷ r20· ∷ r21· ∷ r22· ∷ r23· ∷ r24· ∷ r25· ∷ r26· ∷ r27· ∷ r28· ∷ r29· ∷ r30· ∷ r31· ∷ []
+t9 = r0· ∷ r1· ∷ r2· ∷ r34· ∷ r4· ∷ r5· ∷ r6· ∷ r7· ∷ r8· ∷ r37· ∷ r10· ∷ r41· ∷ r12· ∷ r13· ∷ r14· ∷ r36· ∷ []
 
 abbrev pub t10 : List.List Row.Entry
-t10 = r0· ∷ r1· ∷ r2· ∷ r38· ∷ r4· ∷ r5· ∷ r6· ∷ r7· ∷ r8· ∷ r41· ∷ r10· ∷ r45· ∷ r12· ∷ r13· ∷ r14· ∷ r40· ∷ []
+t10 = r16· ∷ r39· ∷ r40· ∷ r42· ∷ r20· ∷ r21· ∷ r22· ∷ r23· ∷ r24· ∷ r25· ∷ r26· ∷ r27· ∷ r28· ∷ r29· ∷ r30· ∷ r31· ∷ []
 
 abbrev pub t11 : List.List Row.Entry
-t11 = r16· ∷ r43· ∷ r44· ∷ r46· ∷ r20· ∷ r21· ∷ r22· ∷ r23· ∷ r24· ∷ r25· ∷ r26· ∷ r27· ∷ r28· ∷ r29· ∷ r30· ∷ r31· ∷ []
+t11 = r16· ∷ r39· ∷ r40· ∷ r19· ∷ r43· ∷ r21· ∷ r22· ∷ r23· ∷ r24· ∷ r25· ∷ r26· ∷ r27· ∷ r28· ∷ r29· ∷ r30· ∷ r31· ∷ []
 
 abbrev pub t12 : List.List Row.Entry
-t12 = r16· ∷ r43· ∷ r44· ∷ r19· ∷ r47· ∷ r21· ∷ r22· ∷ r23· ∷ r24· ∷ r25· ∷ r26· ∷ r27· ∷ r28· ∷ r29· ∷ r30· ∷ r31· ∷ []
+t12 = r0· ∷ r1· ∷ r2· ∷ r34· ∷ r4· ∷ r5· ∷ r6· ∷ r7· ∷ r8· ∷ r37· ∷ r10· ∷ r41· ∷ r44· ∷ r13· ∷ r14· ∷ r45· ∷ []
 
 abbrev pub t13 : List.List Row.Entry
-t13 = r0· ∷ r1· ∷ r2· ∷ r38· ∷ r4· ∷ r5· ∷ r6· ∷ r7· ∷ r8· ∷ r41· ∷ r10· ∷ r45· ∷ r48· ∷ r13· ∷ r14· ∷ r49· ∷ []
+t13 = r16· ∷ r39· ∷ r40· ∷ r19· ∷ r46· ∷ r21· ∷ r22· ∷ r23· ∷ r24· ∷ r25· ∷ r26· ∷ r27· ∷ r28· ∷ r29· ∷ r30· ∷ r31· ∷ []
 
 abbrev pub t14 : List.List Row.Entry
-t14 = r16· ∷ r43· ∷ r44· ∷ r19· ∷ r50· ∷ r21· ∷ r22· ∷ r23· ∷ r24· ∷ r25· ∷ r26· ∷ r27· ∷ r28· ∷ r29· ∷ r30· ∷ r31· ∷ []
+t14 = r16· ∷ r17· ∷ r40· ∷ r19· ∷ r46· ∷ r21· ∷ r22· ∷ r23· ∷ r24· ∷ r25· ∷ r26· ∷ r27· ∷ r28· ∷ r29· ∷ r30· ∷ r31· ∷ []
 
 abbrev pub t15 : List.List Row.Entry
-t15 = r16· ∷ r17· ∷ r44· ∷ r19· ∷ r50· ∷ r21· ∷ r22· ∷ r23· ∷ r24· ∷ r25· ∷ r26· ∷ r27· ∷ r28· ∷ r29· ∷ r30· ∷ r31· ∷ []
+t15 = r16· ∷ r17· ∷ r18· ∷ r19· ∷ r46· ∷ r21· ∷ r22· ∷ r23· ∷ r24· ∷ r25· ∷ r26· ∷ r27· ∷ r28· ∷ r29· ∷ r30· ∷ r31· ∷ []
 
 abbrev pub t16 : List.List Row.Entry
-t16 = r16· ∷ r17· ∷ r18· ∷ r19· ∷ r50· ∷ r21· ∷ r22· ∷ r23· ∷ r24· ∷ r25· ∷ r26· ∷ r27· ∷ r28· ∷ r29· ∷ r30· ∷ r31· ∷ []
+t16 = r0· ∷ r1· ∷ r2· ∷ r3· ∷ r4· ∷ r5· ∷ r6· ∷ r7· ∷ r8· ∷ r37· ∷ r10· ∷ r41· ∷ r44· ∷ r13· ∷ r14· ∷ r15· ∷ []
 
 abbrev pub t17 : List.List Row.Entry
-t17 = r0· ∷ r1· ∷ r2· ∷ r3· ∷ r4· ∷ r5· ∷ r6· ∷ r7· ∷ r8· ∷ r41· ∷ r10· ∷ r45· ∷ r48· ∷ r13· ∷ r14· ∷ r15· ∷ []
+t17 = r0· ∷ r1· ∷ r2· ∷ r3· ∷ r4· ∷ r5· ∷ r6· ∷ r7· ∷ r8· ∷ r9· ∷ r10· ∷ r41· ∷ r44· ∷ r13· ∷ r14· ∷ r15· ∷ []
 
 abbrev pub t18 : List.List Row.Entry
-t18 = r0· ∷ r1· ∷ r2· ∷ r3· ∷ r4· ∷ r5· ∷ r6· ∷ r7· ∷ r8· ∷ r9· ∷ r10· ∷ r45· ∷ r48· ∷ r13· ∷ r14· ∷ r15· ∷ []
+t18 = r0· ∷ r1· ∷ r2· ∷ r3· ∷ r4· ∷ r5· ∷ r6· ∷ r7· ∷ r8· ∷ r9· ∷ r10· ∷ r11· ∷ r44· ∷ r13· ∷ r14· ∷ r15· ∷ []
 
 abbrev pub t19 : List.List Row.Entry
-t19 = r0· ∷ r1· ∷ r2· ∷ r3· ∷ r4· ∷ r5· ∷ r6· ∷ r7· ∷ r8· ∷ r9· ∷ r10· ∷ r11· ∷ r48· ∷ r13· ∷ r14· ∷ r15· ∷ []
+t19 = r16· ∷ r17· ∷ r18· ∷ r19· ∷ r20· ∷ r47· ∷ r22· ∷ r23· ∷ r24· ∷ r25· ∷ r26· ∷ r27· ∷ r28· ∷ r29· ∷ r30· ∷ r31· ∷ []
 
 abbrev pub t20 : List.List Row.Entry
-t20 = r16· ∷ r17· ∷ r18· ∷ r19· ∷ r20· ∷ r51· ∷ r22· ∷ r23· ∷ r24· ∷ r25· ∷ r26· ∷ r27· ∷ r28· ∷ r29· ∷ r30· ∷ r31· ∷ []
+t20 = r0· ∷ r33· ∷ r2· ∷ r3· ∷ r4· ∷ r5· ∷ r6· ∷ r7· ∷ r8· ∷ r9· ∷ r10· ∷ r11· ∷ r44· ∷ r13· ∷ r14· ∷ r15· ∷ []
 
 abbrev pub t21 : List.List Row.Entry
-t21 = r0· ∷ r37· ∷ r2· ∷ r3· ∷ r4· ∷ r5· ∷ r6· ∷ r7· ∷ r8· ∷ r9· ∷ r10· ∷ r11· ∷ r48· ∷ r13· ∷ r14· ∷ r15· ∷ []
+t21 = r32· ∷ r33· ∷ r2· ∷ r3· ∷ r4· ∷ r5· ∷ r6· ∷ r7· ∷ r8· ∷ r9· ∷ r10· ∷ r11· ∷ r44· ∷ r13· ∷ r14· ∷ r15· ∷ []
 
 abbrev pub t22 : List.List Row.Entry
-t22 = r36· ∷ r37· ∷ r2· ∷ r3· ∷ r4· ∷ r5· ∷ r6· ∷ r7· ∷ r8· ∷ r9· ∷ r10· ∷ r11· ∷ r48· ∷ r13· ∷ r14· ∷ r15· ∷ []
+t22 = r0· ∷ r1· ∷ r2· ∷ r48· ∷ r4· ∷ r5· ∷ r6· ∷ r7· ∷ r8· ∷ r9· ∷ r10· ∷ r11· ∷ r12· ∷ r13· ∷ r14· ∷ r15· ∷ []
 
 abbrev pub t23 : List.List Row.Entry
-t23 = r0· ∷ r1· ∷ r2· ∷ r52· ∷ r4· ∷ r5· ∷ r6· ∷ r7· ∷ r8· ∷ r9· ∷ r10· ∷ r11· ∷ r12· ∷ r13· ∷ r14· ∷ r15· ∷ []
+t23 = r16· ∷ r17· ∷ r18· ∷ r19· ∷ r20· ∷ r21· ∷ r49· ∷ r23· ∷ r24· ∷ r25· ∷ r26· ∷ r27· ∷ r28· ∷ r29· ∷ r30· ∷ r31· ∷ []
 
 abbrev pub t24 : List.List Row.Entry
-t24 = r16· ∷ r17· ∷ r18· ∷ r19· ∷ r20· ∷ r21· ∷ r53· ∷ r23· ∷ r24· ∷ r25· ∷ r26· ∷ r27· ∷ r28· ∷ r29· ∷ r30· ∷ r31· ∷ []
+t24 = r16· ∷ r17· ∷ r18· ∷ r19· ∷ r20· ∷ r21· ∷ r22· ∷ r50· ∷ r24· ∷ r25· ∷ r26· ∷ r27· ∷ r28· ∷ r29· ∷ r30· ∷ r31· ∷ []
 
 abbrev pub t25 : List.List Row.Entry
-t25 = r16· ∷ r17· ∷ r18· ∷ r19· ∷ r20· ∷ r21· ∷ r22· ∷ r54· ∷ r24· ∷ r25· ∷ r26· ∷ r27· ∷ r28· ∷ r29· ∷ r30· ∷ r31· ∷ []
+t25 = r0· ∷ r1· ∷ r2· ∷ r48· ∷ r4· ∷ r5· ∷ r6· ∷ r7· ∷ r8· ∷ r51· ∷ r10· ∷ r11· ∷ r12· ∷ r13· ∷ r14· ∷ r15· ∷ []
 
 abbrev pub t26 : List.List Row.Entry
-t26 = r0· ∷ r1· ∷ r2· ∷ r52· ∷ r4· ∷ r5· ∷ r6· ∷ r7· ∷ r8· ∷ r55· ∷ r10· ∷ r11· ∷ r12· ∷ r13· ∷ r14· ∷ r15· ∷ []
+t26 = r16· ∷ r17· ∷ r18· ∷ r19· ∷ r20· ∷ r21· ∷ r22· ∷ r50· ∷ r52· ∷ r25· ∷ r26· ∷ r27· ∷ r28· ∷ r29· ∷ r30· ∷ r31· ∷ []
 
 abbrev pub t27 : List.List Row.Entry
-t27 = r16· ∷ r17· ∷ r18· ∷ r19· ∷ r20· ∷ r21· ∷ r22· ∷ r54· ∷ r56· ∷ r25· ∷ r26· ∷ r27· ∷ r28· ∷ r29· ∷ r30· ∷ r31· ∷ []
+t27 = r16· ∷ r17· ∷ r18· ∷ r19· ∷ r20· ∷ r21· ∷ r22· ∷ r50· ∷ r24· ∷ r53· ∷ r26· ∷ r27· ∷ r28· ∷ r29· ∷ r30· ∷ r31· ∷ []
 
 abbrev pub t28 : List.List Row.Entry
-t28 = r16· ∷ r17· ∷ r18· ∷ r19· ∷ r20· ∷ r21· ∷ r22· ∷ r54· ∷ r24· ∷ r57· ∷ r26· ∷ r27· ∷ r28· ∷ r29· ∷ r30· ∷ r31· ∷ []
+t28 = r0· ∷ r1· ∷ r2· ∷ r48· ∷ r4· ∷ r5· ∷ r6· ∷ r7· ∷ r8· ∷ r51· ∷ r54· ∷ r11· ∷ r12· ∷ r13· ∷ r14· ∷ r15· ∷ []
 
 abbrev pub t29 : List.List Row.Entry
-t29 = r0· ∷ r1· ∷ r2· ∷ r52· ∷ r4· ∷ r5· ∷ r6· ∷ r7· ∷ r8· ∷ r55· ∷ r58· ∷ r11· ∷ r12· ∷ r13· ∷ r14· ∷ r15· ∷ []
+t29 = r16· ∷ r17· ∷ r18· ∷ r19· ∷ r20· ∷ r21· ∷ r22· ∷ r50· ∷ r24· ∷ r53· ∷ r55· ∷ r27· ∷ r28· ∷ r29· ∷ r30· ∷ r31· ∷ []
 
 abbrev pub t30 : List.List Row.Entry
-t30 = r16· ∷ r17· ∷ r18· ∷ r19· ∷ r20· ∷ r21· ∷ r22· ∷ r54· ∷ r24· ∷ r57· ∷ r59· ∷ r27· ∷ r28· ∷ r29· ∷ r30· ∷ r31· ∷ []
+t30 = r16· ∷ r17· ∷ r18· ∷ r19· ∷ r20· ∷ r21· ∷ r22· ∷ r50· ∷ r24· ∷ r53· ∷ r26· ∷ r56· ∷ r28· ∷ r29· ∷ r30· ∷ r31· ∷ []
 
 abbrev pub t31 : List.List Row.Entry
-t31 = r16· ∷ r17· ∷ r18· ∷ r19· ∷ r20· ∷ r21· ∷ r22· ∷ r54· ∷ r24· ∷ r57· ∷ r26· ∷ r60· ∷ r28· ∷ r29· ∷ r30· ∷ r31· ∷ []
+t31 = r0· ∷ r1· ∷ r2· ∷ r48· ∷ r4· ∷ r5· ∷ r6· ∷ r7· ∷ r8· ∷ r51· ∷ r54· ∷ r57· ∷ r12· ∷ r13· ∷ r14· ∷ r15· ∷ []
 
 abbrev pub t32 : List.List Row.Entry
-t32 = r0· ∷ r1· ∷ r2· ∷ r52· ∷ r4· ∷ r5· ∷ r6· ∷ r7· ∷ r8· ∷ r55· ∷ r58· ∷ r61· ∷ r12· ∷ r13· ∷ r14· ∷ r15· ∷ []
+t32 = r16· ∷ r17· ∷ r18· ∷ r19· ∷ r20· ∷ r21· ∷ r22· ∷ r50· ∷ r24· ∷ r53· ∷ r26· ∷ r56· ∷ r58· ∷ r29· ∷ r30· ∷ r31· ∷ []
 
 abbrev pub t33 : List.List Row.Entry
-t33 = r16· ∷ r17· ∷ r18· ∷ r19· ∷ r20· ∷ r21· ∷ r22· ∷ r54· ∷ r24· ∷ r57· ∷ r26· ∷ r60· ∷ r62· ∷ r29· ∷ r30· ∷ r31· ∷ []
+t33 = r16· ∷ r17· ∷ r18· ∷ r19· ∷ r20· ∷ r21· ∷ r22· ∷ r50· ∷ r24· ∷ r53· ∷ r26· ∷ r56· ∷ r28· ∷ r59· ∷ r30· ∷ r31· ∷ []
 
 abbrev pub t34 : List.List Row.Entry
-t34 = r16· ∷ r17· ∷ r18· ∷ r19· ∷ r20· ∷ r21· ∷ r22· ∷ r54· ∷ r24· ∷ r57· ∷ r26· ∷ r60· ∷ r28· ∷ r63· ∷ r30· ∷ r31· ∷ []
+t34 = r0· ∷ r1· ∷ r2· ∷ r48· ∷ r4· ∷ r5· ∷ r6· ∷ r7· ∷ r8· ∷ r51· ∷ r54· ∷ r57· ∷ r12· ∷ r60· ∷ r14· ∷ r15· ∷ []
 
 abbrev pub t35 : List.List Row.Entry
-t35 = r16· ∷ r17· ∷ r44· ∷ r19· ∷ r20· ∷ r21· ∷ r22· ∷ r54· ∷ r24· ∷ r57· ∷ r26· ∷ r60· ∷ r28· ∷ r63· ∷ r30· ∷ r31· ∷ []
+t35 = r16· ∷ r17· ∷ r18· ∷ r19· ∷ r20· ∷ r21· ∷ r22· ∷ r61· ∷ r24· ∷ r62· ∷ r26· ∷ r63· ∷ r28· ∷ r64· ∷ r30· ∷ r31· ∷ []
 
 abbrev pub t36 : List.List Row.Entry
-t36 = r16· ∷ r17· ∷ r44· ∷ r19· ∷ r20· ∷ r21· ∷ r22· ∷ r54· ∷ r24· ∷ r57· ∷ r26· ∷ r60· ∷ r28· ∷ r63· ∷ r64· ∷ r31· ∷ []
+t36 = r0· ∷ r1· ∷ r2· ∷ r3· ∷ r4· ∷ r5· ∷ r6· ∷ r7· ∷ r8· ∷ r51· ∷ r54· ∷ r57· ∷ r12· ∷ r60· ∷ r14· ∷ r15· ∷ []
 
 abbrev pub t37 : List.List Row.Entry
-t37 = r16· ∷ r17· ∷ r44· ∷ r19· ∷ r20· ∷ r21· ∷ r22· ∷ r54· ∷ r24· ∷ r57· ∷ r26· ∷ r60· ∷ r28· ∷ r63· ∷ r64· ∷ r65· ∷ []
+t37 = r16· ∷ r17· ∷ r18· ∷ r19· ∷ r20· ∷ r21· ∷ r22· ∷ r23· ∷ r24· ∷ r62· ∷ r26· ∷ r63· ∷ r28· ∷ r64· ∷ r30· ∷ r31· ∷ []
 
 abbrev pub t38 : List.List Row.Entry
-t38 = r66· ∷ r33· ∷ r34· ∷ r35· ∷ []
+t38 = r0· ∷ r1· ∷ r2· ∷ r3· ∷ r4· ∷ r5· ∷ r6· ∷ r7· ∷ r8· ∷ r9· ∷ r54· ∷ r57· ∷ r12· ∷ r60· ∷ r14· ∷ r15· ∷ []
 
 abbrev pub t39 : List.List Row.Entry
-t39 = r66· ∷ r67· ∷ r34· ∷ r35· ∷ []
+t39 = r16· ∷ r17· ∷ r18· ∷ r19· ∷ r20· ∷ r21· ∷ r22· ∷ r23· ∷ r24· ∷ r25· ∷ r26· ∷ r63· ∷ r28· ∷ r64· ∷ r30· ∷ r31· ∷ []
 
 abbrev pub t40 : List.List Row.Entry
-t40 = r0· ∷ r1· ∷ r2· ∷ r52· ∷ r4· ∷ r5· ∷ r6· ∷ r7· ∷ r8· ∷ r55· ∷ r58· ∷ r61· ∷ r12· ∷ r68· ∷ r14· ∷ r15· ∷ []
+t40 = r0· ∷ r1· ∷ r2· ∷ r3· ∷ r4· ∷ r5· ∷ r6· ∷ r7· ∷ r8· ∷ r9· ∷ r10· ∷ r57· ∷ r12· ∷ r60· ∷ r14· ∷ r15· ∷ []
 
 abbrev pub t41 : List.List Row.Entry
-t41 = r16· ∷ r17· ∷ r44· ∷ r19· ∷ r20· ∷ r21· ∷ r22· ∷ r69· ∷ r24· ∷ r70· ∷ r26· ∷ r71· ∷ r28· ∷ r72· ∷ r64· ∷ r65· ∷ []
+t41 = r16· ∷ r17· ∷ r18· ∷ r19· ∷ r20· ∷ r21· ∷ r22· ∷ r23· ∷ r24· ∷ r25· ∷ r26· ∷ r27· ∷ r28· ∷ r64· ∷ r30· ∷ r31· ∷ []
 
 abbrev pub t42 : List.List Row.Entry
-t42 = r16· ∷ r17· ∷ r18· ∷ r19· ∷ r20· ∷ r21· ∷ r22· ∷ r69· ∷ r24· ∷ r70· ∷ r26· ∷ r71· ∷ r28· ∷ r72· ∷ r64· ∷ r65· ∷ []
+t42 = r0· ∷ r1· ∷ r2· ∷ r3· ∷ r4· ∷ r5· ∷ r6· ∷ r7· ∷ r8· ∷ r9· ∷ r10· ∷ r11· ∷ r12· ∷ r60· ∷ r14· ∷ r15· ∷ []
 
 abbrev pub t43 : List.List Row.Entry
-t43 = r16· ∷ r17· ∷ r18· ∷ r19· ∷ r20· ∷ r21· ∷ r22· ∷ r69· ∷ r24· ∷ r70· ∷ r26· ∷ r71· ∷ r28· ∷ r72· ∷ r30· ∷ r65· ∷ []
+t43 = r0· ∷ r1· ∷ r2· ∷ r65· ∷ r4· ∷ r5· ∷ r6· ∷ r7· ∷ r8· ∷ r9· ∷ r10· ∷ r11· ∷ r12· ∷ r60· ∷ r14· ∷ r15· ∷ []
 
 abbrev pub t44 : List.List Row.Entry
-t44 = r16· ∷ r17· ∷ r18· ∷ r19· ∷ r20· ∷ r21· ∷ r22· ∷ r69· ∷ r24· ∷ r70· ∷ r26· ∷ r71· ∷ r28· ∷ r72· ∷ r30· ∷ r31· ∷ []
+t44 = r16· ∷ r17· ∷ r18· ∷ r19· ∷ r20· ∷ r21· ∷ r22· ∷ r23· ∷ r24· ∷ r25· ∷ r26· ∷ r27· ∷ r28· ∷ r29· ∷ r66· ∷ r31· ∷ []
 
 abbrev pub t45 : List.List Row.Entry
-t45 = r32· ∷ r67· ∷ r34· ∷ r35· ∷ []
+t45 = r16· ∷ r17· ∷ r18· ∷ r19· ∷ r20· ∷ r21· ∷ r22· ∷ r23· ∷ r24· ∷ r25· ∷ r26· ∷ r27· ∷ r28· ∷ r29· ∷ r30· ∷ r67· ∷ []
 
 abbrev pub t46 : List.List Row.Entry
-t46 = r0· ∷ r1· ∷ r2· ∷ r3· ∷ r4· ∷ r5· ∷ r6· ∷ r7· ∷ r8· ∷ r55· ∷ r58· ∷ r61· ∷ r12· ∷ r68· ∷ r14· ∷ r15· ∷ []
+t46 = r32· ∷ r1· ∷ r2· ∷ r65· ∷ r4· ∷ r5· ∷ r6· ∷ r7· ∷ r8· ∷ r9· ∷ r10· ∷ r11· ∷ r12· ∷ r60· ∷ r14· ∷ r15· ∷ []
 
 abbrev pub t47 : List.List Row.Entry
-t47 = r16· ∷ r17· ∷ r18· ∷ r19· ∷ r20· ∷ r21· ∷ r22· ∷ r23· ∷ r24· ∷ r70· ∷ r26· ∷ r71· ∷ r28· ∷ r72· ∷ r30· ∷ r31· ∷ []
+t47 = r16· ∷ r17· ∷ r18· ∷ r19· ∷ r20· ∷ r21· ∷ r22· ∷ r23· ∷ r24· ∷ r25· ∷ r26· ∷ r27· ∷ r28· ∷ r29· ∷ r30· ∷ r68· ∷ []
 
 abbrev pub t48 : List.List Row.Entry
-t48 = r0· ∷ r1· ∷ r2· ∷ r3· ∷ r4· ∷ r5· ∷ r6· ∷ r7· ∷ r8· ∷ r9· ∷ r58· ∷ r61· ∷ r12· ∷ r68· ∷ r14· ∷ r15· ∷ []
+t48 = r32· ∷ r33· ∷ r2· ∷ r65· ∷ r4· ∷ r5· ∷ r6· ∷ r7· ∷ r8· ∷ r9· ∷ r10· ∷ r11· ∷ r12· ∷ r60· ∷ r14· ∷ r15· ∷ []
 
 abbrev pub t49 : List.List Row.Entry
-t49 = r16· ∷ r17· ∷ r18· ∷ r19· ∷ r20· ∷ r21· ∷ r22· ∷ r23· ∷ r24· ∷ r25· ∷ r26· ∷ r71· ∷ r28· ∷ r72· ∷ r30· ∷ r31· ∷ []
-
-abbrev pub t50 : List.List Row.Entry
-t50 = r0· ∷ r1· ∷ r2· ∷ r3· ∷ r4· ∷ r5· ∷ r6· ∷ r7· ∷ r8· ∷ r9· ∷ r10· ∷ r61· ∷ r12· ∷ r68· ∷ r14· ∷ r15· ∷ []
-
-abbrev pub t51 : List.List Row.Entry
-t51 = r16· ∷ r17· ∷ r18· ∷ r19· ∷ r20· ∷ r21· ∷ r22· ∷ r23· ∷ r24· ∷ r25· ∷ r26· ∷ r27· ∷ r28· ∷ r72· ∷ r30· ∷ r31· ∷ []
-
-abbrev pub t52 : List.List Row.Entry
-t52 = r0· ∷ r1· ∷ r2· ∷ r3· ∷ r4· ∷ r5· ∷ r6· ∷ r7· ∷ r8· ∷ r9· ∷ r10· ∷ r11· ∷ r12· ∷ r68· ∷ r14· ∷ r15· ∷ []
-
-abbrev pub t53 : List.List Row.Entry
-t53 = r0· ∷ r1· ∷ r2· ∷ r73· ∷ r4· ∷ r5· ∷ r6· ∷ r7· ∷ r8· ∷ r9· ∷ r10· ∷ r11· ∷ r12· ∷ r68· ∷ r14· ∷ r15· ∷ []
-
-abbrev pub t54 : List.List Row.Entry
-t54 = r32· ∷ r33· ∷ r74· ∷ r35· ∷ []
-
-abbrev pub t55 : List.List Row.Entry
-t55 = r32· ∷ r33· ∷ r34· ∷ r75· ∷ []
-
-abbrev pub t56 : List.List Row.Entry
-t56 = r36· ∷ r1· ∷ r2· ∷ r73· ∷ r4· ∷ r5· ∷ r6· ∷ r7· ∷ r8· ∷ r9· ∷ r10· ∷ r11· ∷ r12· ∷ r68· ∷ r14· ∷ r15· ∷ []
-
-abbrev pub t57 : List.List Row.Entry
-t57 = r32· ∷ r33· ∷ r34· ∷ r76· ∷ []
-
-abbrev pub t58 : List.List Row.Entry
-t58 = r36· ∷ r37· ∷ r2· ∷ r73· ∷ r4· ∷ r5· ∷ r6· ∷ r7· ∷ r8· ∷ r9· ∷ r10· ∷ r11· ∷ r12· ∷ r68· ∷ r14· ∷ r15· ∷ []
-
-abbrev pub t59 : List.List Row.Entry
-t59 = r36· ∷ r37· ∷ r2· ∷ r73· ∷ r4· ∷ r5· ∷ r6· ∷ r7· ∷ r8· ∷ r9· ∷ r10· ∷ r11· ∷ r12· ∷ r13· ∷ r14· ∷ r15· ∷ []
+t49 = r32· ∷ r33· ∷ r2· ∷ r65· ∷ r4· ∷ r5· ∷ r6· ∷ r7· ∷ r8· ∷ r9· ∷ r10· ∷ r11· ∷ r12· ∷ r13· ∷ r14· ∷ r15· ∷ []
 
 abbrev pub T0 : Row.Cx
-T0 = record { locals = List._++_ t0 (List._++_ t1 t2); slots = List.[] }
+T0 = record { locals = List._++_ t0 t1; slots = List.[] }
 
 abbrev pub T1 : Row.Cx
-T1 = record { locals = List._++_ t3 (List._++_ t1 t2); slots = List.[] }
+T1 = record { locals = List._++_ t2 t1; slots = List.[] }
 
 abbrev pub T2 : Row.Cx
-T2 = record { locals = List._++_ t0 (List._++_ t1 t2); slots = List.[] }
+T2 = record { locals = List._++_ t0 t1; slots = List.[] }
 
 abbrev pub T3 : Row.Cx
-T3 = record { locals = List._++_ t0 (List._++_ t1 t2); slots = List.[] }
+T3 = record { locals = List._++_ t0 t1; slots = List.[] }
 
 abbrev pub T4 : Row.Cx
-T4 = record { locals = List._++_ t0 (List._++_ t1 t2); slots = List.[] }
+T4 = record { locals = List._++_ t0 t1; slots = List.[] }
 
 abbrev pub T5 : Row.Cx
-T5 = record { locals = List._++_ t0 (List._++_ t1 t2); slots = List.[] }
+T5 = record { locals = List._++_ t0 t1; slots = List.[] }
 
 abbrev pub T6 : Row.Cx
-T6 = record { locals = List._++_ t0 (List._++_ t1 t2); slots = List.[] }
+T6 = record { locals = List._++_ t0 t1; slots = List.[] }
 
 abbrev pub T7 : Row.Cx
-T7 = record { locals = List._++_ t0 (List._++_ t1 t2); slots = List.[] }
+T7 = record { locals = List._++_ t0 t1; slots = List.[] }
 
 abbrev pub T8 : Row.Cx
-T8 = record { locals = List._++_ t0 (List._++_ t1 t2); slots = List.[] }
+T8 = record { locals = List._++_ t0 t1; slots = List.[] }
 
 abbrev pub T9 : Row.Cx
-T9 = record { locals = List._++_ t0 (List._++_ t1 t2); slots = List.[] }
+T9 = record { locals = List._++_ t0 t1; slots = List.[] }
 
 abbrev pub T10 : Row.Cx
-T10 = record { locals = List._++_ t0 (List._++_ t1 t2); slots = List.[] }
+T10 = record { locals = List._++_ t0 t1; slots = List.[] }
 
 abbrev pub T12 : Row.Cx
-T12 = record { locals = List._++_ t4 (List._++_ t1 t2); slots = List.[] }
+T12 = record { locals = List._++_ t3 t1; slots = List.[] }
 
 abbrev pub T13 : Row.Cx
-T13 = record { locals = List._++_ t5 (List._++_ t1 t2); slots = List.[] }
+T13 = record { locals = List._++_ t4 t1; slots = List.[] }
 
 abbrev pub T15 : Row.Cx
-T15 = record { locals = List._++_ t6 (List._++_ t7 t2); slots = List.[] }
+T15 = record { locals = List._++_ t5 t6; slots = List.[] }
 
 abbrev pub T16 : Row.Cx
-T16 = record { locals = List._++_ t6 (List._++_ t8 t2); slots = List.[] }
+T16 = record { locals = List._++_ t5 t7; slots = List.[] }
 
 abbrev pub T17 : Row.Cx
-T17 = record { locals = List._++_ t6 (List._++_ t9 t2); slots = List.[] }
+T17 = record { locals = List._++_ t5 t8; slots = List.[] }
 
 abbrev pub T19 : Row.Cx
-T19 = record { locals = List._++_ t10 (List._++_ t11 t2); slots = List.[] }
+T19 = record { locals = List._++_ t9 t10; slots = List.[] }
 
 abbrev pub T20 : Row.Cx
-T20 = record { locals = List._++_ t10 (List._++_ t12 t2); slots = List.[] }
+T20 = record { locals = List._++_ t9 t11; slots = List.[] }
 
 abbrev pub T21 : Row.Cx
-T21 = record { locals = List._++_ t13 (List._++_ t14 t2); slots = List.[] }
+T21 = record { locals = List._++_ t12 t13; slots = List.[] }
 
 abbrev pub T22 : Row.Cx
-T22 = record { locals = List._++_ t13 (List._++_ t15 t2); slots = List.[] }
+T22 = record { locals = List._++_ t12 t14; slots = List.[] }
 
 abbrev pub T23 : Row.Cx
-T23 = record { locals = List._++_ t13 (List._++_ t16 t2); slots = List.[] }
+T23 = record { locals = List._++_ t12 t15; slots = List.[] }
 
 abbrev pub T25 : Row.Cx
-T25 = record { locals = List._++_ t17 (List._++_ t16 t2); slots = List.[] }
+T25 = record { locals = List._++_ t16 t15; slots = List.[] }
 
 abbrev pub T26 : Row.Cx
-T26 = record { locals = List._++_ t17 (List._++_ t16 t2); slots = List.[] }
+T26 = record { locals = List._++_ t16 t15; slots = List.[] }
 
 abbrev pub T29 : Row.Cx
-T29 = record { locals = List._++_ t18 (List._++_ t16 t2); slots = List.[] }
+T29 = record { locals = List._++_ t17 t15; slots = List.[] }
 
 abbrev pub T32 : Row.Cx
-T32 = record { locals = List._++_ t19 (List._++_ t1 t2); slots = List.[] }
+T32 = record { locals = List._++_ t18 t1; slots = List.[] }
 
 abbrev pub T33 : Row.Cx
-T33 = record { locals = List._++_ t19 (List._++_ t1 t2); slots = List.[] }
+T33 = record { locals = List._++_ t18 t1; slots = List.[] }
 
 abbrev pub T35 : Row.Cx
-T35 = record { locals = List._++_ t19 (List._++_ t1 t2); slots = List.[] }
+T35 = record { locals = List._++_ t18 t1; slots = List.[] }
 
 abbrev pub T36 : Row.Cx
-T36 = record { locals = List._++_ t19 (List._++_ t20 t2); slots = List.[] }
+T36 = record { locals = List._++_ t18 t19; slots = List.[] }
 
 abbrev pub T37 : Row.Cx
-T37 = record { locals = List._++_ t0 (List._++_ t1 t2); slots = List.[] }
+T37 = record { locals = List._++_ t0 t1; slots = List.[] }
 
 abbrev pub T38 : Row.Cx
-T38 = record { locals = List._++_ t21 (List._++_ t20 t2); slots = List.[] }
+T38 = record { locals = List._++_ t20 t19; slots = List.[] }
 
 abbrev pub T39 : Row.Cx
-T39 = record { locals = List._++_ t21 (List._++_ t1 t2); slots = List.[] }
+T39 = record { locals = List._++_ t20 t1; slots = List.[] }
 
 abbrev pub T40 : Row.Cx
-T40 = record { locals = List._++_ t22 (List._++_ t1 t2); slots = List.[] }
+T40 = record { locals = List._++_ t21 t1; slots = List.[] }
 
 abbrev pub T41 : Row.Cx
-T41 = record { locals = List._++_ t3 (List._++_ t1 t2); slots = List.[] }
+T41 = record { locals = List._++_ t2 t1; slots = List.[] }
 
 abbrev pub T42 : Row.Cx
-T42 = record { locals = List._++_ t0 (List._++_ t20 t2); slots = List.[] }
+T42 = record { locals = List._++_ t0 t19; slots = List.[] }
 
 abbrev pub T43 : Row.Cx
-T43 = record { locals = List._++_ t0 (List._++_ t1 t2); slots = List.[] }
+T43 = record { locals = List._++_ t0 t1; slots = List.[] }
 
 abbrev pub T45 : Row.Cx
-T45 = record { locals = List._++_ t23 (List._++_ t24 t2); slots = List.[] }
+T45 = record { locals = List._++_ t22 t23; slots = List.[] }
 
 abbrev pub T46 : Row.Cx
-T46 = record { locals = List._++_ t23 (List._++_ t25 t2); slots = List.[] }
+T46 = record { locals = List._++_ t22 t24; slots = List.[] }
 
 abbrev pub T48 : Row.Cx
-T48 = record { locals = List._++_ t26 (List._++_ t27 t2); slots = List.[] }
+T48 = record { locals = List._++_ t25 t26; slots = List.[] }
 
 abbrev pub T49 : Row.Cx
-T49 = record { locals = List._++_ t26 (List._++_ t28 t2); slots = List.[] }
+T49 = record { locals = List._++_ t25 t27; slots = List.[] }
 
 abbrev pub T51 : Row.Cx
-T51 = record { locals = List._++_ t29 (List._++_ t30 t2); slots = List.[] }
+T51 = record { locals = List._++_ t28 t29; slots = List.[] }
 
 abbrev pub T52 : Row.Cx
-T52 = record { locals = List._++_ t29 (List._++_ t31 t2); slots = List.[] }
+T52 = record { locals = List._++_ t28 t30; slots = List.[] }
 
 abbrev pub T54 : Row.Cx
-T54 = record { locals = List._++_ t32 (List._++_ t33 t2); slots = List.[] }
+T54 = record { locals = List._++_ t31 t32; slots = List.[] }
 
 abbrev pub T55 : Row.Cx
-T55 = record { locals = List._++_ t32 (List._++_ t34 t2); slots = List.[] }
+T55 = record { locals = List._++_ t31 t33; slots = List.[] }
 
 abbrev pub T56 : Row.Cx
-T56 = record { locals = List._++_ t32 (List._++_ t34 t2); slots = List.[] }
-
-abbrev pub T57 : Row.Cx
-T57 = record { locals = List._++_ t32 (List._++_ t35 t2); slots = List.[] }
+T56 = record { locals = List._++_ t34 t35; slots = List.[] }
 
 abbrev pub T58 : Row.Cx
-T58 = record { locals = List._++_ t32 (List._++_ t35 t2); slots = List.[] }
+T58 = record { locals = List._++_ t36 t37; slots = List.[] }
 
 abbrev pub T59 : Row.Cx
-T59 = record { locals = List._++_ t32 (List._++_ t36 t2); slots = List.[] }
-
-abbrev pub T60 : Row.Cx
-T60 = record { locals = List._++_ t32 (List._++_ t36 t2); slots = List.[] }
-
-abbrev pub T61 : Row.Cx
-T61 = record { locals = List._++_ t32 (List._++_ t37 t2); slots = List.[] }
+T59 = record { locals = List._++_ t36 t37; slots = List.[] }
 
 abbrev pub T62 : Row.Cx
-T62 = record { locals = List._++_ t32 (List._++_ t37 t2); slots = List.[] }
+T62 = record { locals = List._++_ t38 t39; slots = List.[] }
 
 abbrev pub T63 : Row.Cx
-T63 = record { locals = List._++_ t32 (List._++_ t37 t38); slots = List.[] }
-
-abbrev pub T64 : Row.Cx
-T64 = record { locals = List._++_ t32 (List._++_ t37 t38); slots = List.[] }
-
-abbrev pub T65 : Row.Cx
-T65 = record { locals = List._++_ t32 (List._++_ t37 t39); slots = List.[] }
+T63 = record { locals = List._++_ t38 t39; slots = List.[] }
 
 abbrev pub T66 : Row.Cx
-T66 = record { locals = List._++_ t40 (List._++_ t41 t39); slots = List.[] }
-
-abbrev pub T67 : Row.Cx
-T67 = record { locals = List._++_ t40 (List._++_ t42 t39); slots = List.[] }
-
-abbrev pub T68 : Row.Cx
-T68 = record { locals = List._++_ t40 (List._++_ t43 t39); slots = List.[] }
+T66 = record { locals = List._++_ t40 t41; slots = List.[] }
 
 abbrev pub T69 : Row.Cx
-T69 = record { locals = List._++_ t40 (List._++_ t44 t39); slots = List.[] }
+T69 = record { locals = List._++_ t42 t1; slots = List.[] }
 
 abbrev pub T70 : Row.Cx
-T70 = record { locals = List._++_ t40 (List._++_ t44 t45); slots = List.[] }
-
-abbrev pub T71 : Row.Cx
-T71 = record { locals = List._++_ t40 (List._++_ t44 t2); slots = List.[] }
+T70 = record { locals = List._++_ t42 t1; slots = List.[] }
 
 abbrev pub T73 : Row.Cx
-T73 = record { locals = List._++_ t46 (List._++_ t47 t2); slots = List.[] }
+T73 = record { locals = List._++_ t43 t44; slots = List.[] }
 
 abbrev pub T74 : Row.Cx
-T74 = record { locals = List._++_ t46 (List._++_ t47 t2); slots = List.[] }
+T74 = record { locals = List._++_ t43 t45; slots = List.[] }
+
+abbrev pub T75 : Row.Cx
+T75 = record { locals = List._++_ t46 t47; slots = List.[] }
+
+abbrev pub T76 : Row.Cx
+T76 = record { locals = List._++_ t48 t47; slots = List.[] }
 
 abbrev pub T77 : Row.Cx
-T77 = record { locals = List._++_ t48 (List._++_ t49 t2); slots = List.[] }
+T77 = record { locals = List._++_ t49 t47; slots = List.[] }
 
-abbrev pub T78 : Row.Cx
-T78 = record { locals = List._++_ t48 (List._++_ t49 t2); slots = List.[] }
+abbrev pub T79 : Row.Cx
+T79 = record { locals = List._++_ t2 t1; slots = List.[] }
 
-abbrev pub T81 : Row.Cx
-T81 = record { locals = List._++_ t50 (List._++_ t51 t2); slots = List.[] }
-
-abbrev pub T84 : Row.Cx
-T84 = record { locals = List._++_ t52 (List._++_ t1 t2); slots = List.[] }
-
-abbrev pub T85 : Row.Cx
-T85 = record { locals = List._++_ t52 (List._++_ t1 t2); slots = List.[] }
-
-abbrev pub T88 : Row.Cx
-T88 = record { locals = List._++_ t53 (List._++_ t1 t54); slots = List.[] }
-
-abbrev pub T89 : Row.Cx
-T89 = record { locals = List._++_ t53 (List._++_ t1 t55); slots = List.[] }
-
-abbrev pub T90 : Row.Cx
-T90 = record { locals = List._++_ t56 (List._++_ t1 t57); slots = List.[] }
-
-abbrev pub T91 : Row.Cx
-T91 = record { locals = List._++_ t58 (List._++_ t1 t57); slots = List.[] }
-
-abbrev pub T92 : Row.Cx
-T92 = record { locals = List._++_ t59 (List._++_ t1 t57); slots = List.[] }
-
-abbrev pub T94 : Row.Cx
-T94 = record { locals = List._++_ t3 (List._++_ t1 t2); slots = List.[] }
-
-abbrev pub T95 : Row.Cx
-T95 = record { locals = List._++_ t3 (List._++_ t1 t2); slots = List.[] }
+abbrev pub T80 : Row.Cx
+T80 = record { locals = List._++_ t2 t1; slots = List.[] }
 
 abbrev pub O0 : Typed.Outs
 O0 = record { next = Option.none; exits = List.[]; returns = Option.some T1 }
@@ -1081,7 +952,7 @@ module _ (claims· : Claims) where
   s36 = λ bs. Scalar.n-room T38 21 Syntax.tyBool
 
   abbrev s37 : (bs : List.List Nat.ℕ) → Typed.Both T39 T40
-  s37 = λ bs. WayStmt.k-way-copy-out T39 (Row.out 12 (T39 .locals)) (λ u. Row.drop 12 (T39 .locals) u) 0 (Rows.whole (Declared.row Finished.the-type)) (λ u. At.getAt (Begun.the-type .parts) 1 (Begun.struct .as-values (u .1 .1 .1 .1 .1 .1 .1 .1 .1 .1 .1 .1 .0))) (λ T′. record { locals = Row.setRow 12 r48· T′; slots = List.[] }) (λ u T′ m′. Row.set 12 r48· (u .1 .1 .1 .1 .1 .1 .1 .1 .1 .1 .1 .1 .0) T′ m′) (λ u. Unit) λ u. Unit
+  s37 = λ bs. WayStmt.k-way-copy-out T39 (Row.out 12 (T39 .locals)) (λ u. Row.drop 12 (T39 .locals) u) 0 (Rows.whole (Declared.row Finished.the-type)) (λ u. At.getAt (Begun.the-type .parts) 1 (Begun.struct .as-values (u .1 .1 .1 .1 .1 .1 .1 .1 .1 .1 .1 .1 .0))) (λ T′. record { locals = Row.setRow 12 r44· T′; slots = List.[] }) (λ u T′ m′. Row.set 12 r44· (u .1 .1 .1 .1 .1 .1 .1 .1 .1 .1 .1 .1 .0) T′ m′) (λ u. Unit) λ u. Unit
 
   abbrev s38 : (bs : List.List Nat.ℕ) → Typed.Mo T40 → Typed.Mo T41
   s38 = λ bs. Scalar.n-room T40 12 y23·
@@ -1116,95 +987,50 @@ module _ (claims· : Claims) where
   abbrev s52 : (bs : List.List Nat.ℕ) → Typed.Asks T54 T55
   s52 = λ bs. Relend.k-sl-aggregate e0· (Relend.asMut e0·) T54 28 29 16 y8· y8· (λ x. x) (Scalar.oFld 11 ((Syntax.field 1) ∷ []) y2· 8 λ v. Shared.lenV (v .0))
 
-  abbrev s53 : (bs : List.List Nat.ℕ) → Typed.Gives T55 T56
-  s53 = λ bs. Know'.k-struct-known CodeBuffer.the-type Laws.the-laws T55 1 λ x. x
+  abbrev s53 : (bs : List.List Nat.ℕ) → Typed.Both T55 T56
+  s53 = λ bs. Call.callB ps·1 r·1 (claims· .2) (claims· .3) T55 (record { pos = 1; st = List.[]; d = 0; at = λ x. x }, (record { pos = 2; ty = Syntax.tyRef (Syntax.named 0) Syntax.imm y1·; ref = λ x. x }, (record { pos = 23; ty = Syntax.tyRef Syntax.erased Syntax.mut y1·; ref = λ x. x }, (record { pos = 4; ty = Syntax.tyRef (Syntax.named 2) Syntax.imm y1·; ref = λ x. x }, (record { pos = 6; ty = Syntax.tyRef (Syntax.named 4) Syntax.imm y1·; ref = λ x. x }, (record { pos = 7; ty = Syntax.tyRef (Syntax.named 5) Syntax.imm y1·; ref = λ x. x }, (record { pos = 8; ty = Syntax.tyRef (Syntax.named 6) Syntax.imm y1·; ref = λ x. x }, (record { pos = 25; ty = Syntax.tyRef Syntax.erased Syntax.mut y1·; ref = λ x. x }, (record { pos = 27; ty = Syntax.tyRef Syntax.erased Syntax.mut (MEM·.pointee (ROW·.the-row .written)); ref = λ x. x }, (record { pos = 29; ty = Syntax.tyRef Syntax.erased Syntax.mut y1·; ref = λ x. x }, tt)))))))))) 13 (0 ∷ 13 ∷ 2 ∷ 4 ∷ 5 ∷ 6 ∷ 14 ∷ 15 ∷ 16 ∷ []) y7·
 
-  abbrev s54 : (bs : List.List Nat.ℕ) → Typed.Asks T56 T57
-  s54 = λ bs. Scalar.k-op1 T56 (Syntax.cast Syntax.unsigned Syntax.unsigned Syntax.w64) (Scalar.oFld 1 ((Syntax.field 5) ∷ []) y0· 20 (Reads.fieldV CodeBuffer.the-type Laws.the-laws 5)) 18 (Rows.sc-here (Row.sInt Syntax.w64)) (Row.sInt Syntax.w64 .of)
+  abbrev s55 : (bs : List.List Nat.ℕ) → Typed.Both T56 T58
+  s55 = λ bs. Relend.k-back-sl e0· T56 23 3 1 13 y12· y8· Row.off (λ x. x) λ x. x
 
-  abbrev s55 : (bs : List.List Nat.ℕ) → Typed.Gives T57 T58
-  s55 = λ bs. Know'.k-struct-known CodeBuffer.the-type Laws.the-laws T57 1 λ x. x
+  abbrev s56 : (bs : List.List Nat.ℕ) → Typed.Gives T58 T59
+  s56 = λ bs. Know.k-sl-known (Referent.fInt Syntax.w8) T58 3 1 y12· Row.off 0 λ x. x
 
-  abbrev s56 : (bs : List.List Nat.ℕ) → Typed.Asks T58 T59
-  s56 = λ bs. Scalar.k-op1 T58 (Syntax.cast Syntax.unsigned Syntax.unsigned Syntax.w64) (Scalar.oFld 1 ((Syntax.field 6) ∷ []) y0· 24 (Reads.fieldV CodeBuffer.the-type Laws.the-laws 6)) 30 (Rows.sc-here (Row.sInt Syntax.w64)) (Row.sInt Syntax.w64 .of)
+  abbrev s59 : (bs : List.List Nat.ℕ) → Typed.Both T59 T62
+  s59 = λ bs. Relend.k-back-sl e0· T59 25 9 7 14 y18· y8· Row.off (λ x. x) λ x. x
 
-  abbrev s57 : (bs : List.List Nat.ℕ) → Typed.Gives T59 T60
-  s57 = λ bs. Know'.k-struct-known CodeBuffer.the-type Laws.the-laws T59 1 λ x. x
+  abbrev s60 : (bs : List.List Nat.ℕ) → Typed.Gives T62 T63
+  s60 = λ bs. Know.k-sl-known (Referent.fInt Syntax.w8) T62 9 7 y18· Row.off 0 λ x. x
 
-  abbrev s58 : (bs : List.List Nat.ℕ) → Typed.Asks T60 T61
-  s58 = λ bs. Scalar.k-op1 T60 (Syntax.cast Syntax.unsigned Syntax.unsigned Syntax.w64) (Scalar.oFld 1 ((Syntax.field 10) ∷ []) y0· 40 (Reads.fieldV CodeBuffer.the-type Laws.the-laws 10)) 31 (Rows.sc-here (Row.sInt Syntax.w64)) (Row.sInt Syntax.w64 .of)
+  abbrev s63 : (bs : List.List Nat.ℕ) → Typed.Both T63 T66
+  s63 = λ bs. Relend.k-back-sl ROW·.the-row T63 27 10 8 15 y4· y3· Row.off (λ x. x) λ x. x
 
-  abbrev s59 : (bs : List.List Nat.ℕ) → Typed.Gives T61 T62
-  s59 = λ bs. Know'.k-struct-known CodeBuffer.the-type Laws.the-laws T61 1 λ x. x
+  abbrev s66 : (bs : List.List Nat.ℕ) → Typed.Both T66 T69
+  s66 = λ bs. Relend.k-back-sl e0· T66 29 11 9 16 y19· y8· Row.off (λ x. x) λ x. x
 
-  abbrev s60 : (bs : List.List Nat.ℕ) → Typed.Asks T62 T63
-  s60 = λ bs. Scalar.k-op1 T62 (Syntax.cast Syntax.unsigned Syntax.unsigned Syntax.w64) (Scalar.oFld 1 ((Syntax.field 8) ∷ []) y0· 32 (Reads.fieldV CodeBuffer.the-type Laws.the-laws 8)) 32 (Rows.sc-here (Row.sInt Syntax.w64)) (Row.sInt Syntax.w64 .of)
+  abbrev s67 : (bs : List.List Nat.ℕ) → Typed.Gives T69 T70
+  s67 = λ bs. Know.k-sl-known (Referent.fInt Syntax.w8) T69 11 9 y19· Row.off 0 λ x. x
 
-  abbrev s61 : (bs : List.List Nat.ℕ) → Typed.Gives T63 T64
-  s61 = λ bs. Know'.k-struct-known CodeBuffer.the-type Laws.the-laws T63 1 λ x. x
+  abbrev s70 : (bs : List.List Nat.ℕ) → Typed.Gives T70 T73
+  s70 = λ bs. Relend.k-sl-relend e0· T70 3 30 1 17 y12· y8· Row.off λ x. x
 
-  abbrev s62 : (bs : List.List Nat.ℕ) → Typed.Asks T64 T65
-  s62 = λ bs. Scalar.k-op1 T64 (Syntax.cast Syntax.unsigned Syntax.unsigned Syntax.w64) (Scalar.oFld 1 ((Syntax.field 11) ∷ []) y0· 44 (Reads.fieldV CodeBuffer.the-type Laws.the-laws 11)) 33 (Rows.sc-here (Row.sInt Syntax.w64)) (Row.sInt Syntax.w64 .of)
+  abbrev s71 : (bs : List.List Nat.ℕ) → Typed.Asks T73 T74
+  s71 = λ bs. Relend.k-sl-aggregate e0· (Relend.asMut e0·) T73 30 31 17 y8· y8· (λ x. x) (Scalar.oFld 3 ((Syntax.field 1) ∷ []) y2· 8 λ v. Shared.lenV (v .0))
 
-  abbrev s63 : (bs : List.List Nat.ℕ) → Typed.Both T65 T66
-  s63 = λ bs. Call.callB ps·1 r·1 (claims· .2) (claims· .3) T65 (record { pos = 2; ty = Syntax.tyRef (Syntax.named 0) Syntax.imm y1·; ref = λ x. x }, (record { pos = 23; ty = Syntax.tyRef Syntax.erased Syntax.mut y1·; ref = λ x. x }, (record { pos = 4; ty = Syntax.tyRef (Syntax.named 2) Syntax.imm y1·; ref = λ x. x }, (record { pos = 6; ty = Syntax.tyRef (Syntax.named 4) Syntax.imm y1·; ref = λ x. x }, (record { pos = 7; ty = Syntax.tyRef (Syntax.named 5) Syntax.imm y1·; ref = λ x. x }, (record { pos = 8; ty = Syntax.tyRef (Syntax.named 6) Syntax.imm y1·; ref = λ x. x }, (record { pos = 25; ty = Syntax.tyRef Syntax.erased Syntax.mut y1·; ref = λ x. x }, (record { pos = 27; ty = Syntax.tyRef Syntax.erased Syntax.mut (MEM·.pointee (ROW·.the-row .written)); ref = λ x. x }, (record { pos = 29; ty = Syntax.tyRef Syntax.erased Syntax.mut y1·; ref = λ x. x }, (Num.vFld 1 ((Syntax.field 4) ∷ []) 16 λ x. CodeBuffer.struct .as-values x .1 .1 .1 .1 .0, (Num.vAt 18 λ x. x, (Num.vAt 30 λ x. x, (Num.vAt 31 λ x. x, (Num.vAt 32 λ x. x, (Num.vAt 33 λ x. x, tt))))))))))))))) 13 (0 ∷ 13 ∷ 2 ∷ 4 ∷ 5 ∷ 6 ∷ 14 ∷ 15 ∷ 16 ∷ []) y7·
+  abbrev s72 : (bs : List.List Nat.ℕ) → Typed.Both T74 T75
+  s72 = λ bs. Call.callB ps·2 r·2 (claims· .4) (claims· .5) T74 (record { pos = 1; st = List.[]; d = 0; at = λ x. x }, (record { pos = 31; ty = Syntax.tyRef Syntax.erased Syntax.mut y1·; ref = λ x. x }, (record { pos = 7; ty = Syntax.tyRef (Syntax.named 5) Syntax.imm y1·; ref = λ x. x }, (record { pos = 8; ty = Syntax.tyRef (Syntax.named 6) Syntax.imm y1·; ref = λ x. x }, (record { pos = 13; st = List.[]; d = 0; at = λ x. x }, tt))))) 0 (17 ∷ 5 ∷ 6 ∷ []) y20·
 
-  abbrev s64 : (bs : List.List Nat.ℕ) → Typed.Mo T66 → Typed.Mo T67
-  s64 = λ bs. Scalar.n-room T66 18 y2·
+  abbrev s73 : (bs : List.List Nat.ℕ) → Typed.Mo T75 → Typed.Mo T76
+  s73 = λ bs. Scalar.n-room T75 1 y5·
 
-  abbrev s65 : (bs : List.List Nat.ℕ) → Typed.Mo T67 → Typed.Mo T68
-  s65 = λ bs. Scalar.n-room T67 30 y2·
+  abbrev s74 : (bs : List.List Nat.ℕ) → Typed.Mo T76 → Typed.Mo T77
+  s74 = λ bs. Scalar.n-room T76 13 y7·
 
-  abbrev s66 : (bs : List.List Nat.ℕ) → Typed.Mo T68 → Typed.Mo T69
-  s66 = λ bs. Scalar.n-room T68 31 y2·
+  abbrev s76 : (bs : List.List Nat.ℕ) → Typed.Both T77 T79
+  s76 = λ bs. Relend.k-back-sl e0· T77 31 3 1 17 y12· y8· Row.off (λ x. x) λ x. x
 
-  abbrev s67 : (bs : List.List Nat.ℕ) → Typed.Mo T69 → Typed.Mo T70
-  s67 = λ bs. Scalar.n-room T69 32 y2·
-
-  abbrev s68 : (bs : List.List Nat.ℕ) → Typed.Mo T70 → Typed.Mo T71
-  s68 = λ bs. Scalar.n-room T70 33 y2·
-
-  abbrev s70 : (bs : List.List Nat.ℕ) → Typed.Both T71 T73
-  s70 = λ bs. Relend.k-back-sl e0· T71 23 3 1 13 y12· y8· Row.off (λ x. x) λ x. x
-
-  abbrev s71 : (bs : List.List Nat.ℕ) → Typed.Gives T73 T74
-  s71 = λ bs. Know.k-sl-known (Referent.fInt Syntax.w8) T73 3 1 y12· Row.off 0 λ x. x
-
-  abbrev s74 : (bs : List.List Nat.ℕ) → Typed.Both T74 T77
-  s74 = λ bs. Relend.k-back-sl e0· T74 25 9 7 14 y18· y8· Row.off (λ x. x) λ x. x
-
-  abbrev s75 : (bs : List.List Nat.ℕ) → Typed.Gives T77 T78
-  s75 = λ bs. Know.k-sl-known (Referent.fInt Syntax.w8) T77 9 7 y18· Row.off 0 λ x. x
-
-  abbrev s78 : (bs : List.List Nat.ℕ) → Typed.Both T78 T81
-  s78 = λ bs. Relend.k-back-sl ROW·.the-row T78 27 10 8 15 y4· y3· Row.off (λ x. x) λ x. x
-
-  abbrev s81 : (bs : List.List Nat.ℕ) → Typed.Both T81 T84
-  s81 = λ bs. Relend.k-back-sl e0· T81 29 11 9 16 y19· y8· Row.off (λ x. x) λ x. x
-
-  abbrev s82 : (bs : List.List Nat.ℕ) → Typed.Gives T84 T85
-  s82 = λ bs. Know.k-sl-known (Referent.fInt Syntax.w8) T84 11 9 y19· Row.off 0 λ x. x
-
-  abbrev s85 : (bs : List.List Nat.ℕ) → Typed.Gives T85 T88
-  s85 = λ bs. Relend.k-sl-relend e0· T85 3 34 1 17 y12· y8· Row.off λ x. x
-
-  abbrev s86 : (bs : List.List Nat.ℕ) → Typed.Asks T88 T89
-  s86 = λ bs. Relend.k-sl-aggregate e0· (Relend.asMut e0·) T88 34 35 17 y8· y8· (λ x. x) (Scalar.oFld 3 ((Syntax.field 1) ∷ []) y2· 8 λ v. Shared.lenV (v .0))
-
-  abbrev s87 : (bs : List.List Nat.ℕ) → Typed.Both T89 T90
-  s87 = λ bs. Call.callB ps·2 r·2 (claims· .4) (claims· .5) T89 (record { pos = 1; st = List.[]; d = 0; at = λ x. x }, (record { pos = 35; ty = Syntax.tyRef Syntax.erased Syntax.mut y1·; ref = λ x. x }, (record { pos = 7; ty = Syntax.tyRef (Syntax.named 5) Syntax.imm y1·; ref = λ x. x }, (record { pos = 8; ty = Syntax.tyRef (Syntax.named 6) Syntax.imm y1·; ref = λ x. x }, (record { pos = 13; st = List.[]; d = 0; at = λ x. x }, tt))))) 0 (17 ∷ 5 ∷ 6 ∷ []) y20·
-
-  abbrev s88 : (bs : List.List Nat.ℕ) → Typed.Mo T90 → Typed.Mo T91
-  s88 = λ bs. Scalar.n-room T90 1 y5·
-
-  abbrev s89 : (bs : List.List Nat.ℕ) → Typed.Mo T91 → Typed.Mo T92
-  s89 = λ bs. Scalar.n-room T91 13 y7·
-
-  abbrev s91 : (bs : List.List Nat.ℕ) → Typed.Both T92 T94
-  s91 = λ bs. Relend.k-back-sl e0· T92 35 3 1 17 y12· y8· Row.off (λ x. x) λ x. x
-
-  abbrev s92 : (bs : List.List Nat.ℕ) → Typed.Gives T94 T95
-  s92 = λ bs. Know.k-sl-known (Referent.fInt Syntax.w8) T94 3 1 y12· Row.off 0 λ x. x
+  abbrev s77 : (bs : List.List Nat.ℕ) → Typed.Gives T79 T80
+  s77 = λ bs. Know.k-sl-known (Referent.fInt Syntax.w8) T79 3 1 y12· Row.off 0 λ x. x
 
   module _ (Pre· : (κs : Lifetimes.Lfts 10) → Kinds.Dens κs ps → Type 0) (Post· : (κs : Lifetimes.Lfts 10) → (a : Kinds.Dens κs ps) → Kinds.Plain 10 ps r κs) where
     module _ (M : Type 1) where
@@ -1239,278 +1065,233 @@ module _ (claims· : Claims) where
       abbrev at8 : (bs : List.List Nat.ℕ) → Typed.TF T36 O1
       at8 = λ bs. Scalar.Φcond T36 O1 21 (λ x. x) (at4 bs) (at7 bs)
 
-      abbrev at9 : (bs : List.List Nat.ℕ) → Typed.TF T95 O0
+      abbrev at9 : (bs : List.List Nat.ℕ) → Typed.TF T80 O0
       at9 = λ bs. Typed.atRet O0
 
-      abbrev at10 : (bs : List.List Nat.ℕ) → Typed.TF T95 O0
+      abbrev at10 : (bs : List.List Nat.ℕ) → Typed.TF T80 O0
       at10 = λ bs. λ Ψ. at9 bs Ψ
 
-      abbrev at11 : (bs : List.List Nat.ℕ) → Typed.TF T94 O0
-      at11 = λ bs. λ Ψ. Typed.give (s92 bs) (at10 bs Ψ)
+      abbrev at11 : (bs : List.List Nat.ℕ) → Typed.TF T79 O0
+      at11 = λ bs. λ Ψ. Typed.give (s77 bs) (at10 bs Ψ)
 
-      abbrev at12 : (bs : List.List Nat.ℕ) → Typed.TF T92 O0
-      at12 = λ bs. λ Ψ. Typed.both (s91 bs) (at11 bs Ψ)
+      abbrev at12 : (bs : List.List Nat.ℕ) → Typed.TF T77 O0
+      at12 = λ bs. λ Ψ. Typed.both (s76 bs) (at11 bs Ψ)
 
-      abbrev at13 : (bs : List.List Nat.ℕ) → Typed.TF T92 O0
+      abbrev at13 : (bs : List.List Nat.ℕ) → Typed.TF T77 O0
       at13 = λ bs. λ Ψ. at12 bs Ψ
 
-      abbrev at14 : (bs : List.List Nat.ℕ) → Typed.TF T91 O0
-      at14 = λ bs. λ Ψ. Typed.pass T91 T92 (s89 bs) (at13 bs Ψ)
+      abbrev at14 : (bs : List.List Nat.ℕ) → Typed.TF T76 O0
+      at14 = λ bs. λ Ψ. Typed.pass T76 T77 (s74 bs) (at13 bs Ψ)
 
-      abbrev at15 : (bs : List.List Nat.ℕ) → Typed.TF T90 O0
-      at15 = λ bs. λ Ψ. Typed.pass T90 T91 (s88 bs) (at14 bs Ψ)
+      abbrev at15 : (bs : List.List Nat.ℕ) → Typed.TF T75 O0
+      at15 = λ bs. λ Ψ. Typed.pass T75 T76 (s73 bs) (at14 bs Ψ)
 
-      abbrev at16 : (bs : List.List Nat.ℕ) → Typed.TF T89 O0
-      at16 = λ bs. λ Ψ. Typed.both (s87 bs) (at15 bs Ψ)
+      abbrev at16 : (bs : List.List Nat.ℕ) → Typed.TF T74 O0
+      at16 = λ bs. λ Ψ. Typed.both (s72 bs) (at15 bs Ψ)
 
-      abbrev at17 : (bs : List.List Nat.ℕ) → Typed.TF T88 O0
-      at17 = λ bs. λ Ψ. Typed.ask (s86 bs) (at16 bs Ψ)
+      abbrev at17 : (bs : List.List Nat.ℕ) → Typed.TF T73 O0
+      at17 = λ bs. λ Ψ. Typed.ask (s71 bs) (at16 bs Ψ)
 
-      abbrev at18 : (bs : List.List Nat.ℕ) → Typed.TF T85 O0
-      at18 = λ bs. λ Ψ. Typed.give (s85 bs) (at17 bs Ψ)
+      abbrev at18 : (bs : List.List Nat.ℕ) → Typed.TF T70 O0
+      at18 = λ bs. λ Ψ. Typed.give (s70 bs) (at17 bs Ψ)
 
-      abbrev at19 : (bs : List.List Nat.ℕ) → Typed.TF T85 O0
+      abbrev at19 : (bs : List.List Nat.ℕ) → Typed.TF T70 O0
       at19 = λ bs. λ Ψ. at18 bs Ψ
 
-      abbrev at20 : (bs : List.List Nat.ℕ) → Typed.TF T85 O0
+      abbrev at20 : (bs : List.List Nat.ℕ) → Typed.TF T70 O0
       at20 = λ bs. λ Ψ. at19 bs Ψ
 
-      abbrev at21 : (bs : List.List Nat.ℕ) → Typed.TF T84 O0
-      at21 = λ bs. λ Ψ. Typed.give (s82 bs) (at20 bs Ψ)
+      abbrev at21 : (bs : List.List Nat.ℕ) → Typed.TF T69 O0
+      at21 = λ bs. λ Ψ. Typed.give (s67 bs) (at20 bs Ψ)
 
-      abbrev at22 : (bs : List.List Nat.ℕ) → Typed.TF T81 O0
-      at22 = λ bs. λ Ψ. Typed.both (s81 bs) (at21 bs Ψ)
+      abbrev at22 : (bs : List.List Nat.ℕ) → Typed.TF T66 O0
+      at22 = λ bs. λ Ψ. Typed.both (s66 bs) (at21 bs Ψ)
 
-      abbrev at23 : (bs : List.List Nat.ℕ) → Typed.TF T81 O0
+      abbrev at23 : (bs : List.List Nat.ℕ) → Typed.TF T66 O0
       at23 = λ bs. λ Ψ. at22 bs Ψ
 
-      abbrev at24 : (bs : List.List Nat.ℕ) → Typed.TF T81 O0
+      abbrev at24 : (bs : List.List Nat.ℕ) → Typed.TF T66 O0
       at24 = λ bs. λ Ψ. at23 bs Ψ
 
-      abbrev at25 : (bs : List.List Nat.ℕ) → Typed.TF T78 O0
-      at25 = λ bs. λ Ψ. Typed.both (s78 bs) (at24 bs Ψ)
+      abbrev at25 : (bs : List.List Nat.ℕ) → Typed.TF T63 O0
+      at25 = λ bs. λ Ψ. Typed.both (s63 bs) (at24 bs Ψ)
 
-      abbrev at26 : (bs : List.List Nat.ℕ) → Typed.TF T78 O0
+      abbrev at26 : (bs : List.List Nat.ℕ) → Typed.TF T63 O0
       at26 = λ bs. λ Ψ. at25 bs Ψ
 
-      abbrev at27 : (bs : List.List Nat.ℕ) → Typed.TF T78 O0
+      abbrev at27 : (bs : List.List Nat.ℕ) → Typed.TF T63 O0
       at27 = λ bs. λ Ψ. at26 bs Ψ
 
-      abbrev at28 : (bs : List.List Nat.ℕ) → Typed.TF T77 O0
-      at28 = λ bs. λ Ψ. Typed.give (s75 bs) (at27 bs Ψ)
+      abbrev at28 : (bs : List.List Nat.ℕ) → Typed.TF T62 O0
+      at28 = λ bs. λ Ψ. Typed.give (s60 bs) (at27 bs Ψ)
 
-      abbrev at29 : (bs : List.List Nat.ℕ) → Typed.TF T74 O0
-      at29 = λ bs. λ Ψ. Typed.both (s74 bs) (at28 bs Ψ)
+      abbrev at29 : (bs : List.List Nat.ℕ) → Typed.TF T59 O0
+      at29 = λ bs. λ Ψ. Typed.both (s59 bs) (at28 bs Ψ)
 
-      abbrev at30 : (bs : List.List Nat.ℕ) → Typed.TF T74 O0
+      abbrev at30 : (bs : List.List Nat.ℕ) → Typed.TF T59 O0
       at30 = λ bs. λ Ψ. at29 bs Ψ
 
-      abbrev at31 : (bs : List.List Nat.ℕ) → Typed.TF T74 O0
+      abbrev at31 : (bs : List.List Nat.ℕ) → Typed.TF T59 O0
       at31 = λ bs. λ Ψ. at30 bs Ψ
 
-      abbrev at32 : (bs : List.List Nat.ℕ) → Typed.TF T73 O0
-      at32 = λ bs. λ Ψ. Typed.give (s71 bs) (at31 bs Ψ)
+      abbrev at32 : (bs : List.List Nat.ℕ) → Typed.TF T58 O0
+      at32 = λ bs. λ Ψ. Typed.give (s56 bs) (at31 bs Ψ)
 
-      abbrev at33 : (bs : List.List Nat.ℕ) → Typed.TF T71 O0
-      at33 = λ bs. λ Ψ. Typed.both (s70 bs) (at32 bs Ψ)
+      abbrev at33 : (bs : List.List Nat.ℕ) → Typed.TF T56 O0
+      at33 = λ bs. λ Ψ. Typed.both (s55 bs) (at32 bs Ψ)
 
-      abbrev at34 : (bs : List.List Nat.ℕ) → Typed.TF T71 O0
+      abbrev at34 : (bs : List.List Nat.ℕ) → Typed.TF T56 O0
       at34 = λ bs. λ Ψ. at33 bs Ψ
 
-      abbrev at35 : (bs : List.List Nat.ℕ) → Typed.TF T70 O0
-      at35 = λ bs. λ Ψ. Typed.pass T70 T71 (s68 bs) (at34 bs Ψ)
+      abbrev at35 : (bs : List.List Nat.ℕ) → Typed.TF T55 O0
+      at35 = λ bs. λ Ψ. Typed.both (s53 bs) (at34 bs Ψ)
 
-      abbrev at36 : (bs : List.List Nat.ℕ) → Typed.TF T69 O0
-      at36 = λ bs. λ Ψ. Typed.pass T69 T70 (s67 bs) (at35 bs Ψ)
+      abbrev at36 : (bs : List.List Nat.ℕ) → Typed.TF T54 O0
+      at36 = λ bs. λ Ψ. Typed.ask (s52 bs) (at35 bs Ψ)
 
-      abbrev at37 : (bs : List.List Nat.ℕ) → Typed.TF T68 O0
-      at37 = λ bs. λ Ψ. Typed.pass T68 T69 (s66 bs) (at36 bs Ψ)
+      abbrev at37 : (bs : List.List Nat.ℕ) → Typed.TF T52 O0
+      at37 = λ bs. λ Ψ. Typed.give (s51 bs) (at36 bs Ψ)
 
-      abbrev at38 : (bs : List.List Nat.ℕ) → Typed.TF T67 O0
-      at38 = λ bs. λ Ψ. Typed.pass T67 T68 (s65 bs) (at37 bs Ψ)
+      abbrev at38 : (bs : List.List Nat.ℕ) → Typed.TF T52 O0
+      at38 = λ bs. λ Ψ. at37 bs Ψ
 
-      abbrev at39 : (bs : List.List Nat.ℕ) → Typed.TF T66 O0
-      at39 = λ bs. λ Ψ. Typed.pass T66 T67 (s64 bs) (at38 bs Ψ)
+      abbrev at39 : (bs : List.List Nat.ℕ) → Typed.TF T51 O0
+      at39 = λ bs. λ Ψ. Typed.ask (s49 bs) (at38 bs Ψ)
 
-      abbrev at40 : (bs : List.List Nat.ℕ) → Typed.TF T65 O0
-      at40 = λ bs. λ Ψ. Typed.both (s63 bs) (at39 bs Ψ)
+      abbrev at40 : (bs : List.List Nat.ℕ) → Typed.TF T49 O0
+      at40 = λ bs. λ Ψ. Typed.give (s48 bs) (at39 bs Ψ)
 
-      abbrev at41 : (bs : List.List Nat.ℕ) → Typed.TF T64 O0
-      at41 = λ bs. λ Ψ. Typed.ask (s62 bs) (at40 bs Ψ)
+      abbrev at41 : (bs : List.List Nat.ℕ) → Typed.TF T49 O0
+      at41 = λ bs. λ Ψ. at40 bs Ψ
 
-      abbrev at42 : (bs : List.List Nat.ℕ) → Typed.TF T63 O0
-      at42 = λ bs. λ Ψ. Typed.give (s61 bs) (at41 bs Ψ)
+      abbrev at42 : (bs : List.List Nat.ℕ) → Typed.TF T48 O0
+      at42 = λ bs. λ Ψ. Typed.ask (s46 bs) (at41 bs Ψ)
 
-      abbrev at43 : (bs : List.List Nat.ℕ) → Typed.TF T62 O0
-      at43 = λ bs. λ Ψ. Typed.ask (s60 bs) (at42 bs Ψ)
+      abbrev at43 : (bs : List.List Nat.ℕ) → Typed.TF T46 O0
+      at43 = λ bs. λ Ψ. Typed.give (s45 bs) (at42 bs Ψ)
 
-      abbrev at44 : (bs : List.List Nat.ℕ) → Typed.TF T61 O0
-      at44 = λ bs. λ Ψ. Typed.give (s59 bs) (at43 bs Ψ)
+      abbrev at44 : (bs : List.List Nat.ℕ) → Typed.TF T46 O0
+      at44 = λ bs. λ Ψ. at43 bs Ψ
 
-      abbrev at45 : (bs : List.List Nat.ℕ) → Typed.TF T60 O0
-      at45 = λ bs. λ Ψ. Typed.ask (s58 bs) (at44 bs Ψ)
+      abbrev at45 : (bs : List.List Nat.ℕ) → Typed.TF T45 O0
+      at45 = λ bs. λ Ψ. Typed.ask (s43 bs) (at44 bs Ψ)
 
-      abbrev at46 : (bs : List.List Nat.ℕ) → Typed.TF T59 O0
-      at46 = λ bs. λ Ψ. Typed.give (s57 bs) (at45 bs Ψ)
+      abbrev at46 : (bs : List.List Nat.ℕ) → Typed.TF T37 O0
+      at46 = λ bs. λ Ψ. Typed.give (s42 bs) (at45 bs Ψ)
 
-      abbrev at47 : (bs : List.List Nat.ℕ) → Typed.TF T58 O0
-      at47 = λ bs. λ Ψ. Typed.ask (s56 bs) (at46 bs Ψ)
+      abbrev at47 : (bs : List.List Nat.ℕ) → Typed.TF T37 O0
+      at47 = λ bs. λ Ψ. at46 bs Ψ
 
-      abbrev at48 : (bs : List.List Nat.ℕ) → Typed.TF T57 O0
-      at48 = λ bs. λ Ψ. Typed.give (s55 bs) (at47 bs Ψ)
+      abbrev at48 : (bs : List.List Nat.ℕ) → Typed.TF T36 O0
+      at48 = λ bs. λ Ψ. at8 bs (Typed.wantNext T37 O0 (at47 bs Ψ) Ψ)
 
-      abbrev at49 : (bs : List.List Nat.ℕ) → Typed.TF T56 O0
-      at49 = λ bs. λ Ψ. Typed.ask (s54 bs) (at48 bs Ψ)
+      abbrev at49 : (bs : List.List Nat.ℕ) → Typed.TF T35 O0
+      at49 = λ bs. λ Ψ. Typed.ask (s34 bs) (at48 bs Ψ)
 
-      abbrev at50 : (bs : List.List Nat.ℕ) → Typed.TF T55 O0
-      at50 = λ bs. λ Ψ. Typed.give (s53 bs) (at49 bs Ψ)
+      abbrev at50 : (bs : List.List Nat.ℕ) → Typed.TF T33 O0
+      at50 = λ bs. λ Ψ. Typed.give (s33 bs) (at49 bs Ψ)
 
-      abbrev at51 : (bs : List.List Nat.ℕ) → Typed.TF T54 O0
-      at51 = λ bs. λ Ψ. Typed.ask (s52 bs) (at50 bs Ψ)
+      abbrev at51 : (bs : List.List Nat.ℕ) → Typed.TF T33 O0
+      at51 = λ bs. λ Ψ. at50 bs Ψ
 
-      abbrev at52 : (bs : List.List Nat.ℕ) → Typed.TF T52 O0
-      at52 = λ bs. λ Ψ. Typed.give (s51 bs) (at51 bs Ψ)
+      abbrev at52 : (bs : List.List Nat.ℕ) → Typed.TF T32 O0
+      at52 = λ bs. λ Ψ. Typed.give (s31 bs) (at51 bs Ψ)
 
-      abbrev at53 : (bs : List.List Nat.ℕ) → Typed.TF T52 O0
-      at53 = λ bs. λ Ψ. at52 bs Ψ
+      abbrev at53 : (bs : List.List Nat.ℕ) → Typed.TF T29 O0
+      at53 = λ bs. λ Ψ. Typed.both (s30 bs) (at52 bs Ψ)
 
-      abbrev at54 : (bs : List.List Nat.ℕ) → Typed.TF T51 O0
-      at54 = λ bs. λ Ψ. Typed.ask (s49 bs) (at53 bs Ψ)
+      abbrev at54 : (bs : List.List Nat.ℕ) → Typed.TF T29 O0
+      at54 = λ bs. λ Ψ. at53 bs Ψ
 
-      abbrev at55 : (bs : List.List Nat.ℕ) → Typed.TF T49 O0
-      at55 = λ bs. λ Ψ. Typed.give (s48 bs) (at54 bs Ψ)
+      abbrev at55 : (bs : List.List Nat.ℕ) → Typed.TF T29 O0
+      at55 = λ bs. λ Ψ. at54 bs Ψ
 
-      abbrev at56 : (bs : List.List Nat.ℕ) → Typed.TF T49 O0
-      at56 = λ bs. λ Ψ. at55 bs Ψ
+      abbrev at56 : (bs : List.List Nat.ℕ) → Typed.TF T26 O0
+      at56 = λ bs. λ Ψ. Typed.pass T26 T29 (s27 bs) (at55 bs Ψ)
 
-      abbrev at57 : (bs : List.List Nat.ℕ) → Typed.TF T48 O0
-      at57 = λ bs. λ Ψ. Typed.ask (s46 bs) (at56 bs Ψ)
+      abbrev at57 : (bs : List.List Nat.ℕ) → Typed.TF T26 O0
+      at57 = λ bs. λ Ψ. at56 bs Ψ
 
-      abbrev at58 : (bs : List.List Nat.ℕ) → Typed.TF T46 O0
-      at58 = λ bs. λ Ψ. Typed.give (s45 bs) (at57 bs Ψ)
+      abbrev at58 : (bs : List.List Nat.ℕ) → Typed.TF T26 O0
+      at58 = λ bs. λ Ψ. at57 bs Ψ
 
-      abbrev at59 : (bs : List.List Nat.ℕ) → Typed.TF T46 O0
-      at59 = λ bs. λ Ψ. at58 bs Ψ
+      abbrev at59 : (bs : List.List Nat.ℕ) → Typed.TF T25 O0
+      at59 = λ bs. λ Ψ. Typed.give (s24 bs) (at58 bs Ψ)
 
-      abbrev at60 : (bs : List.List Nat.ℕ) → Typed.TF T45 O0
-      at60 = λ bs. λ Ψ. Typed.ask (s43 bs) (at59 bs Ψ)
+      abbrev at60 : (bs : List.List Nat.ℕ) → Typed.TF T23 O0
+      at60 = λ bs. λ Ψ. Typed.both (s23 bs) (at59 bs Ψ)
 
-      abbrev at61 : (bs : List.List Nat.ℕ) → Typed.TF T37 O0
-      at61 = λ bs. λ Ψ. Typed.give (s42 bs) (at60 bs Ψ)
+      abbrev at61 : (bs : List.List Nat.ℕ) → Typed.TF T23 O0
+      at61 = λ bs. λ Ψ. at60 bs Ψ
 
-      abbrev at62 : (bs : List.List Nat.ℕ) → Typed.TF T37 O0
-      at62 = λ bs. λ Ψ. at61 bs Ψ
+      abbrev at62 : (bs : List.List Nat.ℕ) → Typed.TF T22 O0
+      at62 = λ bs. λ Ψ. Typed.pass T22 T23 (s21 bs) (at61 bs Ψ)
 
-      abbrev at63 : (bs : List.List Nat.ℕ) → Typed.TF T36 O0
-      at63 = λ bs. λ Ψ. at8 bs (Typed.wantNext T37 O0 (at62 bs Ψ) Ψ)
+      abbrev at63 : (bs : List.List Nat.ℕ) → Typed.TF T21 O0
+      at63 = λ bs. λ Ψ. Typed.pass T21 T22 (s20 bs) (at62 bs Ψ)
 
-      abbrev at64 : (bs : List.List Nat.ℕ) → Typed.TF T35 O0
-      at64 = λ bs. λ Ψ. Typed.ask (s34 bs) (at63 bs Ψ)
+      abbrev at64 : (bs : List.List Nat.ℕ) → Typed.TF T20 O0
+      at64 = λ bs. λ Ψ. Typed.both (s19 bs) (at63 bs Ψ)
 
-      abbrev at65 : (bs : List.List Nat.ℕ) → Typed.TF T33 O0
-      at65 = λ bs. λ Ψ. Typed.give (s33 bs) (at64 bs Ψ)
+      abbrev at65 : (bs : List.List Nat.ℕ) → Typed.TF T19 O0
+      at65 = λ bs. λ Ψ. Typed.ask (s18 bs) (at64 bs Ψ)
 
-      abbrev at66 : (bs : List.List Nat.ℕ) → Typed.TF T33 O0
-      at66 = λ bs. λ Ψ. at65 bs Ψ
+      abbrev at66 : (bs : List.List Nat.ℕ) → Typed.TF T17 O0
+      at66 = λ bs. λ Ψ. Typed.give (s17 bs) (at65 bs Ψ)
 
-      abbrev at67 : (bs : List.List Nat.ℕ) → Typed.TF T32 O0
-      at67 = λ bs. λ Ψ. Typed.give (s31 bs) (at66 bs Ψ)
+      abbrev at67 : (bs : List.List Nat.ℕ) → Typed.TF T17 O0
+      at67 = λ bs. λ Ψ. at66 bs Ψ
 
-      abbrev at68 : (bs : List.List Nat.ℕ) → Typed.TF T29 O0
-      at68 = λ bs. λ Ψ. Typed.both (s30 bs) (at67 bs Ψ)
+      abbrev at68 : (bs : List.List Nat.ℕ) → Typed.TF T16 O0
+      at68 = λ bs. λ Ψ. Typed.pass T16 T17 (s15 bs) (at67 bs Ψ)
 
-      abbrev at69 : (bs : List.List Nat.ℕ) → Typed.TF T29 O0
-      at69 = λ bs. λ Ψ. at68 bs Ψ
+      abbrev at69 : (bs : List.List Nat.ℕ) → Typed.TF T15 O0
+      at69 = λ bs. λ Ψ. Typed.ask (s14 bs) (at68 bs Ψ)
 
-      abbrev at70 : (bs : List.List Nat.ℕ) → Typed.TF T29 O0
-      at70 = λ bs. λ Ψ. at69 bs Ψ
+      abbrev at70 : (bs : List.List Nat.ℕ) → Typed.TF T13 O0
+      at70 = λ bs. λ Ψ. Typed.give (s13 bs) (at69 bs Ψ)
 
-      abbrev at71 : (bs : List.List Nat.ℕ) → Typed.TF T26 O0
-      at71 = λ bs. λ Ψ. Typed.pass T26 T29 (s27 bs) (at70 bs Ψ)
+      abbrev at71 : (bs : List.List Nat.ℕ) → Typed.TF T13 O0
+      at71 = λ bs. λ Ψ. at70 bs Ψ
 
-      abbrev at72 : (bs : List.List Nat.ℕ) → Typed.TF T26 O0
-      at72 = λ bs. λ Ψ. at71 bs Ψ
+      abbrev at72 : (bs : List.List Nat.ℕ) → Typed.TF T12 O0
+      at72 = λ bs. λ Ψ. Typed.ask (s11 bs) (at71 bs Ψ)
 
-      abbrev at73 : (bs : List.List Nat.ℕ) → Typed.TF T26 O0
-      at73 = λ bs. λ Ψ. at72 bs Ψ
+      abbrev at73 : (bs : List.List Nat.ℕ) → Typed.TF T10 O0
+      at73 = λ bs. λ Ψ. Typed.give (s10 bs) (at72 bs Ψ)
 
-      abbrev at74 : (bs : List.List Nat.ℕ) → Typed.TF T25 O0
-      at74 = λ bs. λ Ψ. Typed.give (s24 bs) (at73 bs Ψ)
+      abbrev at74 : (bs : List.List Nat.ℕ) → Typed.TF T10 O0
+      at74 = λ bs. λ Ψ. at73 bs Ψ
 
-      abbrev at75 : (bs : List.List Nat.ℕ) → Typed.TF T23 O0
-      at75 = λ bs. λ Ψ. Typed.both (s23 bs) (at74 bs Ψ)
+      abbrev at75 : (bs : List.List Nat.ℕ) → Typed.TF T9 O0
+      at75 = λ bs. λ Ψ. Typed.give (s8 bs) (at74 bs Ψ)
 
-      abbrev at76 : (bs : List.List Nat.ℕ) → Typed.TF T23 O0
-      at76 = λ bs. λ Ψ. at75 bs Ψ
+      abbrev at76 : (bs : List.List Nat.ℕ) → Typed.TF T8 O0
+      at76 = λ bs. λ Ψ. Typed.give (s7 bs) (at75 bs Ψ)
 
-      abbrev at77 : (bs : List.List Nat.ℕ) → Typed.TF T22 O0
-      at77 = λ bs. λ Ψ. Typed.pass T22 T23 (s21 bs) (at76 bs Ψ)
+      abbrev at77 : (bs : List.List Nat.ℕ) → Typed.TF T7 O0
+      at77 = λ bs. λ Ψ. Typed.give (s6 bs) (at76 bs Ψ)
 
-      abbrev at78 : (bs : List.List Nat.ℕ) → Typed.TF T21 O0
-      at78 = λ bs. λ Ψ. Typed.pass T21 T22 (s20 bs) (at77 bs Ψ)
+      abbrev at78 : (bs : List.List Nat.ℕ) → Typed.TF T6 O0
+      at78 = λ bs. λ Ψ. Typed.give (s5 bs) (at77 bs Ψ)
 
-      abbrev at79 : (bs : List.List Nat.ℕ) → Typed.TF T20 O0
-      at79 = λ bs. λ Ψ. Typed.both (s19 bs) (at78 bs Ψ)
+      abbrev at79 : (bs : List.List Nat.ℕ) → Typed.TF T5 O0
+      at79 = λ bs. λ Ψ. Typed.give (s4 bs) (at78 bs Ψ)
 
-      abbrev at80 : (bs : List.List Nat.ℕ) → Typed.TF T19 O0
-      at80 = λ bs. λ Ψ. Typed.ask (s18 bs) (at79 bs Ψ)
+      abbrev at80 : (bs : List.List Nat.ℕ) → Typed.TF T4 O0
+      at80 = λ bs. λ Ψ. Typed.give (s3 bs) (at79 bs Ψ)
 
-      abbrev at81 : (bs : List.List Nat.ℕ) → Typed.TF T17 O0
-      at81 = λ bs. λ Ψ. Typed.give (s17 bs) (at80 bs Ψ)
+      abbrev at81 : (bs : List.List Nat.ℕ) → Typed.TF T3 O0
+      at81 = λ bs. λ Ψ. Typed.give (s2 bs) (at80 bs Ψ)
 
-      abbrev at82 : (bs : List.List Nat.ℕ) → Typed.TF T17 O0
-      at82 = λ bs. λ Ψ. at81 bs Ψ
+      abbrev at82 : (bs : List.List Nat.ℕ) → Typed.TF T2 O0
+      at82 = λ bs. λ Ψ. Typed.give (s1 bs) (at81 bs Ψ)
 
-      abbrev at83 : (bs : List.List Nat.ℕ) → Typed.TF T16 O0
-      at83 = λ bs. λ Ψ. Typed.pass T16 T17 (s15 bs) (at82 bs Ψ)
-
-      abbrev at84 : (bs : List.List Nat.ℕ) → Typed.TF T15 O0
-      at84 = λ bs. λ Ψ. Typed.ask (s14 bs) (at83 bs Ψ)
-
-      abbrev at85 : (bs : List.List Nat.ℕ) → Typed.TF T13 O0
-      at85 = λ bs. λ Ψ. Typed.give (s13 bs) (at84 bs Ψ)
-
-      abbrev at86 : (bs : List.List Nat.ℕ) → Typed.TF T13 O0
-      at86 = λ bs. λ Ψ. at85 bs Ψ
-
-      abbrev at87 : (bs : List.List Nat.ℕ) → Typed.TF T12 O0
-      at87 = λ bs. λ Ψ. Typed.ask (s11 bs) (at86 bs Ψ)
-
-      abbrev at88 : (bs : List.List Nat.ℕ) → Typed.TF T10 O0
-      at88 = λ bs. λ Ψ. Typed.give (s10 bs) (at87 bs Ψ)
-
-      abbrev at89 : (bs : List.List Nat.ℕ) → Typed.TF T10 O0
-      at89 = λ bs. λ Ψ. at88 bs Ψ
-
-      abbrev at90 : (bs : List.List Nat.ℕ) → Typed.TF T9 O0
-      at90 = λ bs. λ Ψ. Typed.give (s8 bs) (at89 bs Ψ)
-
-      abbrev at91 : (bs : List.List Nat.ℕ) → Typed.TF T8 O0
-      at91 = λ bs. λ Ψ. Typed.give (s7 bs) (at90 bs Ψ)
-
-      abbrev at92 : (bs : List.List Nat.ℕ) → Typed.TF T7 O0
-      at92 = λ bs. λ Ψ. Typed.give (s6 bs) (at91 bs Ψ)
-
-      abbrev at93 : (bs : List.List Nat.ℕ) → Typed.TF T6 O0
-      at93 = λ bs. λ Ψ. Typed.give (s5 bs) (at92 bs Ψ)
-
-      abbrev at94 : (bs : List.List Nat.ℕ) → Typed.TF T5 O0
-      at94 = λ bs. λ Ψ. Typed.give (s4 bs) (at93 bs Ψ)
-
-      abbrev at95 : (bs : List.List Nat.ℕ) → Typed.TF T4 O0
-      at95 = λ bs. λ Ψ. Typed.give (s3 bs) (at94 bs Ψ)
-
-      abbrev at96 : (bs : List.List Nat.ℕ) → Typed.TF T3 O0
-      at96 = λ bs. λ Ψ. Typed.give (s2 bs) (at95 bs Ψ)
-
-      abbrev at97 : (bs : List.List Nat.ℕ) → Typed.TF T2 O0
-      at97 = λ bs. λ Ψ. Typed.give (s1 bs) (at96 bs Ψ)
-
-      abbrev at98 : (bs : List.List Nat.ℕ) → Typed.TF T0 O0
-      at98 = λ bs. λ Ψ. Typed.give (s0 bs) (at97 bs Ψ)
+      abbrev at83 : (bs : List.List Nat.ℕ) → Typed.TF T0 O0
+      at83 = λ bs. λ Ψ. Typed.give (s0 bs) (at82 bs Ψ)
 
       abbrev pub Φ : (bs : List.List Nat.ℕ) → Typed.TF T0 O0
-      Φ = λ bs. at98 bs
+      Φ = λ bs. at83 bs
 
       module _ {M : Type 1} (𝓤 : URA.URA M) (H : Wp.Heap 𝓤) (A : Atoms.Atoms 𝓤) (W : Kit.Given 𝓤 H A) (𝓣 : Wp.Tables 𝓤 H) where
         abbrev Knowns : Type 1
@@ -1685,353 +1466,308 @@ module _ (claims· : Claims) where
         abbrev pub z37· : List.List Row.Life
         z37· = k4· ∷ k0· ∷ k5· ∷ k6· ∷ k7· ∷ k8· ∷ k9· ∷ k1· ∷ k3· ∷ k2· ∷ Row.off ∷ Row.off ∷ Row.off ∷ Row.off ∷ Row.off ∷ Row.off ∷ Row.off ∷ Row.dead ∷ []
 
+        abbrev g3 : List.List Row.Entry
+        g3 = r0· ∷ r1· ∷ r2· ∷ g0· ∷ r4· ∷ r5· ∷ r6· ∷ r7· ∷ r8· ∷ r9· ∷ r10· ∷ r11· ∷ r12· ∷ r13· ∷ r35· ∷ r15· ∷ []
+
         abbrev g4 : List.List Row.Entry
-        g4 = r0· ∷ r1· ∷ r2· ∷ g0· ∷ r4· ∷ r5· ∷ r6· ∷ r7· ∷ r8· ∷ r9· ∷ r10· ∷ r11· ∷ r12· ∷ r13· ∷ r39· ∷ r15· ∷ []
+        g4 = r0· ∷ r1· ∷ r2· ∷ g0· ∷ r4· ∷ r5· ∷ r6· ∷ r7· ∷ r8· ∷ r9· ∷ r10· ∷ r11· ∷ r12· ∷ r13· ∷ r14· ∷ r36· ∷ []
 
         abbrev g5 : List.List Row.Entry
-        g5 = r0· ∷ r1· ∷ r2· ∷ g0· ∷ r4· ∷ r5· ∷ r6· ∷ r7· ∷ r8· ∷ r9· ∷ r10· ∷ r11· ∷ r12· ∷ r13· ∷ r14· ∷ r40· ∷ []
+        g5 = r0· ∷ r1· ∷ r2· ∷ g0· ∷ r4· ∷ r5· ∷ r6· ∷ r7· ∷ r8· ∷ g1· ∷ r10· ∷ r11· ∷ r12· ∷ r13· ∷ r14· ∷ r36· ∷ []
 
-        abbrev g6 : List.List Row.Entry
-        g6 = r0· ∷ r1· ∷ r2· ∷ g0· ∷ r4· ∷ r5· ∷ r6· ∷ r7· ∷ r8· ∷ g1· ∷ r10· ∷ r11· ∷ r12· ∷ r13· ∷ r14· ∷ r40· ∷ []
+        abbrev g9 : List.List Row.Entry
+        g9 = r0· ∷ r1· ∷ r2· ∷ g0· ∷ r4· ∷ r5· ∷ r6· ∷ r7· ∷ r8· ∷ g1· ∷ r10· ∷ g2· ∷ r12· ∷ r13· ∷ r14· ∷ r36· ∷ []
 
-        abbrev g10 : List.List Row.Entry
-        g10 = r0· ∷ r1· ∷ r2· ∷ g0· ∷ r4· ∷ r5· ∷ r6· ∷ r7· ∷ r8· ∷ g1· ∷ r10· ∷ g2· ∷ r12· ∷ r13· ∷ r14· ∷ r40· ∷ []
+        abbrev g12 : List.List Row.Entry
+        g12 = r0· ∷ r1· ∷ r2· ∷ g0· ∷ r4· ∷ r5· ∷ r6· ∷ r7· ∷ r8· ∷ g1· ∷ r10· ∷ g2· ∷ r44· ∷ r13· ∷ r14· ∷ r45· ∷ []
 
-        abbrev g13 : List.List Row.Entry
-        g13 = r0· ∷ r1· ∷ r2· ∷ g0· ∷ r4· ∷ r5· ∷ r6· ∷ r7· ∷ r8· ∷ g1· ∷ r10· ∷ g2· ∷ r48· ∷ r13· ∷ r14· ∷ r49· ∷ []
+        abbrev g16 : List.List Row.Entry
+        g16 = r0· ∷ r1· ∷ r2· ∷ r3· ∷ r4· ∷ r5· ∷ r6· ∷ r7· ∷ r8· ∷ g1· ∷ r10· ∷ g2· ∷ r44· ∷ r13· ∷ r14· ∷ r15· ∷ []
 
         abbrev g17 : List.List Row.Entry
-        g17 = r0· ∷ r1· ∷ r2· ∷ r3· ∷ r4· ∷ r5· ∷ r6· ∷ r7· ∷ r8· ∷ g1· ∷ r10· ∷ g2· ∷ r48· ∷ r13· ∷ r14· ∷ r15· ∷ []
+        g17 = r0· ∷ r1· ∷ r2· ∷ r3· ∷ r4· ∷ r5· ∷ r6· ∷ r7· ∷ r8· ∷ r9· ∷ r10· ∷ g2· ∷ r44· ∷ r13· ∷ r14· ∷ r15· ∷ []
 
-        abbrev g18 : List.List Row.Entry
-        g18 = r0· ∷ r1· ∷ r2· ∷ r3· ∷ r4· ∷ r5· ∷ r6· ∷ r7· ∷ r8· ∷ r9· ∷ r10· ∷ g2· ∷ r48· ∷ r13· ∷ r14· ∷ r15· ∷ []
+        abbrev g22 : List.List Row.Entry
+        g22 = r0· ∷ r1· ∷ r2· ∷ g3· ∷ r4· ∷ r5· ∷ r6· ∷ r7· ∷ r8· ∷ r9· ∷ r10· ∷ r11· ∷ r12· ∷ r13· ∷ r14· ∷ r15· ∷ []
 
-        abbrev g23 : List.List Row.Entry
-        g23 = r0· ∷ r1· ∷ r2· ∷ g3· ∷ r4· ∷ r5· ∷ r6· ∷ r7· ∷ r8· ∷ r9· ∷ r10· ∷ r11· ∷ r12· ∷ r13· ∷ r14· ∷ r15· ∷ []
+        abbrev g25 : List.List Row.Entry
+        g25 = r0· ∷ r1· ∷ r2· ∷ g3· ∷ r4· ∷ r5· ∷ r6· ∷ r7· ∷ r8· ∷ g4· ∷ r10· ∷ r11· ∷ r12· ∷ r13· ∷ r14· ∷ r15· ∷ []
 
-        abbrev g26 : List.List Row.Entry
-        g26 = r0· ∷ r1· ∷ r2· ∷ g3· ∷ r4· ∷ r5· ∷ r6· ∷ r7· ∷ r8· ∷ g4· ∷ r10· ∷ r11· ∷ r12· ∷ r13· ∷ r14· ∷ r15· ∷ []
+        abbrev g28 : List.List Row.Entry
+        g28 = r0· ∷ r1· ∷ r2· ∷ g3· ∷ r4· ∷ r5· ∷ r6· ∷ r7· ∷ r8· ∷ g4· ∷ g5· ∷ r11· ∷ r12· ∷ r13· ∷ r14· ∷ r15· ∷ []
 
-        abbrev g29 : List.List Row.Entry
-        g29 = r0· ∷ r1· ∷ r2· ∷ g3· ∷ r4· ∷ r5· ∷ r6· ∷ r7· ∷ r8· ∷ g4· ∷ g5· ∷ r11· ∷ r12· ∷ r13· ∷ r14· ∷ r15· ∷ []
+        abbrev g31 : List.List Row.Entry
+        g31 = r0· ∷ r1· ∷ r2· ∷ g3· ∷ r4· ∷ r5· ∷ r6· ∷ r7· ∷ r8· ∷ g4· ∷ g5· ∷ g6· ∷ r12· ∷ r13· ∷ r14· ∷ r15· ∷ []
 
-        abbrev g32 : List.List Row.Entry
-        g32 = r0· ∷ r1· ∷ r2· ∷ g3· ∷ r4· ∷ r5· ∷ r6· ∷ r7· ∷ r8· ∷ g4· ∷ g5· ∷ g6· ∷ r12· ∷ r13· ∷ r14· ∷ r15· ∷ []
+        abbrev g34 : List.List Row.Entry
+        g34 = r0· ∷ r1· ∷ r2· ∷ g3· ∷ r4· ∷ r5· ∷ r6· ∷ r7· ∷ r8· ∷ g4· ∷ g5· ∷ g6· ∷ r12· ∷ r60· ∷ r14· ∷ r15· ∷ []
+
+        abbrev g36 : List.List Row.Entry
+        g36 = r0· ∷ r1· ∷ r2· ∷ r3· ∷ r4· ∷ r5· ∷ r6· ∷ r7· ∷ r8· ∷ g4· ∷ g5· ∷ g6· ∷ r12· ∷ r60· ∷ r14· ∷ r15· ∷ []
+
+        abbrev g38 : List.List Row.Entry
+        g38 = r0· ∷ r1· ∷ r2· ∷ r3· ∷ r4· ∷ r5· ∷ r6· ∷ r7· ∷ r8· ∷ r9· ∷ g5· ∷ g6· ∷ r12· ∷ r60· ∷ r14· ∷ r15· ∷ []
 
         abbrev g40 : List.List Row.Entry
-        g40 = r0· ∷ r1· ∷ r2· ∷ g3· ∷ r4· ∷ r5· ∷ r6· ∷ r7· ∷ r8· ∷ g4· ∷ g5· ∷ g6· ∷ r12· ∷ r68· ∷ r14· ∷ r15· ∷ []
+        g40 = r0· ∷ r1· ∷ r2· ∷ r3· ∷ r4· ∷ r5· ∷ r6· ∷ r7· ∷ r8· ∷ r9· ∷ r10· ∷ g6· ∷ r12· ∷ r60· ∷ r14· ∷ r15· ∷ []
+
+        abbrev g43 : List.List Row.Entry
+        g43 = r0· ∷ r1· ∷ r2· ∷ g7· ∷ r4· ∷ r5· ∷ r6· ∷ r7· ∷ r8· ∷ r9· ∷ r10· ∷ r11· ∷ r12· ∷ r60· ∷ r14· ∷ r15· ∷ []
 
         abbrev g46 : List.List Row.Entry
-        g46 = r0· ∷ r1· ∷ r2· ∷ r3· ∷ r4· ∷ r5· ∷ r6· ∷ r7· ∷ r8· ∷ g4· ∷ g5· ∷ g6· ∷ r12· ∷ r68· ∷ r14· ∷ r15· ∷ []
+        g46 = r32· ∷ r1· ∷ r2· ∷ g7· ∷ r4· ∷ r5· ∷ r6· ∷ r7· ∷ r8· ∷ r9· ∷ r10· ∷ r11· ∷ r12· ∷ r60· ∷ r14· ∷ r15· ∷ []
 
         abbrev g48 : List.List Row.Entry
-        g48 = r0· ∷ r1· ∷ r2· ∷ r3· ∷ r4· ∷ r5· ∷ r6· ∷ r7· ∷ r8· ∷ r9· ∷ g5· ∷ g6· ∷ r12· ∷ r68· ∷ r14· ∷ r15· ∷ []
+        g48 = r32· ∷ r33· ∷ r2· ∷ g7· ∷ r4· ∷ r5· ∷ r6· ∷ r7· ∷ r8· ∷ r9· ∷ r10· ∷ r11· ∷ r12· ∷ r60· ∷ r14· ∷ r15· ∷ []
 
-        abbrev g50 : List.List Row.Entry
-        g50 = r0· ∷ r1· ∷ r2· ∷ r3· ∷ r4· ∷ r5· ∷ r6· ∷ r7· ∷ r8· ∷ r9· ∷ r10· ∷ g6· ∷ r12· ∷ r68· ∷ r14· ∷ r15· ∷ []
-
-        abbrev g53 : List.List Row.Entry
-        g53 = r0· ∷ r1· ∷ r2· ∷ g7· ∷ r4· ∷ r5· ∷ r6· ∷ r7· ∷ r8· ∷ r9· ∷ r10· ∷ r11· ∷ r12· ∷ r68· ∷ r14· ∷ r15· ∷ []
-
-        abbrev g56 : List.List Row.Entry
-        g56 = r36· ∷ r1· ∷ r2· ∷ g7· ∷ r4· ∷ r5· ∷ r6· ∷ r7· ∷ r8· ∷ r9· ∷ r10· ∷ r11· ∷ r12· ∷ r68· ∷ r14· ∷ r15· ∷ []
-
-        abbrev g58 : List.List Row.Entry
-        g58 = r36· ∷ r37· ∷ r2· ∷ g7· ∷ r4· ∷ r5· ∷ r6· ∷ r7· ∷ r8· ∷ r9· ∷ r10· ∷ r11· ∷ r12· ∷ r68· ∷ r14· ∷ r15· ∷ []
-
-        abbrev g59 : List.List Row.Entry
-        g59 = r36· ∷ r37· ∷ r2· ∷ g7· ∷ r4· ∷ r5· ∷ r6· ∷ r7· ∷ r8· ∷ r9· ∷ r10· ∷ r11· ∷ r12· ∷ r13· ∷ r14· ∷ r15· ∷ []
+        abbrev g49 : List.List Row.Entry
+        g49 = r32· ∷ r33· ∷ r2· ∷ g7· ∷ r4· ∷ r5· ∷ r6· ∷ r7· ∷ r8· ∷ r9· ∷ r10· ∷ r11· ∷ r12· ∷ r13· ∷ r14· ∷ r15· ∷ []
 
         abbrev G0 : Row.Cx
-        G0 = record { locals = List._++_ t0 (List._++_ t1 t2); slots = z0· }
+        G0 = record { locals = List._++_ t0 t1; slots = z0· }
 
         abbrev G1 : Row.Cx
-        G1 = record { locals = List._++_ t3 (List._++_ t1 t2); slots = z0· }
+        G1 = record { locals = List._++_ t2 t1; slots = z0· }
 
         abbrev G2 : Row.Cx
-        G2 = record { locals = List._++_ t0 (List._++_ t1 t2); slots = z0· }
+        G2 = record { locals = List._++_ t0 t1; slots = z0· }
 
         abbrev G3 : Row.Cx
-        G3 = record { locals = List._++_ t0 (List._++_ t1 t2); slots = z0· }
+        G3 = record { locals = List._++_ t0 t1; slots = z0· }
 
         abbrev G4 : Row.Cx
-        G4 = record { locals = List._++_ t0 (List._++_ t1 t2); slots = z0· }
+        G4 = record { locals = List._++_ t0 t1; slots = z0· }
 
         abbrev G5 : Row.Cx
-        G5 = record { locals = List._++_ t0 (List._++_ t1 t2); slots = z0· }
+        G5 = record { locals = List._++_ t0 t1; slots = z0· }
 
         abbrev G6 : Row.Cx
-        G6 = record { locals = List._++_ t0 (List._++_ t1 t2); slots = z0· }
+        G6 = record { locals = List._++_ t0 t1; slots = z0· }
 
         abbrev G7 : Row.Cx
-        G7 = record { locals = List._++_ t0 (List._++_ t1 t2); slots = z0· }
+        G7 = record { locals = List._++_ t0 t1; slots = z0· }
 
         abbrev G8 : Row.Cx
-        G8 = record { locals = List._++_ t0 (List._++_ t1 t2); slots = z0· }
+        G8 = record { locals = List._++_ t0 t1; slots = z0· }
 
         abbrev G9 : Row.Cx
-        G9 = record { locals = List._++_ t0 (List._++_ t1 t2); slots = z0· }
+        G9 = record { locals = List._++_ t0 t1; slots = z0· }
 
         abbrev G10 : Row.Cx
-        G10 = record { locals = List._++_ t0 (List._++_ t1 t2); slots = z0· }
+        G10 = record { locals = List._++_ t0 t1; slots = z0· }
 
         abbrev G11 : Row.Cx
-        G11 = record { locals = List._++_ t0 (List._++_ t1 t2); slots = z1· }
+        G11 = record { locals = List._++_ t0 t1; slots = z1· }
 
         abbrev G12 : Row.Cx
-        G12 = record { locals = List._++_ g4 (List._++_ t1 t2); slots = z2· }
+        G12 = record { locals = List._++_ g3 t1; slots = z2· }
 
         abbrev G13 : Row.Cx
-        G13 = record { locals = List._++_ g5 (List._++_ t1 t2); slots = z2· }
+        G13 = record { locals = List._++_ g4 t1; slots = z2· }
 
         abbrev G14 : Row.Cx
-        G14 = record { locals = List._++_ g5 (List._++_ t1 t2); slots = z3· }
+        G14 = record { locals = List._++_ g4 t1; slots = z3· }
 
         abbrev G15 : Row.Cx
-        G15 = record { locals = List._++_ g6 (List._++_ t7 t2); slots = z4· }
+        G15 = record { locals = List._++_ g5 t6; slots = z4· }
 
         abbrev G16 : Row.Cx
-        G16 = record { locals = List._++_ g6 (List._++_ t8 t2); slots = z4· }
+        G16 = record { locals = List._++_ g5 t7; slots = z4· }
 
         abbrev G17 : Row.Cx
-        G17 = record { locals = List._++_ g6 (List._++_ t9 t2); slots = z4· }
+        G17 = record { locals = List._++_ g5 t8; slots = z4· }
 
         abbrev G18 : Row.Cx
-        G18 = record { locals = List._++_ g6 (List._++_ t9 t2); slots = z5· }
+        G18 = record { locals = List._++_ g5 t8; slots = z5· }
 
         abbrev G19 : Row.Cx
-        G19 = record { locals = List._++_ g10 (List._++_ t11 t2); slots = z6· }
+        G19 = record { locals = List._++_ g9 t10; slots = z6· }
 
         abbrev G20 : Row.Cx
-        G20 = record { locals = List._++_ g10 (List._++_ t12 t2); slots = z6· }
+        G20 = record { locals = List._++_ g9 t11; slots = z6· }
 
         abbrev G21 : Row.Cx
-        G21 = record { locals = List._++_ g13 (List._++_ t14 t2); slots = z6· }
+        G21 = record { locals = List._++_ g12 t13; slots = z6· }
 
         abbrev G22 : Row.Cx
-        G22 = record { locals = List._++_ g13 (List._++_ t15 t2); slots = z6· }
+        G22 = record { locals = List._++_ g12 t14; slots = z6· }
 
         abbrev G23 : Row.Cx
-        G23 = record { locals = List._++_ g13 (List._++_ t16 t2); slots = z6· }
+        G23 = record { locals = List._++_ g12 t15; slots = z6· }
 
         abbrev G24 : Row.Cx
-        G24 = record { locals = List._++_ g13 (List._++_ t16 t2); slots = z7· }
+        G24 = record { locals = List._++_ g12 t15; slots = z7· }
 
         abbrev G25 : Row.Cx
-        G25 = record { locals = List._++_ g17 (List._++_ t16 t2); slots = z8· }
+        G25 = record { locals = List._++_ g16 t15; slots = z8· }
 
         abbrev G26 : Row.Cx
-        G26 = record { locals = List._++_ g17 (List._++_ t16 t2); slots = z8· }
+        G26 = record { locals = List._++_ g16 t15; slots = z8· }
 
         abbrev G27 : Row.Cx
-        G27 = record { locals = List._++_ g17 (List._++_ t16 t2); slots = z9· }
+        G27 = record { locals = List._++_ g16 t15; slots = z9· }
 
         abbrev G28 : Row.Cx
-        G28 = record { locals = List._++_ g17 (List._++_ t16 t2); slots = z10· }
+        G28 = record { locals = List._++_ g16 t15; slots = z10· }
 
         abbrev G29 : Row.Cx
-        G29 = record { locals = List._++_ g18 (List._++_ t16 t2); slots = z11· }
+        G29 = record { locals = List._++_ g17 t15; slots = z11· }
 
         abbrev G30 : Row.Cx
-        G30 = record { locals = List._++_ g18 (List._++_ t16 t2); slots = z12· }
+        G30 = record { locals = List._++_ g17 t15; slots = z12· }
 
         abbrev G31 : Row.Cx
-        G31 = record { locals = List._++_ g18 (List._++_ t16 t2); slots = z13· }
+        G31 = record { locals = List._++_ g17 t15; slots = z13· }
 
         abbrev G32 : Row.Cx
-        G32 = record { locals = List._++_ t19 (List._++_ t1 t2); slots = z14· }
+        G32 = record { locals = List._++_ t18 t1; slots = z14· }
 
         abbrev G33 : Row.Cx
-        G33 = record { locals = List._++_ t19 (List._++_ t1 t2); slots = z14· }
+        G33 = record { locals = List._++_ t18 t1; slots = z14· }
 
         abbrev G34 : Row.Cx
-        G34 = record { locals = List._++_ t19 (List._++_ t1 t2); slots = z0· }
+        G34 = record { locals = List._++_ t18 t1; slots = z0· }
 
         abbrev G35 : Row.Cx
-        G35 = record { locals = List._++_ t19 (List._++_ t1 t2); slots = z0· }
+        G35 = record { locals = List._++_ t18 t1; slots = z0· }
 
         abbrev G36 : Row.Cx
-        G36 = record { locals = List._++_ t19 (List._++_ t20 t2); slots = z0· }
+        G36 = record { locals = List._++_ t18 t19; slots = z0· }
 
         abbrev G37 : Row.Cx
-        G37 = record { locals = List._++_ t0 (List._++_ t1 t2); slots = z0· }
+        G37 = record { locals = List._++_ t0 t1; slots = z0· }
 
         abbrev G38 : Row.Cx
-        G38 = record { locals = List._++_ t21 (List._++_ t20 t2); slots = z0· }
+        G38 = record { locals = List._++_ t20 t19; slots = z0· }
 
         abbrev G39 : Row.Cx
-        G39 = record { locals = List._++_ t21 (List._++_ t1 t2); slots = z0· }
+        G39 = record { locals = List._++_ t20 t1; slots = z0· }
 
         abbrev G40 : Row.Cx
-        G40 = record { locals = List._++_ t22 (List._++_ t1 t2); slots = z0· }
+        G40 = record { locals = List._++_ t21 t1; slots = z0· }
 
         abbrev G41 : Row.Cx
-        G41 = record { locals = List._++_ t3 (List._++_ t1 t2); slots = z0· }
+        G41 = record { locals = List._++_ t2 t1; slots = z0· }
 
         abbrev G42 : Row.Cx
-        G42 = record { locals = List._++_ t0 (List._++_ t20 t2); slots = z0· }
+        G42 = record { locals = List._++_ t0 t19; slots = z0· }
 
         abbrev G43 : Row.Cx
-        G43 = record { locals = List._++_ t0 (List._++_ t1 t2); slots = z0· }
+        G43 = record { locals = List._++_ t0 t1; slots = z0· }
 
         abbrev G44 : Row.Cx
-        G44 = record { locals = List._++_ t0 (List._++_ t1 t2); slots = z15· }
+        G44 = record { locals = List._++_ t0 t1; slots = z15· }
 
         abbrev G45 : Row.Cx
-        G45 = record { locals = List._++_ g23 (List._++_ t24 t2); slots = z16· }
+        G45 = record { locals = List._++_ g22 t23; slots = z16· }
 
         abbrev G46 : Row.Cx
-        G46 = record { locals = List._++_ g23 (List._++_ t25 t2); slots = z16· }
+        G46 = record { locals = List._++_ g22 t24; slots = z16· }
 
         abbrev G47 : Row.Cx
-        G47 = record { locals = List._++_ g23 (List._++_ t25 t2); slots = z17· }
+        G47 = record { locals = List._++_ g22 t24; slots = z17· }
 
         abbrev G48 : Row.Cx
-        G48 = record { locals = List._++_ g26 (List._++_ t27 t2); slots = z18· }
+        G48 = record { locals = List._++_ g25 t26; slots = z18· }
 
         abbrev G49 : Row.Cx
-        G49 = record { locals = List._++_ g26 (List._++_ t28 t2); slots = z18· }
+        G49 = record { locals = List._++_ g25 t27; slots = z18· }
 
         abbrev G50 : Row.Cx
-        G50 = record { locals = List._++_ g26 (List._++_ t28 t2); slots = z19· }
+        G50 = record { locals = List._++_ g25 t27; slots = z19· }
 
         abbrev G51 : Row.Cx
-        G51 = record { locals = List._++_ g29 (List._++_ t30 t2); slots = z20· }
+        G51 = record { locals = List._++_ g28 t29; slots = z20· }
 
         abbrev G52 : Row.Cx
-        G52 = record { locals = List._++_ g29 (List._++_ t31 t2); slots = z20· }
+        G52 = record { locals = List._++_ g28 t30; slots = z20· }
 
         abbrev G53 : Row.Cx
-        G53 = record { locals = List._++_ g29 (List._++_ t31 t2); slots = z21· }
+        G53 = record { locals = List._++_ g28 t30; slots = z21· }
 
         abbrev G54 : Row.Cx
-        G54 = record { locals = List._++_ g32 (List._++_ t33 t2); slots = z22· }
+        G54 = record { locals = List._++_ g31 t32; slots = z22· }
 
         abbrev G55 : Row.Cx
-        G55 = record { locals = List._++_ g32 (List._++_ t34 t2); slots = z22· }
+        G55 = record { locals = List._++_ g31 t33; slots = z22· }
 
         abbrev G56 : Row.Cx
-        G56 = record { locals = List._++_ g32 (List._++_ t34 t2); slots = z22· }
+        G56 = record { locals = List._++_ g34 t35; slots = z22· }
 
         abbrev G57 : Row.Cx
-        G57 = record { locals = List._++_ g32 (List._++_ t35 t2); slots = z22· }
+        G57 = record { locals = List._++_ g34 t35; slots = z23· }
 
         abbrev G58 : Row.Cx
-        G58 = record { locals = List._++_ g32 (List._++_ t35 t2); slots = z22· }
+        G58 = record { locals = List._++_ g36 t37; slots = z24· }
 
         abbrev G59 : Row.Cx
-        G59 = record { locals = List._++_ g32 (List._++_ t36 t2); slots = z22· }
+        G59 = record { locals = List._++_ g36 t37; slots = z24· }
 
         abbrev G60 : Row.Cx
-        G60 = record { locals = List._++_ g32 (List._++_ t36 t2); slots = z22· }
+        G60 = record { locals = List._++_ g36 t37; slots = z25· }
 
         abbrev G61 : Row.Cx
-        G61 = record { locals = List._++_ g32 (List._++_ t37 t2); slots = z22· }
+        G61 = record { locals = List._++_ g36 t37; slots = z26· }
 
         abbrev G62 : Row.Cx
-        G62 = record { locals = List._++_ g32 (List._++_ t37 t2); slots = z22· }
+        G62 = record { locals = List._++_ g38 t39; slots = z27· }
 
         abbrev G63 : Row.Cx
-        G63 = record { locals = List._++_ g32 (List._++_ t37 t38); slots = z22· }
+        G63 = record { locals = List._++_ g38 t39; slots = z27· }
 
         abbrev G64 : Row.Cx
-        G64 = record { locals = List._++_ g32 (List._++_ t37 t38); slots = z22· }
+        G64 = record { locals = List._++_ g38 t39; slots = z28· }
 
         abbrev G65 : Row.Cx
-        G65 = record { locals = List._++_ g32 (List._++_ t37 t39); slots = z22· }
+        G65 = record { locals = List._++_ g38 t39; slots = z29· }
 
         abbrev G66 : Row.Cx
-        G66 = record { locals = List._++_ g40 (List._++_ t41 t39); slots = z22· }
+        G66 = record { locals = List._++_ g40 t41; slots = z30· }
 
         abbrev G67 : Row.Cx
-        G67 = record { locals = List._++_ g40 (List._++_ t42 t39); slots = z22· }
+        G67 = record { locals = List._++_ g40 t41; slots = z31· }
 
         abbrev G68 : Row.Cx
-        G68 = record { locals = List._++_ g40 (List._++_ t43 t39); slots = z22· }
+        G68 = record { locals = List._++_ g40 t41; slots = z32· }
 
         abbrev G69 : Row.Cx
-        G69 = record { locals = List._++_ g40 (List._++_ t44 t39); slots = z22· }
+        G69 = record { locals = List._++_ t42 t1; slots = z33· }
 
         abbrev G70 : Row.Cx
-        G70 = record { locals = List._++_ g40 (List._++_ t44 t45); slots = z22· }
+        G70 = record { locals = List._++_ t42 t1; slots = z33· }
 
         abbrev G71 : Row.Cx
-        G71 = record { locals = List._++_ g40 (List._++_ t44 t2); slots = z22· }
+        G71 = record { locals = List._++_ t42 t1; slots = z0· }
 
         abbrev G72 : Row.Cx
-        G72 = record { locals = List._++_ g40 (List._++_ t44 t2); slots = z23· }
+        G72 = record { locals = List._++_ t42 t1; slots = z34· }
 
         abbrev G73 : Row.Cx
-        G73 = record { locals = List._++_ g46 (List._++_ t47 t2); slots = z24· }
+        G73 = record { locals = List._++_ g43 t44; slots = z35· }
 
         abbrev G74 : Row.Cx
-        G74 = record { locals = List._++_ g46 (List._++_ t47 t2); slots = z24· }
+        G74 = record { locals = List._++_ g43 t45; slots = z35· }
 
         abbrev G75 : Row.Cx
-        G75 = record { locals = List._++_ g46 (List._++_ t47 t2); slots = z25· }
+        G75 = record { locals = List._++_ g46 t47; slots = z35· }
 
         abbrev G76 : Row.Cx
-        G76 = record { locals = List._++_ g46 (List._++_ t47 t2); slots = z26· }
+        G76 = record { locals = List._++_ g48 t47; slots = z35· }
 
         abbrev G77 : Row.Cx
-        G77 = record { locals = List._++_ g48 (List._++_ t49 t2); slots = z27· }
+        G77 = record { locals = List._++_ g49 t47; slots = z35· }
 
         abbrev G78 : Row.Cx
-        G78 = record { locals = List._++_ g48 (List._++_ t49 t2); slots = z27· }
+        G78 = record { locals = List._++_ g49 t47; slots = z36· }
 
         abbrev G79 : Row.Cx
-        G79 = record { locals = List._++_ g48 (List._++_ t49 t2); slots = z28· }
+        G79 = record { locals = List._++_ t2 t1; slots = z37· }
 
         abbrev G80 : Row.Cx
-        G80 = record { locals = List._++_ g48 (List._++_ t49 t2); slots = z29· }
+        G80 = record { locals = List._++_ t2 t1; slots = z37· }
 
         abbrev G81 : Row.Cx
-        G81 = record { locals = List._++_ g50 (List._++_ t51 t2); slots = z30· }
-
-        abbrev G82 : Row.Cx
-        G82 = record { locals = List._++_ g50 (List._++_ t51 t2); slots = z31· }
-
-        abbrev G83 : Row.Cx
-        G83 = record { locals = List._++_ g50 (List._++_ t51 t2); slots = z32· }
-
-        abbrev G84 : Row.Cx
-        G84 = record { locals = List._++_ t52 (List._++_ t1 t2); slots = z33· }
-
-        abbrev G85 : Row.Cx
-        G85 = record { locals = List._++_ t52 (List._++_ t1 t2); slots = z33· }
-
-        abbrev G86 : Row.Cx
-        G86 = record { locals = List._++_ t52 (List._++_ t1 t2); slots = z0· }
-
-        abbrev G87 : Row.Cx
-        G87 = record { locals = List._++_ t52 (List._++_ t1 t2); slots = z34· }
-
-        abbrev G88 : Row.Cx
-        G88 = record { locals = List._++_ g53 (List._++_ t1 t54); slots = z35· }
-
-        abbrev G89 : Row.Cx
-        G89 = record { locals = List._++_ g53 (List._++_ t1 t55); slots = z35· }
-
-        abbrev G90 : Row.Cx
-        G90 = record { locals = List._++_ g56 (List._++_ t1 t57); slots = z35· }
-
-        abbrev G91 : Row.Cx
-        G91 = record { locals = List._++_ g58 (List._++_ t1 t57); slots = z35· }
-
-        abbrev G92 : Row.Cx
-        G92 = record { locals = List._++_ g59 (List._++_ t1 t57); slots = z35· }
-
-        abbrev G93 : Row.Cx
-        G93 = record { locals = List._++_ g59 (List._++_ t1 t57); slots = z36· }
-
-        abbrev G94 : Row.Cx
-        G94 = record { locals = List._++_ t3 (List._++_ t1 t2); slots = z37· }
-
-        abbrev G95 : Row.Cx
-        G95 = record { locals = List._++_ t3 (List._++_ t1 t2); slots = z37· }
-
-        abbrev G96 : Row.Cx
-        G96 = record { locals = List._++_ t3 (List._++_ t1 t2); slots = z0· }
+        G81 = record { locals = List._++_ t2 t1; slots = z0· }
 
         abbrev Δ0 : Typed.Outs
         Δ0 = record { next = Option.none; exits = List.[]; returns = Option.some G1 }
@@ -2050,7 +1786,7 @@ module _ (claims· : Claims) where
           d1 = Typed.g-pre 𝓤 H A W 𝓣 E G40 G41 b10 Δ1 (Typed.pass T40 T41 (s38 bs)) (at0 bs) (Scalar.g-room 𝓤 H A W E G40 12 y23· (Local.room-whole 𝓤 H A W (Declared.row Begun.the-type) y23· Path'.refl)) d0
 
           d2 : Typed.Typed 𝓤 H A 𝓣 E G39 b11 Δ1 (at2 bs)
-          d2 = Typed.s-seq 𝓤 H A W 𝓣 E G39 G40 b9 b10 Δ1 (Typed.both (s37 bs)) (at1 bs) (WayStmt.t-way-copy-out 𝓤 H A W E 𝓣 (Declared.row Finished.the-type) Path'.refl (Copies.cStruct Finished.the-type Laws''.the-laws Laws''.the-copy .copy 𝓤 H A W) (λ ρ. Unit) G39 (Row.out 12 (G39 .locals)) (λ u. Row.drop 12 (G39 .locals) u) (G39 .slots) 12 (λ t. ((Syntax.field 1) ∷ t)) y20· y20· 0 (Rows.whole (Declared.row Finished.the-type)) (λ x. x) (λ u. At.getAt (Begun.the-type .parts) 1 (Begun.struct .as-values (u .1 .1 .1 .1 .1 .1 .1 .1 .1 .1 .1 .1 .0))) (λ u. (Row.hd 0 (Row.tl (Row.tl (Row.tl (Row.tl (Row.tl (Row.tl (Row.tl (Row.tl (Row.tl (Row.tl (Row.tl (Row.tl bs)))))))))))), Nat._+_ 0 4)) (λ T′. record { locals = Row.setRow 12 r48· T′; slots = G39 .slots }) (λ u T′ m′. Row.set 12 r48· (u .1 .1 .1 .1 .1 .1 .1 .1 .1 .1 .1 .1 .0) T′ m′) (λ u. Unit) (λ x. Unit) (Own.told-none 𝓤 H A (G39 .slots)) (DerefMove.learns-nothing 𝓤 H A (Declared.row Finished.the-type)) (λ ρ told u asked. Way'.w-partˢ 𝓤 H A W E (Declared.row Begun.the-type) (Declared.row Finished.the-type) y23· y20· 1 4 (u .1 .1 .1 .1 .1 .1 .1 .1 .1 .1 .1 .1 .0) (At.getAt (Begun.the-type .parts) 1 (Begun.struct .as-values (u .1 .1 .1 .1 .1 .1 .1 .1 .1 .1 .1 .1 .0))) (Row.hd 0 (Row.tl (Row.tl (Row.tl (Row.tl (Row.tl (Row.tl (Row.tl (Row.tl (Row.tl (Row.tl (Row.tl (Row.tl bs)))))))))))), 0) (Way.w-look 𝓤 H A W E (Way.w-local 𝓤 H A W E G39 ρ u (G39 .slots) 12 (Declared.row Begun.the-type) (Rows.whole (Declared.row Begun.the-type)) (λ x. x) (λ x. x) (u .1 .1 .1 .1 .1 .1 .1 .1 .1 .1 .1 .1 .0) (Local.mem-whole 𝓤 H A W (Declared.row Begun.the-type) ρ (u .1 .1 .1 .1 .1 .1 .1 .1 .1 .1 .1 .1 .0) (Row.hd 0 (Row.tl (Row.tl (Row.tl (Row.tl (Row.tl (Row.tl (Row.tl (Row.tl (Row.tl (Row.tl (Row.tl (Row.tl bs)))))))))))))) (Local.whole-mem 𝓤 H A W (Declared.row Begun.the-type) ρ (u .1 .1 .1 .1 .1 .1 .1 .1 .1 .1 .1 .1 .0) (Row.hd 0 (Row.tl (Row.tl (Row.tl (Row.tl (Row.tl (Row.tl (Row.tl (Row.tl (Row.tl (Row.tl (Row.tl (Row.tl bs)))))))))))))))) Path'.refl λ q. Inner.cut-record 𝓤 H A q (Declared.row Begun.the-type) Finished.the-type 4 (u .1 .1 .1 .1 .1 .1 .1 .1 .1 .1 .1 .1 .0) (u .1 .1 .1 .1 .1 .1 .1 .1 .1 .1 .1 .1 .0) (At.getAt (Begun.the-type .parts) 1 (Begun.struct .as-values (u .1 .1 .1 .1 .1 .1 .1 .1 .1 .1 .1 .1 .0))) (At.getAt (Begun.the-type .parts) 1 (Begun.struct .as-values (u .1 .1 .1 .1 .1 .1 .1 .1 .1 .1 .1 .1 .0))) (Row.hd 0 (Row.tl (Row.tl (Row.tl (Row.tl (Row.tl (Row.tl (Row.tl (Row.tl (Row.tl (Row.tl (Row.tl (Row.tl bs)))))))))))), 0) (Behind.look-at 𝓤 H A W q Begun.the-type Laws'.the-laws 1 4 Path'.refl Path'.refl (Row.hd 0 (Row.tl (Row.tl (Row.tl (Row.tl (Row.tl (Row.tl (Row.tl (Row.tl (Row.tl (Row.tl (Row.tl (Row.tl bs)))))))))))), 0) (u .1 .1 .1 .1 .1 .1 .1 .1 .1 .1 .1 .1 .0) (Begun.struct .as-values (u .1 .1 .1 .1 .1 .1 .1 .1 .1 .1 .1 .1 .0)) Path'.refl)) (Reads'.room-gone 𝓤 H A y20·) (Yields.makes-mem 𝓤 H A W (λ ρ. Unit) (Declared.row Finished.the-type) Path'.refl (Rows.whole (Declared.row Finished.the-type)) (λ x. x) λ ρ told. Local.whole-mem 𝓤 H A W (Declared.row Finished.the-type) ρ) Path'.refl Path'.refl Path'.refl) d1
+          d2 = Typed.s-seq 𝓤 H A W 𝓣 E G39 G40 b9 b10 Δ1 (Typed.both (s37 bs)) (at1 bs) (WayStmt.t-way-copy-out 𝓤 H A W E 𝓣 (Declared.row Finished.the-type) Path'.refl (Copies.cStruct Finished.the-type Laws''.the-laws Laws''.the-copy .copy 𝓤 H A W) (λ ρ. Unit) G39 (Row.out 12 (G39 .locals)) (λ u. Row.drop 12 (G39 .locals) u) (G39 .slots) 12 (λ t. ((Syntax.field 1) ∷ t)) y20· y20· 0 (Rows.whole (Declared.row Finished.the-type)) (λ x. x) (λ u. At.getAt (Begun.the-type .parts) 1 (Begun.struct .as-values (u .1 .1 .1 .1 .1 .1 .1 .1 .1 .1 .1 .1 .0))) (λ u. (Row.hd 0 (Row.tl (Row.tl (Row.tl (Row.tl (Row.tl (Row.tl (Row.tl (Row.tl (Row.tl (Row.tl (Row.tl (Row.tl bs)))))))))))), Nat._+_ 0 4)) (λ T′. record { locals = Row.setRow 12 r44· T′; slots = G39 .slots }) (λ u T′ m′. Row.set 12 r44· (u .1 .1 .1 .1 .1 .1 .1 .1 .1 .1 .1 .1 .0) T′ m′) (λ u. Unit) (λ x. Unit) (Own.told-none 𝓤 H A (G39 .slots)) (DerefMove.learns-nothing 𝓤 H A (Declared.row Finished.the-type)) (λ ρ told u asked. Way'.w-partˢ 𝓤 H A W E (Declared.row Begun.the-type) (Declared.row Finished.the-type) y23· y20· 1 4 (u .1 .1 .1 .1 .1 .1 .1 .1 .1 .1 .1 .1 .0) (At.getAt (Begun.the-type .parts) 1 (Begun.struct .as-values (u .1 .1 .1 .1 .1 .1 .1 .1 .1 .1 .1 .1 .0))) (Row.hd 0 (Row.tl (Row.tl (Row.tl (Row.tl (Row.tl (Row.tl (Row.tl (Row.tl (Row.tl (Row.tl (Row.tl (Row.tl bs)))))))))))), 0) (Way.w-look 𝓤 H A W E (Way.w-local 𝓤 H A W E G39 ρ u (G39 .slots) 12 (Declared.row Begun.the-type) (Rows.whole (Declared.row Begun.the-type)) (λ x. x) (λ x. x) (u .1 .1 .1 .1 .1 .1 .1 .1 .1 .1 .1 .1 .0) (Local.mem-whole 𝓤 H A W (Declared.row Begun.the-type) ρ (u .1 .1 .1 .1 .1 .1 .1 .1 .1 .1 .1 .1 .0) (Row.hd 0 (Row.tl (Row.tl (Row.tl (Row.tl (Row.tl (Row.tl (Row.tl (Row.tl (Row.tl (Row.tl (Row.tl (Row.tl bs)))))))))))))) (Local.whole-mem 𝓤 H A W (Declared.row Begun.the-type) ρ (u .1 .1 .1 .1 .1 .1 .1 .1 .1 .1 .1 .1 .0) (Row.hd 0 (Row.tl (Row.tl (Row.tl (Row.tl (Row.tl (Row.tl (Row.tl (Row.tl (Row.tl (Row.tl (Row.tl (Row.tl bs)))))))))))))))) Path'.refl λ q. Inner.cut-record 𝓤 H A q (Declared.row Begun.the-type) Finished.the-type 4 (u .1 .1 .1 .1 .1 .1 .1 .1 .1 .1 .1 .1 .0) (u .1 .1 .1 .1 .1 .1 .1 .1 .1 .1 .1 .1 .0) (At.getAt (Begun.the-type .parts) 1 (Begun.struct .as-values (u .1 .1 .1 .1 .1 .1 .1 .1 .1 .1 .1 .1 .0))) (At.getAt (Begun.the-type .parts) 1 (Begun.struct .as-values (u .1 .1 .1 .1 .1 .1 .1 .1 .1 .1 .1 .1 .0))) (Row.hd 0 (Row.tl (Row.tl (Row.tl (Row.tl (Row.tl (Row.tl (Row.tl (Row.tl (Row.tl (Row.tl (Row.tl (Row.tl bs)))))))))))), 0) (Behind.look-at 𝓤 H A W q Begun.the-type Laws'.the-laws 1 4 Path'.refl Path'.refl (Row.hd 0 (Row.tl (Row.tl (Row.tl (Row.tl (Row.tl (Row.tl (Row.tl (Row.tl (Row.tl (Row.tl (Row.tl (Row.tl bs)))))))))))), 0) (u .1 .1 .1 .1 .1 .1 .1 .1 .1 .1 .1 .1 .0) (Begun.struct .as-values (u .1 .1 .1 .1 .1 .1 .1 .1 .1 .1 .1 .1 .0)) Path'.refl)) (Reads'.room-gone 𝓤 H A y20·) (Yields.makes-mem 𝓤 H A W (λ ρ. Unit) (Declared.row Finished.the-type) Path'.refl (Rows.whole (Declared.row Finished.the-type)) (λ x. x) λ ρ told. Local.whole-mem 𝓤 H A W (Declared.row Finished.the-type) ρ) Path'.refl Path'.refl Path'.refl) d1
 
           d3 : Typed.Typed 𝓤 H A 𝓣 E G38 b11 Δ1 (at3 bs)
           d3 = Typed.g-pre 𝓤 H A W 𝓣 E G38 G39 b11 Δ1 (Typed.pass T38 T39 (s36 bs)) (at2 bs) (Scalar.g-room 𝓤 H A W E G38 21 Syntax.tyBool (Scalar.room-sc 𝓤 H A W Row.sBool)) d2
@@ -2070,278 +1806,233 @@ module _ (claims· : Claims) where
           d8 : Typed.Typed 𝓤 H A 𝓣 E G36 b13 Δ1 (at8 bs)
           d8 = Scalar.t-cond 𝓤 H A W E 𝓣 G36 21 (λ x. x) b11 b12 Δ1 (at4 bs) (at7 bs) (Scalar.reads-sc 𝓤 H A W Row.sBool) Path'.refl d4 d7
 
-          d9 : Typed.Typed 𝓤 H A 𝓣 E G96 b31 Δ0 (at9 bs)
+          d9 : Typed.Typed 𝓤 H A 𝓣 E G81 b26 Δ0 (at9 bs)
           d9 = Typed.t-return 𝓤 H A W 𝓣 E Δ0 tt
 
-          d10 : Typed.Typed 𝓤 H A 𝓣 E G95 b31 Δ0 (at10 bs)
-          d10 = Typed.g-pre 𝓤 H A W 𝓣 E G95 G96 b31 Δ0 (λ Ψ. Ψ) (at9 bs) (Lifetime.g-forget 𝓤 H A W E G95 17 Row.dead Path'.refl) d9
+          d10 : Typed.Typed 𝓤 H A 𝓣 E G80 b26 Δ0 (at10 bs)
+          d10 = Typed.g-pre 𝓤 H A W 𝓣 E G80 G81 b26 Δ0 (λ Ψ. Ψ) (at9 bs) (Lifetime.g-forget 𝓤 H A W E G80 17 Row.dead Path'.refl) d9
 
-          d11 : Typed.Typed 𝓤 H A 𝓣 E G94 b31 Δ0 (at11 bs)
-          d11 = Typed.g-pre 𝓤 H A W 𝓣 E G94 G95 b31 Δ0 (Typed.give (s92 bs)) (at10 bs) (Know.g-sl-known 𝓤 H A W (Referent.fInt Syntax.w8) E G94 3 1 y12· k0· 0 (λ x. x) record { fits = Dec'.lit< tt } (Reads'.as-is 𝓤 H A (Mut.mslice e0· y12· 1)) Path'.refl tt) d10
+          d11 : Typed.Typed 𝓤 H A 𝓣 E G79 b26 Δ0 (at11 bs)
+          d11 = Typed.g-pre 𝓤 H A W 𝓣 E G79 G80 b26 Δ0 (Typed.give (s77 bs)) (at10 bs) (Know.g-sl-known 𝓤 H A W (Referent.fInt Syntax.w8) E G79 3 1 y12· k0· 0 (λ x. x) record { fits = Dec'.lit< tt } (Reads'.as-is 𝓤 H A (Mut.mslice e0· y12· 1)) Path'.refl tt) d10
 
-          d12 : Typed.Typed 𝓤 H A 𝓣 E G93 b31 Δ0 (at12 bs)
-          d12 = Typed.g-pre 𝓤 H A W 𝓣 E G93 G94 b31 Δ0 (Typed.both (s91 bs)) (at11 bs) (Relend.g-back-sl 𝓤 H A W E e0· G93 35 3 1 17 y12· y8· k0· (λ x. x) (λ x. x) (Reads'.as-is 𝓤 H A (Mut.msleft e0· y8·)) (Reads'.as-is 𝓤 H A (Relend.mslice-owed e0· y12· 1 17 k0·)) Path'.refl Path'.refl) d11
+          d12 : Typed.Typed 𝓤 H A 𝓣 E G78 b26 Δ0 (at12 bs)
+          d12 = Typed.g-pre 𝓤 H A W 𝓣 E G78 G79 b26 Δ0 (Typed.both (s76 bs)) (at11 bs) (Relend.g-back-sl 𝓤 H A W E e0· G78 31 3 1 17 y12· y8· k0· (λ x. x) (λ x. x) (Reads'.as-is 𝓤 H A (Mut.msleft e0· y8·)) (Reads'.as-is 𝓤 H A (Relend.mslice-owed e0· y12· 1 17 k0·)) Path'.refl Path'.refl) d11
 
-          d13 : Typed.Typed 𝓤 H A 𝓣 E G92 b31 Δ0 (at13 bs)
-          d13 = Typed.g-pre 𝓤 H A W 𝓣 E G92 G93 b31 Δ0 (λ Ψ. Ψ) (at12 bs) (Lifetime.g-end 𝓤 H A W E G92 17 Path'.refl) d12
+          d13 : Typed.Typed 𝓤 H A 𝓣 E G77 b26 Δ0 (at13 bs)
+          d13 = Typed.g-pre 𝓤 H A W 𝓣 E G77 G78 b26 Δ0 (λ Ψ. Ψ) (at12 bs) (Lifetime.g-end 𝓤 H A W E G77 17 Path'.refl) d12
 
-          d14 : Typed.Typed 𝓤 H A 𝓣 E G91 b31 Δ0 (at14 bs)
-          d14 = Typed.g-pre 𝓤 H A W 𝓣 E G91 G92 b31 Δ0 (Typed.pass T91 T92 (s89 bs)) (at13 bs) (Scalar.g-room 𝓤 H A W E G91 13 y7· (Local.room-whole 𝓤 H A W (Declared.row Outcome.the-type) y7· Path'.refl)) d13
+          d14 : Typed.Typed 𝓤 H A 𝓣 E G76 b26 Δ0 (at14 bs)
+          d14 = Typed.g-pre 𝓤 H A W 𝓣 E G76 G77 b26 Δ0 (Typed.pass T76 T77 (s74 bs)) (at13 bs) (Scalar.g-room 𝓤 H A W E G76 13 y7· (Local.room-whole 𝓤 H A W (Declared.row Outcome.the-type) y7· Path'.refl)) d13
 
-          d15 : Typed.Typed 𝓤 H A 𝓣 E G90 b31 Δ0 (at15 bs)
-          d15 = Typed.g-pre 𝓤 H A W 𝓣 E G90 G91 b31 Δ0 (Typed.pass T90 T91 (s88 bs)) (at14 bs) (Scalar.g-room 𝓤 H A W E G90 1 y5· (Local.room-whole 𝓤 H A W (Declared.row CodeBuffer.the-type) y5· Path'.refl)) d14
+          d15 : Typed.Typed 𝓤 H A 𝓣 E G75 b26 Δ0 (at15 bs)
+          d15 = Typed.g-pre 𝓤 H A W 𝓣 E G75 G76 b26 Δ0 (Typed.pass T75 T76 (s73 bs)) (at14 bs) (Scalar.g-room 𝓤 H A W E G75 1 y5· (Local.room-whole 𝓤 H A W (Declared.row CodeBuffer.the-type) y5· Path'.refl)) d14
 
-          d16 : Typed.Typed 𝓤 H A 𝓣 E G89 b32 Δ0 (at16 bs)
-          d16 = Typed.s-seq 𝓤 H A W 𝓣 E G89 G90 b30 b31 Δ0 (Typed.both (s87 bs)) (at15 bs) (Plain.t-call-plain 𝓤 H A W 𝓣 3 ps·2 r·2 (claims· .4) (claims· .5) "finish::conclude" (known .2) E (λ pos β. β) G89 (record { pos = 1; st = List.[]; d = 0; at = λ x. x }, (record { pos = 35; ty = Syntax.tyRef Syntax.erased Syntax.mut y1·; ref = λ x. x }, (record { pos = 7; ty = Syntax.tyRef (Syntax.named 5) Syntax.imm y1·; ref = λ x. x }, (record { pos = 8; ty = Syntax.tyRef (Syntax.named 6) Syntax.imm y1·; ref = λ x. x }, (record { pos = 13; st = List.[]; d = 0; at = λ x. x }, tt))))) 0 (17 ∷ 5 ∷ 6 ∷ []) (Call.sub-id 𝓤 H A W (G89 .slots)) ((Yields.yields-copy 𝓤 H A W (λ ρ. Unit) (Declared.row CodeBuffer.the-type) Path'.refl (Copies.cStruct CodeBuffer.the-type Laws.the-laws Laws.the-copy .copy 𝓤 H A W) (Rows.whole (Declared.row CodeBuffer.the-type)) (λ x. x) (λ x. x) (λ ρ told. Local.mem-whole 𝓤 H A W (Declared.row CodeBuffer.the-type) ρ) λ ρ told. Local.whole-mem 𝓤 H A W (Declared.row CodeBuffer.the-type) ρ, Path'.refl), (Reads'.as-is 𝓤 H A (Mut.mslice e0· y8· 17), Mut.reads-mslice 𝓤 H A W e0· y8· 17, Path'.refl, (ShrSlice.spares-sslice 𝓤 H A W e0· y16· 5, Shared.reads-sslice 𝓤 H A W e0· y16· 5, Path'.refl, (ShrSlice.spares-sslice 𝓤 H A W e0· y17· 6, Shared.reads-sslice 𝓤 H A W e0· y17· 6, Path'.refl, ((Yields.yields-copy 𝓤 H A W (λ ρ. Unit) (Declared.row Outcome.the-type) Path'.refl (Copies.cStruct Outcome.the-type Laws'3.the-laws Laws'3.the-copy .copy 𝓤 H A W) (Rows.whole (Declared.row Outcome.the-type)) (λ x. x) (λ x. x) (λ ρ told. Local.mem-whole 𝓤 H A W (Declared.row Outcome.the-type) ρ) λ ρ told. Local.whole-mem 𝓤 H A W (Declared.row Outcome.the-type) ρ, Path'.refl), tt))))) (Reads'.room-gone 𝓤 H A y20·) (tt, (tt, (tt, tt))) Path'.refl) d15
+          d16 : Typed.Typed 𝓤 H A 𝓣 E G74 b27 Δ0 (at16 bs)
+          d16 = Typed.s-seq 𝓤 H A W 𝓣 E G74 G75 b25 b26 Δ0 (Typed.both (s72 bs)) (at15 bs) (Plain.t-call-plain 𝓤 H A W 𝓣 3 ps·2 r·2 (claims· .4) (claims· .5) "finish::conclude" (known .2) E (λ pos β. β) G74 (record { pos = 1; st = List.[]; d = 0; at = λ x. x }, (record { pos = 31; ty = Syntax.tyRef Syntax.erased Syntax.mut y1·; ref = λ x. x }, (record { pos = 7; ty = Syntax.tyRef (Syntax.named 5) Syntax.imm y1·; ref = λ x. x }, (record { pos = 8; ty = Syntax.tyRef (Syntax.named 6) Syntax.imm y1·; ref = λ x. x }, (record { pos = 13; st = List.[]; d = 0; at = λ x. x }, tt))))) 0 (17 ∷ 5 ∷ 6 ∷ []) (Call.sub-id 𝓤 H A W (G74 .slots)) ((Yields.yields-copy 𝓤 H A W (λ ρ. Unit) (Declared.row CodeBuffer.the-type) Path'.refl (Copies.cStruct CodeBuffer.the-type Laws.the-laws Laws.the-copy .copy 𝓤 H A W) (Rows.whole (Declared.row CodeBuffer.the-type)) (λ x. x) (λ x. x) (λ ρ told. Local.mem-whole 𝓤 H A W (Declared.row CodeBuffer.the-type) ρ) λ ρ told. Local.whole-mem 𝓤 H A W (Declared.row CodeBuffer.the-type) ρ, Path'.refl), (Reads'.as-is 𝓤 H A (Mut.mslice e0· y8· 17), Mut.reads-mslice 𝓤 H A W e0· y8· 17, Path'.refl, (ShrSlice.spares-sslice 𝓤 H A W e0· y16· 5, Shared.reads-sslice 𝓤 H A W e0· y16· 5, Path'.refl, (ShrSlice.spares-sslice 𝓤 H A W e0· y17· 6, Shared.reads-sslice 𝓤 H A W e0· y17· 6, Path'.refl, ((Yields.yields-copy 𝓤 H A W (λ ρ. Unit) (Declared.row Outcome.the-type) Path'.refl (Copies.cStruct Outcome.the-type Laws'3.the-laws Laws'3.the-copy .copy 𝓤 H A W) (Rows.whole (Declared.row Outcome.the-type)) (λ x. x) (λ x. x) (λ ρ told. Local.mem-whole 𝓤 H A W (Declared.row Outcome.the-type) ρ) λ ρ told. Local.whole-mem 𝓤 H A W (Declared.row Outcome.the-type) ρ, Path'.refl), tt))))) (Reads'.room-gone 𝓤 H A y20·) (tt, (tt, (tt, tt))) Path'.refl) d15
 
-          d17 : Typed.Typed 𝓤 H A 𝓣 E G88 b33 Δ0 (at17 bs)
-          d17 = Typed.s-seq 𝓤 H A W 𝓣 E G88 G89 b29 b32 Δ0 (Typed.ask (s86 bs)) (at16 bs) (Relend.t-sl-aggregate 𝓤 H A W E e0· 𝓣 (Relend.asMut e0·) G88 34 35 17 y8· y8· (λ x. x) (Scalar.oFld 3 ((Syntax.field 1) ∷ []) y2· 8 λ v. Shared.lenV (v .0)) (Reads'.as-is 𝓤 H A (Relend.msptr e0· y8· 17)) (Reads'.room-gone 𝓤 H A y21·) (Relend.reads-owed-len 𝓤 H A W e0· y12· 1 17 k0· 8 Path'.refl, Path'.refl) Path'.refl Path'.refl λ b o k. tt) d16
+          d17 : Typed.Typed 𝓤 H A 𝓣 E G73 b28 Δ0 (at17 bs)
+          d17 = Typed.s-seq 𝓤 H A W 𝓣 E G73 G74 b24 b27 Δ0 (Typed.ask (s71 bs)) (at16 bs) (Relend.t-sl-aggregate 𝓤 H A W E e0· 𝓣 (Relend.asMut e0·) G73 30 31 17 y8· y8· (λ x. x) (Scalar.oFld 3 ((Syntax.field 1) ∷ []) y2· 8 λ v. Shared.lenV (v .0)) (Reads'.as-is 𝓤 H A (Relend.msptr e0· y8· 17)) (Reads'.room-gone 𝓤 H A y21·) (Relend.reads-owed-len 𝓤 H A W e0· y12· 1 17 k0· 8 Path'.refl, Path'.refl) Path'.refl Path'.refl λ b o k. tt) d16
 
-          d18 : Typed.Typed 𝓤 H A 𝓣 E G87 b34 Δ0 (at18 bs)
-          d18 = Typed.s-seq 𝓤 H A W 𝓣 E G87 G88 b28 b33 Δ0 (Typed.give (s85 bs)) (at17 bs) (Relend.t-sl-relend 𝓤 H A W E e0· 𝓣 G87 3 34 1 17 y12· y8· k0· 0 (λ x. x) (Reads'.as-is 𝓤 H A (Mut.mslice e0· y12· 1)) (Reads'.room-gone 𝓤 H A y8·) Path'.refl tt Path'.refl Path'.refl Path'.refl λ b o. tt) d17
+          d18 : Typed.Typed 𝓤 H A 𝓣 E G72 b29 Δ0 (at18 bs)
+          d18 = Typed.s-seq 𝓤 H A W 𝓣 E G72 G73 b23 b28 Δ0 (Typed.give (s70 bs)) (at17 bs) (Relend.t-sl-relend 𝓤 H A W E e0· 𝓣 G72 3 30 1 17 y12· y8· k0· 0 (λ x. x) (Reads'.as-is 𝓤 H A (Mut.mslice e0· y12· 1)) (Reads'.room-gone 𝓤 H A y8·) Path'.refl tt Path'.refl Path'.refl Path'.refl λ b o. tt) d17
 
-          d19 : Typed.Typed 𝓤 H A 𝓣 E G86 b34 Δ0 (at19 bs)
-          d19 = Typed.g-pre 𝓤 H A W 𝓣 E G86 G87 b34 Δ0 (λ Ψ. Ψ) (at18 bs) (Lifetime.g-begin 𝓤 H A W E G86 17 (tt, (tt, (tt, (tt, (tt, (tt, (tt, (tt, (tt, (tt, (tt, (tt, (tt, (tt, (tt, (tt, (tt, (tt, (tt, (tt, (tt, (tt, (tt, (tt, (tt, (tt, (tt, (tt, (tt, (tt, (tt, (tt, (tt, (tt, (tt, (tt, tt))))))))))))))))))))))))))))))))))))) d18
+          d19 : Typed.Typed 𝓤 H A 𝓣 E G71 b29 Δ0 (at19 bs)
+          d19 = Typed.g-pre 𝓤 H A W 𝓣 E G71 G72 b29 Δ0 (λ Ψ. Ψ) (at18 bs) (Lifetime.g-begin 𝓤 H A W E G71 17 (tt, (tt, (tt, (tt, (tt, (tt, (tt, (tt, (tt, (tt, (tt, (tt, (tt, (tt, (tt, (tt, (tt, (tt, (tt, (tt, (tt, (tt, (tt, (tt, (tt, (tt, (tt, (tt, (tt, (tt, (tt, (tt, tt))))))))))))))))))))))))))))))))) d18
 
-          d20 : Typed.Typed 𝓤 H A 𝓣 E G85 b34 Δ0 (at20 bs)
-          d20 = Typed.g-pre 𝓤 H A W 𝓣 E G85 G86 b34 Δ0 (λ Ψ. Ψ) (at19 bs) (Lifetime.g-forget 𝓤 H A W E G85 16 Row.dead Path'.refl) d19
+          d20 : Typed.Typed 𝓤 H A 𝓣 E G70 b29 Δ0 (at20 bs)
+          d20 = Typed.g-pre 𝓤 H A W 𝓣 E G70 G71 b29 Δ0 (λ Ψ. Ψ) (at19 bs) (Lifetime.g-forget 𝓤 H A W E G70 16 Row.dead Path'.refl) d19
 
-          d21 : Typed.Typed 𝓤 H A 𝓣 E G84 b34 Δ0 (at21 bs)
-          d21 = Typed.g-pre 𝓤 H A W 𝓣 E G84 G85 b34 Δ0 (Typed.give (s82 bs)) (at20 bs) (Know.g-sl-known 𝓤 H A W (Referent.fInt Syntax.w8) E G84 11 9 y19· k2· 0 (λ x. x) record { fits = Dec'.lit< tt } (Reads'.as-is 𝓤 H A (Mut.mslice e0· y19· 9)) Path'.refl tt) d20
+          d21 : Typed.Typed 𝓤 H A 𝓣 E G69 b29 Δ0 (at21 bs)
+          d21 = Typed.g-pre 𝓤 H A W 𝓣 E G69 G70 b29 Δ0 (Typed.give (s67 bs)) (at20 bs) (Know.g-sl-known 𝓤 H A W (Referent.fInt Syntax.w8) E G69 11 9 y19· k2· 0 (λ x. x) record { fits = Dec'.lit< tt } (Reads'.as-is 𝓤 H A (Mut.mslice e0· y19· 9)) Path'.refl tt) d20
 
-          d22 : Typed.Typed 𝓤 H A 𝓣 E G83 b34 Δ0 (at22 bs)
-          d22 = Typed.g-pre 𝓤 H A W 𝓣 E G83 G84 b34 Δ0 (Typed.both (s81 bs)) (at21 bs) (Relend.g-back-sl 𝓤 H A W E e0· G83 29 11 9 16 y19· y8· k2· (λ x. x) (λ x. x) (Reads'.as-is 𝓤 H A (Mut.msleft e0· y8·)) (Reads'.as-is 𝓤 H A (Relend.mslice-owed e0· y19· 9 16 k2·)) Path'.refl Path'.refl) d21
+          d22 : Typed.Typed 𝓤 H A 𝓣 E G68 b29 Δ0 (at22 bs)
+          d22 = Typed.g-pre 𝓤 H A W 𝓣 E G68 G69 b29 Δ0 (Typed.both (s66 bs)) (at21 bs) (Relend.g-back-sl 𝓤 H A W E e0· G68 29 11 9 16 y19· y8· k2· (λ x. x) (λ x. x) (Reads'.as-is 𝓤 H A (Mut.msleft e0· y8·)) (Reads'.as-is 𝓤 H A (Relend.mslice-owed e0· y19· 9 16 k2·)) Path'.refl Path'.refl) d21
 
-          d23 : Typed.Typed 𝓤 H A 𝓣 E G82 b34 Δ0 (at23 bs)
-          d23 = Typed.g-pre 𝓤 H A W 𝓣 E G82 G83 b34 Δ0 (λ Ψ. Ψ) (at22 bs) (Lifetime.g-end 𝓤 H A W E G82 16 Path'.refl) d22
+          d23 : Typed.Typed 𝓤 H A 𝓣 E G67 b29 Δ0 (at23 bs)
+          d23 = Typed.g-pre 𝓤 H A W 𝓣 E G67 G68 b29 Δ0 (λ Ψ. Ψ) (at22 bs) (Lifetime.g-end 𝓤 H A W E G67 16 Path'.refl) d22
 
-          d24 : Typed.Typed 𝓤 H A 𝓣 E G81 b34 Δ0 (at24 bs)
-          d24 = Typed.g-pre 𝓤 H A W 𝓣 E G81 G82 b34 Δ0 (λ Ψ. Ψ) (at23 bs) (Lifetime.g-forget 𝓤 H A W E G81 15 Row.dead Path'.refl) d23
+          d24 : Typed.Typed 𝓤 H A 𝓣 E G66 b29 Δ0 (at24 bs)
+          d24 = Typed.g-pre 𝓤 H A W 𝓣 E G66 G67 b29 Δ0 (λ Ψ. Ψ) (at23 bs) (Lifetime.g-forget 𝓤 H A W E G66 15 Row.dead Path'.refl) d23
 
-          d25 : Typed.Typed 𝓤 H A 𝓣 E G80 b34 Δ0 (at25 bs)
-          d25 = Typed.g-pre 𝓤 H A W 𝓣 E G80 G81 b34 Δ0 (Typed.both (s78 bs)) (at24 bs) (Relend.g-back-sl 𝓤 H A W E ROW·.the-row G80 27 10 8 15 y4· y3· k3· (λ x. x) (λ x. x) (Reads'.as-is 𝓤 H A (Mut.msleft ROW·.the-row y3·)) (Reads'.as-is 𝓤 H A (Relend.mslice-owed ROW·.the-row y4· 8 15 k3·)) Path'.refl Path'.refl) d24
+          d25 : Typed.Typed 𝓤 H A 𝓣 E G65 b29 Δ0 (at25 bs)
+          d25 = Typed.g-pre 𝓤 H A W 𝓣 E G65 G66 b29 Δ0 (Typed.both (s63 bs)) (at24 bs) (Relend.g-back-sl 𝓤 H A W E ROW·.the-row G65 27 10 8 15 y4· y3· k3· (λ x. x) (λ x. x) (Reads'.as-is 𝓤 H A (Mut.msleft ROW·.the-row y3·)) (Reads'.as-is 𝓤 H A (Relend.mslice-owed ROW·.the-row y4· 8 15 k3·)) Path'.refl Path'.refl) d24
 
-          d26 : Typed.Typed 𝓤 H A 𝓣 E G79 b34 Δ0 (at26 bs)
-          d26 = Typed.g-pre 𝓤 H A W 𝓣 E G79 G80 b34 Δ0 (λ Ψ. Ψ) (at25 bs) (Lifetime.g-end 𝓤 H A W E G79 15 Path'.refl) d25
+          d26 : Typed.Typed 𝓤 H A 𝓣 E G64 b29 Δ0 (at26 bs)
+          d26 = Typed.g-pre 𝓤 H A W 𝓣 E G64 G65 b29 Δ0 (λ Ψ. Ψ) (at25 bs) (Lifetime.g-end 𝓤 H A W E G64 15 Path'.refl) d25
 
-          d27 : Typed.Typed 𝓤 H A 𝓣 E G78 b34 Δ0 (at27 bs)
-          d27 = Typed.g-pre 𝓤 H A W 𝓣 E G78 G79 b34 Δ0 (λ Ψ. Ψ) (at26 bs) (Lifetime.g-forget 𝓤 H A W E G78 14 Row.dead Path'.refl) d26
+          d27 : Typed.Typed 𝓤 H A 𝓣 E G63 b29 Δ0 (at27 bs)
+          d27 = Typed.g-pre 𝓤 H A W 𝓣 E G63 G64 b29 Δ0 (λ Ψ. Ψ) (at26 bs) (Lifetime.g-forget 𝓤 H A W E G63 14 Row.dead Path'.refl) d26
 
-          d28 : Typed.Typed 𝓤 H A 𝓣 E G77 b34 Δ0 (at28 bs)
-          d28 = Typed.g-pre 𝓤 H A W 𝓣 E G77 G78 b34 Δ0 (Typed.give (s75 bs)) (at27 bs) (Know.g-sl-known 𝓤 H A W (Referent.fInt Syntax.w8) E G77 9 7 y18· k1· 0 (λ x. x) record { fits = Dec'.lit< tt } (Reads'.as-is 𝓤 H A (Mut.mslice e0· y18· 7)) Path'.refl tt) d27
+          d28 : Typed.Typed 𝓤 H A 𝓣 E G62 b29 Δ0 (at28 bs)
+          d28 = Typed.g-pre 𝓤 H A W 𝓣 E G62 G63 b29 Δ0 (Typed.give (s60 bs)) (at27 bs) (Know.g-sl-known 𝓤 H A W (Referent.fInt Syntax.w8) E G62 9 7 y18· k1· 0 (λ x. x) record { fits = Dec'.lit< tt } (Reads'.as-is 𝓤 H A (Mut.mslice e0· y18· 7)) Path'.refl tt) d27
 
-          d29 : Typed.Typed 𝓤 H A 𝓣 E G76 b34 Δ0 (at29 bs)
-          d29 = Typed.g-pre 𝓤 H A W 𝓣 E G76 G77 b34 Δ0 (Typed.both (s74 bs)) (at28 bs) (Relend.g-back-sl 𝓤 H A W E e0· G76 25 9 7 14 y18· y8· k1· (λ x. x) (λ x. x) (Reads'.as-is 𝓤 H A (Mut.msleft e0· y8·)) (Reads'.as-is 𝓤 H A (Relend.mslice-owed e0· y18· 7 14 k1·)) Path'.refl Path'.refl) d28
+          d29 : Typed.Typed 𝓤 H A 𝓣 E G61 b29 Δ0 (at29 bs)
+          d29 = Typed.g-pre 𝓤 H A W 𝓣 E G61 G62 b29 Δ0 (Typed.both (s59 bs)) (at28 bs) (Relend.g-back-sl 𝓤 H A W E e0· G61 25 9 7 14 y18· y8· k1· (λ x. x) (λ x. x) (Reads'.as-is 𝓤 H A (Mut.msleft e0· y8·)) (Reads'.as-is 𝓤 H A (Relend.mslice-owed e0· y18· 7 14 k1·)) Path'.refl Path'.refl) d28
 
-          d30 : Typed.Typed 𝓤 H A 𝓣 E G75 b34 Δ0 (at30 bs)
-          d30 = Typed.g-pre 𝓤 H A W 𝓣 E G75 G76 b34 Δ0 (λ Ψ. Ψ) (at29 bs) (Lifetime.g-end 𝓤 H A W E G75 14 Path'.refl) d29
+          d30 : Typed.Typed 𝓤 H A 𝓣 E G60 b29 Δ0 (at30 bs)
+          d30 = Typed.g-pre 𝓤 H A W 𝓣 E G60 G61 b29 Δ0 (λ Ψ. Ψ) (at29 bs) (Lifetime.g-end 𝓤 H A W E G60 14 Path'.refl) d29
 
-          d31 : Typed.Typed 𝓤 H A 𝓣 E G74 b34 Δ0 (at31 bs)
-          d31 = Typed.g-pre 𝓤 H A W 𝓣 E G74 G75 b34 Δ0 (λ Ψ. Ψ) (at30 bs) (Lifetime.g-forget 𝓤 H A W E G74 13 Row.dead Path'.refl) d30
+          d31 : Typed.Typed 𝓤 H A 𝓣 E G59 b29 Δ0 (at31 bs)
+          d31 = Typed.g-pre 𝓤 H A W 𝓣 E G59 G60 b29 Δ0 (λ Ψ. Ψ) (at30 bs) (Lifetime.g-forget 𝓤 H A W E G59 13 Row.dead Path'.refl) d30
 
-          d32 : Typed.Typed 𝓤 H A 𝓣 E G73 b34 Δ0 (at32 bs)
-          d32 = Typed.g-pre 𝓤 H A W 𝓣 E G73 G74 b34 Δ0 (Typed.give (s71 bs)) (at31 bs) (Know.g-sl-known 𝓤 H A W (Referent.fInt Syntax.w8) E G73 3 1 y12· k0· 0 (λ x. x) record { fits = Dec'.lit< tt } (Reads'.as-is 𝓤 H A (Mut.mslice e0· y12· 1)) Path'.refl tt) d31
+          d32 : Typed.Typed 𝓤 H A 𝓣 E G58 b29 Δ0 (at32 bs)
+          d32 = Typed.g-pre 𝓤 H A W 𝓣 E G58 G59 b29 Δ0 (Typed.give (s56 bs)) (at31 bs) (Know.g-sl-known 𝓤 H A W (Referent.fInt Syntax.w8) E G58 3 1 y12· k0· 0 (λ x. x) record { fits = Dec'.lit< tt } (Reads'.as-is 𝓤 H A (Mut.mslice e0· y12· 1)) Path'.refl tt) d31
 
-          d33 : Typed.Typed 𝓤 H A 𝓣 E G72 b34 Δ0 (at33 bs)
-          d33 = Typed.g-pre 𝓤 H A W 𝓣 E G72 G73 b34 Δ0 (Typed.both (s70 bs)) (at32 bs) (Relend.g-back-sl 𝓤 H A W E e0· G72 23 3 1 13 y12· y8· k0· (λ x. x) (λ x. x) (Reads'.as-is 𝓤 H A (Mut.msleft e0· y8·)) (Reads'.as-is 𝓤 H A (Relend.mslice-owed e0· y12· 1 13 k0·)) Path'.refl Path'.refl) d32
+          d33 : Typed.Typed 𝓤 H A 𝓣 E G57 b29 Δ0 (at33 bs)
+          d33 = Typed.g-pre 𝓤 H A W 𝓣 E G57 G58 b29 Δ0 (Typed.both (s55 bs)) (at32 bs) (Relend.g-back-sl 𝓤 H A W E e0· G57 23 3 1 13 y12· y8· k0· (λ x. x) (λ x. x) (Reads'.as-is 𝓤 H A (Mut.msleft e0· y8·)) (Reads'.as-is 𝓤 H A (Relend.mslice-owed e0· y12· 1 13 k0·)) Path'.refl Path'.refl) d32
 
-          d34 : Typed.Typed 𝓤 H A 𝓣 E G71 b34 Δ0 (at34 bs)
-          d34 = Typed.g-pre 𝓤 H A W 𝓣 E G71 G72 b34 Δ0 (λ Ψ. Ψ) (at33 bs) (Lifetime.g-end 𝓤 H A W E G71 13 Path'.refl) d33
+          d34 : Typed.Typed 𝓤 H A 𝓣 E G56 b29 Δ0 (at34 bs)
+          d34 = Typed.g-pre 𝓤 H A W 𝓣 E G56 G57 b29 Δ0 (λ Ψ. Ψ) (at33 bs) (Lifetime.g-end 𝓤 H A W E G56 13 Path'.refl) d33
 
-          d35 : Typed.Typed 𝓤 H A 𝓣 E G70 b34 Δ0 (at35 bs)
-          d35 = Typed.g-pre 𝓤 H A W 𝓣 E G70 G71 b34 Δ0 (Typed.pass T70 T71 (s68 bs)) (at34 bs) (Scalar.g-room 𝓤 H A W E G70 33 y2· (Scalar.room-sc 𝓤 H A W (Row.sInt Syntax.w64))) d34
+          d35 : Typed.Typed 𝓤 H A 𝓣 E G55 b30 Δ0 (at35 bs)
+          d35 = Typed.s-seq 𝓤 H A W 𝓣 E G55 G56 b22 b29 Δ0 (Typed.both (s53 bs)) (at34 bs) (Plain.t-call-plain 𝓤 H A W 𝓣 9 ps·1 r·1 (claims· .2) (claims· .3) "finish::pooled::relaxed" (known .1) E (λ pos β. β) G55 (record { pos = 1; st = List.[]; d = 0; at = λ x. x }, (record { pos = 2; ty = Syntax.tyRef (Syntax.named 0) Syntax.imm y1·; ref = λ x. x }, (record { pos = 23; ty = Syntax.tyRef Syntax.erased Syntax.mut y1·; ref = λ x. x }, (record { pos = 4; ty = Syntax.tyRef (Syntax.named 2) Syntax.imm y1·; ref = λ x. x }, (record { pos = 6; ty = Syntax.tyRef (Syntax.named 4) Syntax.imm y1·; ref = λ x. x }, (record { pos = 7; ty = Syntax.tyRef (Syntax.named 5) Syntax.imm y1·; ref = λ x. x }, (record { pos = 8; ty = Syntax.tyRef (Syntax.named 6) Syntax.imm y1·; ref = λ x. x }, (record { pos = 25; ty = Syntax.tyRef Syntax.erased Syntax.mut y1·; ref = λ x. x }, (record { pos = 27; ty = Syntax.tyRef Syntax.erased Syntax.mut (MEM·.pointee (ROW·.the-row .written)); ref = λ x. x }, (record { pos = 29; ty = Syntax.tyRef Syntax.erased Syntax.mut y1·; ref = λ x. x }, tt)))))))))) 13 (0 ∷ 13 ∷ 2 ∷ 4 ∷ 5 ∷ 6 ∷ 14 ∷ 15 ∷ 16 ∷ []) (Call.sub-id 𝓤 H A W (G55 .slots)) ((Yields.yields-copy 𝓤 H A W (λ ρ. Unit) (Declared.row CodeBuffer.the-type) Path'.refl (Copies.cStruct CodeBuffer.the-type Laws.the-laws Laws.the-copy .copy 𝓤 H A W) (Rows.whole (Declared.row CodeBuffer.the-type)) (λ x. x) (λ x. x) (λ ρ told. Local.mem-whole 𝓤 H A W (Declared.row CodeBuffer.the-type) ρ) λ ρ told. Local.whole-mem 𝓤 H A W (Declared.row CodeBuffer.the-type) ρ, Path'.refl), (ShrSlice.spares-sslice 𝓤 H A W e0· y11· 0, Shared.reads-sslice 𝓤 H A W e0· y11· 0, Path'.refl, (Reads'.as-is 𝓤 H A (Mut.mslice e0· y8· 13), Mut.reads-mslice 𝓤 H A W e0· y8· 13, Path'.refl, (ShrSlice.spares-sslice 𝓤 H A W e0· y13· 2, Shared.reads-sslice 𝓤 H A W e0· y13· 2, Path'.refl, (ShrSlice.spares-sslice 𝓤 H A W e0· y15· 4, Shared.reads-sslice 𝓤 H A W e0· y15· 4, Path'.refl, (ShrSlice.spares-sslice 𝓤 H A W e0· y16· 5, Shared.reads-sslice 𝓤 H A W e0· y16· 5, Path'.refl, (ShrSlice.spares-sslice 𝓤 H A W e0· y17· 6, Shared.reads-sslice 𝓤 H A W e0· y17· 6, Path'.refl, (Reads'.as-is 𝓤 H A (Mut.mslice e0· y8· 14), Mut.reads-mslice 𝓤 H A W e0· y8· 14, Path'.refl, (Reads'.as-is 𝓤 H A (Mut.mslice ROW·.the-row y3· 15), Mut.reads-mslice 𝓤 H A W ROW·.the-row y3· 15, Path'.refl, (Reads'.as-is 𝓤 H A (Mut.mslice e0· y8· 16), Mut.reads-mslice 𝓤 H A W e0· y8· 16, Path'.refl, tt)))))))))) (Reads'.room-gone 𝓤 H A y7·) (tt, (tt, (tt, (tt, (tt, (tt, (tt, (tt, (tt, tt))))))))) Path'.refl) d34
 
-          d36 : Typed.Typed 𝓤 H A 𝓣 E G69 b34 Δ0 (at36 bs)
-          d36 = Typed.g-pre 𝓤 H A W 𝓣 E G69 G70 b34 Δ0 (Typed.pass T69 T70 (s67 bs)) (at35 bs) (Scalar.g-room 𝓤 H A W E G69 32 y2· (Scalar.room-sc 𝓤 H A W (Row.sInt Syntax.w64))) d35
+          d36 : Typed.Typed 𝓤 H A 𝓣 E G54 b31 Δ0 (at36 bs)
+          d36 = Typed.s-seq 𝓤 H A W 𝓣 E G54 G55 b21 b30 Δ0 (Typed.ask (s52 bs)) (at35 bs) (Relend.t-sl-aggregate 𝓤 H A W E e0· 𝓣 (Relend.asMut e0·) G54 28 29 16 y8· y8· (λ x. x) (Scalar.oFld 11 ((Syntax.field 1) ∷ []) y2· 8 λ v. Shared.lenV (v .0)) (Reads'.as-is 𝓤 H A (Relend.msptr e0· y8· 16)) (Reads'.room-gone 𝓤 H A y21·) (Relend.reads-owed-len 𝓤 H A W e0· y19· 9 16 k2· 8 Path'.refl, Path'.refl) Path'.refl Path'.refl λ b o k. tt) d35
 
-          d37 : Typed.Typed 𝓤 H A 𝓣 E G68 b34 Δ0 (at37 bs)
-          d37 = Typed.g-pre 𝓤 H A W 𝓣 E G68 G69 b34 Δ0 (Typed.pass T68 T69 (s66 bs)) (at36 bs) (Scalar.g-room 𝓤 H A W E G68 31 y2· (Scalar.room-sc 𝓤 H A W (Row.sInt Syntax.w64))) d36
+          d37 : Typed.Typed 𝓤 H A 𝓣 E G53 b32 Δ0 (at37 bs)
+          d37 = Typed.s-seq 𝓤 H A W 𝓣 E G53 G54 b20 b31 Δ0 (Typed.give (s51 bs)) (at36 bs) (Relend.t-sl-relend 𝓤 H A W E e0· 𝓣 G53 11 28 9 16 y19· y8· k2· 0 (λ x. x) (Reads'.as-is 𝓤 H A (Mut.mslice e0· y19· 9)) (Reads'.room-gone 𝓤 H A y8·) Path'.refl tt Path'.refl Path'.refl Path'.refl λ b o. tt) d36
 
-          d38 : Typed.Typed 𝓤 H A 𝓣 E G67 b34 Δ0 (at38 bs)
-          d38 = Typed.g-pre 𝓤 H A W 𝓣 E G67 G68 b34 Δ0 (Typed.pass T67 T68 (s65 bs)) (at37 bs) (Scalar.g-room 𝓤 H A W E G67 30 y2· (Scalar.room-sc 𝓤 H A W (Row.sInt Syntax.w64))) d37
+          d38 : Typed.Typed 𝓤 H A 𝓣 E G52 b32 Δ0 (at38 bs)
+          d38 = Typed.g-pre 𝓤 H A W 𝓣 E G52 G53 b32 Δ0 (λ Ψ. Ψ) (at37 bs) (Lifetime.g-begin 𝓤 H A W E G52 16 (tt, (tt, (tt, ((tt, tt), (tt, (tt, (tt, (tt, (tt, ((tt, tt), ((tt, tt), (tt, (tt, (tt, (tt, (tt, (tt, (tt, (tt, (tt, (tt, (tt, (tt, (tt, (tt, (tt, (tt, (tt, (tt, (tt, (tt, (tt, tt))))))))))))))))))))))))))))))))) d37
 
-          d39 : Typed.Typed 𝓤 H A 𝓣 E G66 b34 Δ0 (at39 bs)
-          d39 = Typed.g-pre 𝓤 H A W 𝓣 E G66 G67 b34 Δ0 (Typed.pass T66 T67 (s64 bs)) (at38 bs) (Scalar.g-room 𝓤 H A W E G66 18 y2· (Scalar.room-sc 𝓤 H A W (Row.sInt Syntax.w64))) d38
+          d39 : Typed.Typed 𝓤 H A 𝓣 E G51 b33 Δ0 (at39 bs)
+          d39 = Typed.s-seq 𝓤 H A W 𝓣 E G51 G52 b19 b32 Δ0 (Typed.ask (s49 bs)) (at38 bs) (Relend.t-sl-aggregate 𝓤 H A W E ROW·.the-row 𝓣 (Relend.asMut ROW·.the-row) G51 26 27 15 y3· y3· (λ x. x) (Scalar.oFld 10 ((Syntax.field 1) ∷ []) y2· 8 λ v. Shared.lenV (v .0)) (Reads'.as-is 𝓤 H A (Relend.msptr ROW·.the-row y3· 15)) (Reads'.room-gone 𝓤 H A y10·) (Relend.reads-owed-len 𝓤 H A W ROW·.the-row y4· 8 15 k3· 8 Path'.refl, Path'.refl) Path'.refl Path'.refl λ b o k. tt) d38
 
-          d40 : Typed.Typed 𝓤 H A 𝓣 E G65 b35 Δ0 (at40 bs)
-          d40 = Typed.s-seq 𝓤 H A W 𝓣 E G65 G66 b27 b34 Δ0 (Typed.both (s63 bs)) (at39 bs) (Plain.t-call-plain 𝓤 H A W 𝓣 9 ps·1 r·1 (claims· .2) (claims· .3) "finish::pooled::relaxed" (known .1) E (λ pos β. β) G65 (record { pos = 2; ty = Syntax.tyRef (Syntax.named 0) Syntax.imm y1·; ref = λ x. x }, (record { pos = 23; ty = Syntax.tyRef Syntax.erased Syntax.mut y1·; ref = λ x. x }, (record { pos = 4; ty = Syntax.tyRef (Syntax.named 2) Syntax.imm y1·; ref = λ x. x }, (record { pos = 6; ty = Syntax.tyRef (Syntax.named 4) Syntax.imm y1·; ref = λ x. x }, (record { pos = 7; ty = Syntax.tyRef (Syntax.named 5) Syntax.imm y1·; ref = λ x. x }, (record { pos = 8; ty = Syntax.tyRef (Syntax.named 6) Syntax.imm y1·; ref = λ x. x }, (record { pos = 25; ty = Syntax.tyRef Syntax.erased Syntax.mut y1·; ref = λ x. x }, (record { pos = 27; ty = Syntax.tyRef Syntax.erased Syntax.mut (MEM·.pointee (ROW·.the-row .written)); ref = λ x. x }, (record { pos = 29; ty = Syntax.tyRef Syntax.erased Syntax.mut y1·; ref = λ x. x }, (Num.vFld 1 ((Syntax.field 4) ∷ []) 16 λ x. CodeBuffer.struct .as-values x .1 .1 .1 .1 .0, (Num.vAt 18 λ x. x, (Num.vAt 30 λ x. x, (Num.vAt 31 λ x. x, (Num.vAt 32 λ x. x, (Num.vAt 33 λ x. x, tt))))))))))))))) 13 (0 ∷ 13 ∷ 2 ∷ 4 ∷ 5 ∷ 6 ∷ 14 ∷ 15 ∷ 16 ∷ []) (Call.sub-id 𝓤 H A W (G65 .slots)) (ShrSlice.spares-sslice 𝓤 H A W e0· y11· 0, Shared.reads-sslice 𝓤 H A W e0· y11· 0, Path'.refl, (Reads'.as-is 𝓤 H A (Mut.mslice e0· y8· 13), Mut.reads-mslice 𝓤 H A W e0· y8· 13, Path'.refl, (ShrSlice.spares-sslice 𝓤 H A W e0· y13· 2, Shared.reads-sslice 𝓤 H A W e0· y13· 2, Path'.refl, (ShrSlice.spares-sslice 𝓤 H A W e0· y15· 4, Shared.reads-sslice 𝓤 H A W e0· y15· 4, Path'.refl, (ShrSlice.spares-sslice 𝓤 H A W e0· y16· 5, Shared.reads-sslice 𝓤 H A W e0· y16· 5, Path'.refl, (ShrSlice.spares-sslice 𝓤 H A W e0· y17· 6, Shared.reads-sslice 𝓤 H A W e0· y17· 6, Path'.refl, (Reads'.as-is 𝓤 H A (Mut.mslice e0· y8· 14), Mut.reads-mslice 𝓤 H A W e0· y8· 14, Path'.refl, (Reads'.as-is 𝓤 H A (Mut.mslice ROW·.the-row y3· 15), Mut.reads-mslice 𝓤 H A W ROW·.the-row y3· 15, Path'.refl, (Reads'.as-is 𝓤 H A (Mut.mslice e0· y8· 16), Mut.reads-mslice 𝓤 H A W e0· y8· 16, Path'.refl, ((Reads.reads-field 𝓤 H A W CodeBuffer.the-type Laws.the-laws 4 y0· 16 Path'.refl, Path'.refl), ((Scalar.reads-sc 𝓤 H A W (Row.sInt Syntax.w64), Path'.refl), ((Scalar.reads-sc 𝓤 H A W (Row.sInt Syntax.w64), Path'.refl), ((Scalar.reads-sc 𝓤 H A W (Row.sInt Syntax.w64), Path'.refl), ((Scalar.reads-sc 𝓤 H A W (Row.sInt Syntax.w64), Path'.refl), ((Scalar.reads-sc 𝓤 H A W (Row.sInt Syntax.w64), Path'.refl), tt))))))))))))))) (Reads'.room-gone 𝓤 H A y7·) (tt, (tt, (tt, (tt, (tt, (tt, (tt, (tt, (tt, tt))))))))) Path'.refl) d39
+          d40 : Typed.Typed 𝓤 H A 𝓣 E G50 b34 Δ0 (at40 bs)
+          d40 = Typed.s-seq 𝓤 H A W 𝓣 E G50 G51 b18 b33 Δ0 (Typed.give (s48 bs)) (at39 bs) (Relend.t-sl-relend 𝓤 H A W E ROW·.the-row 𝓣 G50 10 26 8 15 y4· y3· k3· 0 (λ x. x) (Reads'.as-is 𝓤 H A (Mut.mslice ROW·.the-row y4· 8)) (Reads'.room-gone 𝓤 H A y3·) Path'.refl tt Path'.refl Path'.refl Path'.refl λ b o. tt) d39
 
-          d41 : Typed.Typed 𝓤 H A 𝓣 E G64 b36 Δ0 (at41 bs)
-          d41 = Typed.s-seq 𝓤 H A W 𝓣 E G64 G65 b26 b35 Δ0 (Typed.ask (s62 bs)) (at40 bs) (Scalar.t-op1 𝓤 H A W E 𝓣 G64 (Syntax.cast Syntax.unsigned Syntax.unsigned Syntax.w64) (Scalar.oFld 1 ((Syntax.field 11) ∷ []) y0· 44 (Reads.fieldV CodeBuffer.the-type Laws.the-laws 11)) 33 (Rows.sc-here (Row.sInt Syntax.w64)) y2· (Row.valS (Row.sInt Syntax.w64)) (Row.sInt Syntax.w64 .of) (Reads.reads-field 𝓤 H A W CodeBuffer.the-type Laws.the-laws 11 y0· 44 Path'.refl, Path'.refl) (Reads'.room-gone 𝓤 H A y2·) (Scalar.holds-sc 𝓤 H A W (Row.sInt Syntax.w64)) Path'.refl (λ u. Path'.refl) λ u. tt) d40
+          d41 : Typed.Typed 𝓤 H A 𝓣 E G49 b34 Δ0 (at41 bs)
+          d41 = Typed.g-pre 𝓤 H A W 𝓣 E G49 G50 b34 Δ0 (λ Ψ. Ψ) (at40 bs) (Lifetime.g-begin 𝓤 H A W E G49 15 (tt, (tt, (tt, ((tt, tt), (tt, (tt, (tt, (tt, (tt, ((tt, tt), (tt, (tt, (tt, (tt, (tt, (tt, (tt, (tt, (tt, (tt, (tt, (tt, (tt, (tt, (tt, (tt, (tt, (tt, (tt, (tt, (tt, (tt, tt))))))))))))))))))))))))))))))))) d40
 
-          d42 : Typed.Typed 𝓤 H A 𝓣 E G63 b36 Δ0 (at42 bs)
-          d42 = Typed.g-pre 𝓤 H A W 𝓣 E G63 G64 b36 Δ0 (Typed.give (s61 bs)) (at41 bs) (Know'.g-struct-known 𝓤 H A W E CodeBuffer.the-type Laws.the-laws G63 1 (λ x. x) (Reads'.as-is 𝓤 H A (Rows.whole (Declared.row CodeBuffer.the-type)))) d41
+          d42 : Typed.Typed 𝓤 H A 𝓣 E G48 b35 Δ0 (at42 bs)
+          d42 = Typed.s-seq 𝓤 H A W 𝓣 E G48 G49 b17 b34 Δ0 (Typed.ask (s46 bs)) (at41 bs) (Relend.t-sl-aggregate 𝓤 H A W E e0· 𝓣 (Relend.asMut e0·) G48 24 25 14 y8· y8· (λ x. x) (Scalar.oFld 9 ((Syntax.field 1) ∷ []) y2· 8 λ v. Shared.lenV (v .0)) (Reads'.as-is 𝓤 H A (Relend.msptr e0· y8· 14)) (Reads'.room-gone 𝓤 H A y21·) (Relend.reads-owed-len 𝓤 H A W e0· y18· 7 14 k1· 8 Path'.refl, Path'.refl) Path'.refl Path'.refl λ b o k. tt) d41
 
-          d43 : Typed.Typed 𝓤 H A 𝓣 E G62 b37 Δ0 (at43 bs)
-          d43 = Typed.s-seq 𝓤 H A W 𝓣 E G62 G63 b25 b36 Δ0 (Typed.ask (s60 bs)) (at42 bs) (Scalar.t-op1 𝓤 H A W E 𝓣 G62 (Syntax.cast Syntax.unsigned Syntax.unsigned Syntax.w64) (Scalar.oFld 1 ((Syntax.field 8) ∷ []) y0· 32 (Reads.fieldV CodeBuffer.the-type Laws.the-laws 8)) 32 (Rows.sc-here (Row.sInt Syntax.w64)) y2· (Row.valS (Row.sInt Syntax.w64)) (Row.sInt Syntax.w64 .of) (Reads.reads-field 𝓤 H A W CodeBuffer.the-type Laws.the-laws 8 y0· 32 Path'.refl, Path'.refl) (Reads'.room-gone 𝓤 H A y2·) (Scalar.holds-sc 𝓤 H A W (Row.sInt Syntax.w64)) Path'.refl (λ u. Path'.refl) λ u. tt) d42
+          d43 : Typed.Typed 𝓤 H A 𝓣 E G47 b36 Δ0 (at43 bs)
+          d43 = Typed.s-seq 𝓤 H A W 𝓣 E G47 G48 b16 b35 Δ0 (Typed.give (s45 bs)) (at42 bs) (Relend.t-sl-relend 𝓤 H A W E e0· 𝓣 G47 9 24 7 14 y18· y8· k1· 0 (λ x. x) (Reads'.as-is 𝓤 H A (Mut.mslice e0· y18· 7)) (Reads'.room-gone 𝓤 H A y8·) Path'.refl tt Path'.refl Path'.refl Path'.refl λ b o. tt) d42
 
-          d44 : Typed.Typed 𝓤 H A 𝓣 E G61 b37 Δ0 (at44 bs)
-          d44 = Typed.g-pre 𝓤 H A W 𝓣 E G61 G62 b37 Δ0 (Typed.give (s59 bs)) (at43 bs) (Know'.g-struct-known 𝓤 H A W E CodeBuffer.the-type Laws.the-laws G61 1 (λ x. x) (Reads'.as-is 𝓤 H A (Rows.whole (Declared.row CodeBuffer.the-type)))) d43
+          d44 : Typed.Typed 𝓤 H A 𝓣 E G46 b36 Δ0 (at44 bs)
+          d44 = Typed.g-pre 𝓤 H A W 𝓣 E G46 G47 b36 Δ0 (λ Ψ. Ψ) (at43 bs) (Lifetime.g-begin 𝓤 H A W E G46 14 (tt, (tt, (tt, ((tt, tt), (tt, (tt, (tt, (tt, (tt, (tt, (tt, (tt, (tt, (tt, (tt, (tt, (tt, (tt, (tt, (tt, (tt, (tt, (tt, (tt, (tt, (tt, (tt, (tt, (tt, (tt, (tt, (tt, tt))))))))))))))))))))))))))))))))) d43
 
-          d45 : Typed.Typed 𝓤 H A 𝓣 E G60 b38 Δ0 (at45 bs)
-          d45 = Typed.s-seq 𝓤 H A W 𝓣 E G60 G61 b24 b37 Δ0 (Typed.ask (s58 bs)) (at44 bs) (Scalar.t-op1 𝓤 H A W E 𝓣 G60 (Syntax.cast Syntax.unsigned Syntax.unsigned Syntax.w64) (Scalar.oFld 1 ((Syntax.field 10) ∷ []) y0· 40 (Reads.fieldV CodeBuffer.the-type Laws.the-laws 10)) 31 (Rows.sc-here (Row.sInt Syntax.w64)) y2· (Row.valS (Row.sInt Syntax.w64)) (Row.sInt Syntax.w64 .of) (Reads.reads-field 𝓤 H A W CodeBuffer.the-type Laws.the-laws 10 y0· 40 Path'.refl, Path'.refl) (Reads'.room-gone 𝓤 H A y2·) (Scalar.holds-sc 𝓤 H A W (Row.sInt Syntax.w64)) Path'.refl (λ u. Path'.refl) λ u. tt) d44
+          d45 : Typed.Typed 𝓤 H A 𝓣 E G45 b37 Δ0 (at45 bs)
+          d45 = Typed.s-seq 𝓤 H A W 𝓣 E G45 G46 b15 b36 Δ0 (Typed.ask (s43 bs)) (at44 bs) (Relend.t-sl-aggregate 𝓤 H A W E e0· 𝓣 (Relend.asMut e0·) G45 22 23 13 y8· y8· (λ x. x) (Scalar.oFld 3 ((Syntax.field 1) ∷ []) y2· 8 λ v. Shared.lenV (v .0)) (Reads'.as-is 𝓤 H A (Relend.msptr e0· y8· 13)) (Reads'.room-gone 𝓤 H A y21·) (Relend.reads-owed-len 𝓤 H A W e0· y12· 1 13 k0· 8 Path'.refl, Path'.refl) Path'.refl Path'.refl λ b o k. tt) d44
 
-          d46 : Typed.Typed 𝓤 H A 𝓣 E G59 b38 Δ0 (at46 bs)
-          d46 = Typed.g-pre 𝓤 H A W 𝓣 E G59 G60 b38 Δ0 (Typed.give (s57 bs)) (at45 bs) (Know'.g-struct-known 𝓤 H A W E CodeBuffer.the-type Laws.the-laws G59 1 (λ x. x) (Reads'.as-is 𝓤 H A (Rows.whole (Declared.row CodeBuffer.the-type)))) d45
+          d46 : Typed.Typed 𝓤 H A 𝓣 E G44 b38 Δ0 (at46 bs)
+          d46 = Typed.s-seq 𝓤 H A W 𝓣 E G44 G45 b14 b37 Δ0 (Typed.give (s42 bs)) (at45 bs) (Relend.t-sl-relend 𝓤 H A W E e0· 𝓣 G44 3 22 1 13 y12· y8· k0· 0 (λ x. x) (Reads'.as-is 𝓤 H A (Mut.mslice e0· y12· 1)) (Reads'.room-gone 𝓤 H A y8·) Path'.refl tt Path'.refl Path'.refl Path'.refl λ b o. tt) d45
 
-          d47 : Typed.Typed 𝓤 H A 𝓣 E G58 b39 Δ0 (at47 bs)
-          d47 = Typed.s-seq 𝓤 H A W 𝓣 E G58 G59 b23 b38 Δ0 (Typed.ask (s56 bs)) (at46 bs) (Scalar.t-op1 𝓤 H A W E 𝓣 G58 (Syntax.cast Syntax.unsigned Syntax.unsigned Syntax.w64) (Scalar.oFld 1 ((Syntax.field 6) ∷ []) y0· 24 (Reads.fieldV CodeBuffer.the-type Laws.the-laws 6)) 30 (Rows.sc-here (Row.sInt Syntax.w64)) y2· (Row.valS (Row.sInt Syntax.w64)) (Row.sInt Syntax.w64 .of) (Reads.reads-field 𝓤 H A W CodeBuffer.the-type Laws.the-laws 6 y0· 24 Path'.refl, Path'.refl) (Reads'.room-gone 𝓤 H A y2·) (Scalar.holds-sc 𝓤 H A W (Row.sInt Syntax.w64)) Path'.refl (λ u. Path'.refl) λ u. tt) d46
+          d47 : Typed.Typed 𝓤 H A 𝓣 E G37 b38 Δ0 (at47 bs)
+          d47 = Typed.g-pre 𝓤 H A W 𝓣 E G37 G44 b38 Δ0 (λ Ψ. Ψ) (at46 bs) (Lifetime.g-begin 𝓤 H A W E G37 13 (tt, (tt, (tt, (tt, (tt, (tt, (tt, (tt, (tt, (tt, (tt, (tt, (tt, (tt, (tt, (tt, (tt, (tt, (tt, (tt, (tt, (tt, (tt, (tt, (tt, (tt, (tt, (tt, (tt, (tt, (tt, (tt, tt))))))))))))))))))))))))))))))))) d46
 
-          d48 : Typed.Typed 𝓤 H A 𝓣 E G57 b39 Δ0 (at48 bs)
-          d48 = Typed.g-pre 𝓤 H A W 𝓣 E G57 G58 b39 Δ0 (Typed.give (s55 bs)) (at47 bs) (Know'.g-struct-known 𝓤 H A W E CodeBuffer.the-type Laws.the-laws G57 1 (λ x. x) (Reads'.as-is 𝓤 H A (Rows.whole (Declared.row CodeBuffer.the-type)))) d47
+          d48 : Typed.Typed 𝓤 H A 𝓣 E G36 b39 Δ0 (at48 bs)
+          d48 = Typed.t-seq 𝓤 H A W 𝓣 E G36 G37 b13 b38 Δ0 (at8 bs) (at47 bs) d8 d47
 
-          d49 : Typed.Typed 𝓤 H A 𝓣 E G56 b40 Δ0 (at49 bs)
-          d49 = Typed.s-seq 𝓤 H A W 𝓣 E G56 G57 b22 b39 Δ0 (Typed.ask (s54 bs)) (at48 bs) (Scalar.t-op1 𝓤 H A W E 𝓣 G56 (Syntax.cast Syntax.unsigned Syntax.unsigned Syntax.w64) (Scalar.oFld 1 ((Syntax.field 5) ∷ []) y0· 20 (Reads.fieldV CodeBuffer.the-type Laws.the-laws 5)) 18 (Rows.sc-here (Row.sInt Syntax.w64)) y2· (Row.valS (Row.sInt Syntax.w64)) (Row.sInt Syntax.w64 .of) (Reads.reads-field 𝓤 H A W CodeBuffer.the-type Laws.the-laws 5 y0· 20 Path'.refl, Path'.refl) (Reads'.room-gone 𝓤 H A y2·) (Scalar.holds-sc 𝓤 H A W (Row.sInt Syntax.w64)) Path'.refl (λ u. Path'.refl) λ u. tt) d48
+          d49 : Typed.Typed 𝓤 H A 𝓣 E G35 b40 Δ0 (at49 bs)
+          d49 = Typed.s-seq 𝓤 H A W 𝓣 E G35 G36 b8 b39 Δ0 (Typed.ask (s34 bs)) (at48 bs) (Scalar.t-op1 𝓤 H A W E 𝓣 G35 Syntax.bitNot (Scalar.oFld 12 ((Syntax.field 0) ∷ []) Syntax.tyBool 0 (Reads.fieldV Begun.the-type Laws'.the-laws 0)) 21 (Rows.sc-here Row.sBool) Syntax.tyBool (Row.valS Row.sBool) (Row.sBool .of) (Reads.reads-field 𝓤 H A W Begun.the-type Laws'.the-laws 0 Syntax.tyBool 0 Path'.refl, Path'.refl) (Reads'.room-gone 𝓤 H A Syntax.tyBool) (Scalar.holds-sc 𝓤 H A W Row.sBool) Path'.refl (λ u. Path'.refl) λ u. tt) d48
 
-          d50 : Typed.Typed 𝓤 H A 𝓣 E G55 b40 Δ0 (at50 bs)
-          d50 = Typed.g-pre 𝓤 H A W 𝓣 E G55 G56 b40 Δ0 (Typed.give (s53 bs)) (at49 bs) (Know'.g-struct-known 𝓤 H A W E CodeBuffer.the-type Laws.the-laws G55 1 (λ x. x) (Reads'.as-is 𝓤 H A (Rows.whole (Declared.row CodeBuffer.the-type)))) d49
+          d50 : Typed.Typed 𝓤 H A 𝓣 E G34 b40 Δ0 (at50 bs)
+          d50 = Typed.g-pre 𝓤 H A W 𝓣 E G34 G35 b40 Δ0 (Typed.give (s33 bs)) (at49 bs) (Know'.g-struct-known 𝓤 H A W E Begun.the-type Laws'.the-laws G34 12 (λ x. x) (Reads'.as-is 𝓤 H A (Rows.whole (Declared.row Begun.the-type)))) d49
 
-          d51 : Typed.Typed 𝓤 H A 𝓣 E G54 b41 Δ0 (at51 bs)
-          d51 = Typed.s-seq 𝓤 H A W 𝓣 E G54 G55 b21 b40 Δ0 (Typed.ask (s52 bs)) (at50 bs) (Relend.t-sl-aggregate 𝓤 H A W E e0· 𝓣 (Relend.asMut e0·) G54 28 29 16 y8· y8· (λ x. x) (Scalar.oFld 11 ((Syntax.field 1) ∷ []) y2· 8 λ v. Shared.lenV (v .0)) (Reads'.as-is 𝓤 H A (Relend.msptr e0· y8· 16)) (Reads'.room-gone 𝓤 H A y21·) (Relend.reads-owed-len 𝓤 H A W e0· y19· 9 16 k2· 8 Path'.refl, Path'.refl) Path'.refl Path'.refl λ b o k. tt) d50
+          d51 : Typed.Typed 𝓤 H A 𝓣 E G33 b40 Δ0 (at51 bs)
+          d51 = Typed.g-pre 𝓤 H A W 𝓣 E G33 G34 b40 Δ0 (λ Ψ. Ψ) (at50 bs) (Lifetime.g-forget 𝓤 H A W E G33 12 Row.dead Path'.refl) d50
 
-          d52 : Typed.Typed 𝓤 H A 𝓣 E G53 b42 Δ0 (at52 bs)
-          d52 = Typed.s-seq 𝓤 H A W 𝓣 E G53 G54 b20 b41 Δ0 (Typed.give (s51 bs)) (at51 bs) (Relend.t-sl-relend 𝓤 H A W E e0· 𝓣 G53 11 28 9 16 y19· y8· k2· 0 (λ x. x) (Reads'.as-is 𝓤 H A (Mut.mslice e0· y19· 9)) (Reads'.room-gone 𝓤 H A y8·) Path'.refl tt Path'.refl Path'.refl Path'.refl λ b o. tt) d51
+          d52 : Typed.Typed 𝓤 H A 𝓣 E G32 b40 Δ0 (at52 bs)
+          d52 = Typed.g-pre 𝓤 H A W 𝓣 E G32 G33 b40 Δ0 (Typed.give (s31 bs)) (at51 bs) (Know.g-sl-known 𝓤 H A W (Referent.fInt Syntax.w8) E G32 11 9 y19· k2· 0 (λ x. x) record { fits = Dec'.lit< tt } (Reads'.as-is 𝓤 H A (Mut.mslice e0· y19· 9)) Path'.refl tt) d51
 
-          d53 : Typed.Typed 𝓤 H A 𝓣 E G52 b42 Δ0 (at53 bs)
-          d53 = Typed.g-pre 𝓤 H A W 𝓣 E G52 G53 b42 Δ0 (λ Ψ. Ψ) (at52 bs) (Lifetime.g-begin 𝓤 H A W E G52 16 (tt, (tt, (tt, ((tt, tt), (tt, (tt, (tt, (tt, (tt, ((tt, tt), ((tt, tt), (tt, (tt, (tt, (tt, (tt, (tt, (tt, (tt, (tt, (tt, (tt, (tt, (tt, (tt, (tt, (tt, (tt, (tt, (tt, (tt, (tt, (tt, (tt, (tt, (tt, tt))))))))))))))))))))))))))))))))))))) d52
+          d53 : Typed.Typed 𝓤 H A 𝓣 E G31 b40 Δ0 (at53 bs)
+          d53 = Typed.g-pre 𝓤 H A W 𝓣 E G31 G32 b40 Δ0 (Typed.both (s30 bs)) (at52 bs) (Relend.g-back-sl 𝓤 H A W E e0· G31 20 11 9 12 y19· y8· k2· (λ x. x) (λ x. x) (Reads'.as-is 𝓤 H A (Mut.msleft e0· y8·)) (Reads'.as-is 𝓤 H A (Relend.mslice-owed e0· y19· 9 12 k2·)) Path'.refl Path'.refl) d52
 
-          d54 : Typed.Typed 𝓤 H A 𝓣 E G51 b43 Δ0 (at54 bs)
-          d54 = Typed.s-seq 𝓤 H A W 𝓣 E G51 G52 b19 b42 Δ0 (Typed.ask (s49 bs)) (at53 bs) (Relend.t-sl-aggregate 𝓤 H A W E ROW·.the-row 𝓣 (Relend.asMut ROW·.the-row) G51 26 27 15 y3· y3· (λ x. x) (Scalar.oFld 10 ((Syntax.field 1) ∷ []) y2· 8 λ v. Shared.lenV (v .0)) (Reads'.as-is 𝓤 H A (Relend.msptr ROW·.the-row y3· 15)) (Reads'.room-gone 𝓤 H A y10·) (Relend.reads-owed-len 𝓤 H A W ROW·.the-row y4· 8 15 k3· 8 Path'.refl, Path'.refl) Path'.refl Path'.refl λ b o k. tt) d53
+          d54 : Typed.Typed 𝓤 H A 𝓣 E G30 b40 Δ0 (at54 bs)
+          d54 = Typed.g-pre 𝓤 H A W 𝓣 E G30 G31 b40 Δ0 (λ Ψ. Ψ) (at53 bs) (Lifetime.g-end 𝓤 H A W E G30 12 Path'.refl) d53
 
-          d55 : Typed.Typed 𝓤 H A 𝓣 E G50 b44 Δ0 (at55 bs)
-          d55 = Typed.s-seq 𝓤 H A W 𝓣 E G50 G51 b18 b43 Δ0 (Typed.give (s48 bs)) (at54 bs) (Relend.t-sl-relend 𝓤 H A W E ROW·.the-row 𝓣 G50 10 26 8 15 y4· y3· k3· 0 (λ x. x) (Reads'.as-is 𝓤 H A (Mut.mslice ROW·.the-row y4· 8)) (Reads'.room-gone 𝓤 H A y3·) Path'.refl tt Path'.refl Path'.refl Path'.refl λ b o. tt) d54
+          d55 : Typed.Typed 𝓤 H A 𝓣 E G29 b40 Δ0 (at55 bs)
+          d55 = Typed.g-pre 𝓤 H A W 𝓣 E G29 G30 b40 Δ0 (λ Ψ. Ψ) (at54 bs) (Lifetime.g-forget 𝓤 H A W E G29 11 Row.dead Path'.refl) d54
 
-          d56 : Typed.Typed 𝓤 H A 𝓣 E G49 b44 Δ0 (at56 bs)
-          d56 = Typed.g-pre 𝓤 H A W 𝓣 E G49 G50 b44 Δ0 (λ Ψ. Ψ) (at55 bs) (Lifetime.g-begin 𝓤 H A W E G49 15 (tt, (tt, (tt, ((tt, tt), (tt, (tt, (tt, (tt, (tt, ((tt, tt), (tt, (tt, (tt, (tt, (tt, (tt, (tt, (tt, (tt, (tt, (tt, (tt, (tt, (tt, (tt, (tt, (tt, (tt, (tt, (tt, (tt, (tt, (tt, (tt, (tt, (tt, tt))))))))))))))))))))))))))))))))))))) d55
+          d56 : Typed.Typed 𝓤 H A 𝓣 E G28 b40 Δ0 (at56 bs)
+          d56 = Typed.g-pre 𝓤 H A W 𝓣 E G28 G29 b40 Δ0 (Typed.pass T26 T29 (s27 bs)) (at55 bs) (Reshare.g-back-sl-shr 𝓤 H A W E e0· G28 9 7 11 y18· k1· (λ x. x) (Reads'.as-is 𝓤 H A (Reshare.mslice-owedS e0· y18· 7 11 k1·)) Path'.refl Path'.refl) d55
 
-          d57 : Typed.Typed 𝓤 H A 𝓣 E G48 b45 Δ0 (at57 bs)
-          d57 = Typed.s-seq 𝓤 H A W 𝓣 E G48 G49 b17 b44 Δ0 (Typed.ask (s46 bs)) (at56 bs) (Relend.t-sl-aggregate 𝓤 H A W E e0· 𝓣 (Relend.asMut e0·) G48 24 25 14 y8· y8· (λ x. x) (Scalar.oFld 9 ((Syntax.field 1) ∷ []) y2· 8 λ v. Shared.lenV (v .0)) (Reads'.as-is 𝓤 H A (Relend.msptr e0· y8· 14)) (Reads'.room-gone 𝓤 H A y21·) (Relend.reads-owed-len 𝓤 H A W e0· y18· 7 14 k1· 8 Path'.refl, Path'.refl) Path'.refl Path'.refl λ b o k. tt) d56
+          d57 : Typed.Typed 𝓤 H A 𝓣 E G27 b40 Δ0 (at57 bs)
+          d57 = Typed.g-pre 𝓤 H A W 𝓣 E G27 G28 b40 Δ0 (λ Ψ. Ψ) (at56 bs) (Lifetime.g-end 𝓤 H A W E G27 11 Path'.refl) d56
 
-          d58 : Typed.Typed 𝓤 H A 𝓣 E G47 b46 Δ0 (at58 bs)
-          d58 = Typed.s-seq 𝓤 H A W 𝓣 E G47 G48 b16 b45 Δ0 (Typed.give (s45 bs)) (at57 bs) (Relend.t-sl-relend 𝓤 H A W E e0· 𝓣 G47 9 24 7 14 y18· y8· k1· 0 (λ x. x) (Reads'.as-is 𝓤 H A (Mut.mslice e0· y18· 7)) (Reads'.room-gone 𝓤 H A y8·) Path'.refl tt Path'.refl Path'.refl Path'.refl λ b o. tt) d57
+          d58 : Typed.Typed 𝓤 H A 𝓣 E G26 b40 Δ0 (at58 bs)
+          d58 = Typed.g-pre 𝓤 H A W 𝓣 E G26 G27 b40 Δ0 (λ Ψ. Ψ) (at57 bs) (Lifetime.g-forget 𝓤 H A W E G26 10 Row.dead Path'.refl) d57
 
-          d59 : Typed.Typed 𝓤 H A 𝓣 E G46 b46 Δ0 (at59 bs)
-          d59 = Typed.g-pre 𝓤 H A W 𝓣 E G46 G47 b46 Δ0 (λ Ψ. Ψ) (at58 bs) (Lifetime.g-begin 𝓤 H A W E G46 14 (tt, (tt, (tt, ((tt, tt), (tt, (tt, (tt, (tt, (tt, (tt, (tt, (tt, (tt, (tt, (tt, (tt, (tt, (tt, (tt, (tt, (tt, (tt, (tt, (tt, (tt, (tt, (tt, (tt, (tt, (tt, (tt, (tt, (tt, (tt, (tt, (tt, tt))))))))))))))))))))))))))))))))))))) d58
+          d59 : Typed.Typed 𝓤 H A 𝓣 E G25 b40 Δ0 (at59 bs)
+          d59 = Typed.g-pre 𝓤 H A W 𝓣 E G25 G26 b40 Δ0 (Typed.give (s24 bs)) (at58 bs) (Know.g-sl-known 𝓤 H A W (Referent.fInt Syntax.w8) E G25 3 1 y12· k0· 0 (λ x. x) record { fits = Dec'.lit< tt } (Reads'.as-is 𝓤 H A (Mut.mslice e0· y12· 1)) Path'.refl tt) d58
 
-          d60 : Typed.Typed 𝓤 H A 𝓣 E G45 b47 Δ0 (at60 bs)
-          d60 = Typed.s-seq 𝓤 H A W 𝓣 E G45 G46 b15 b46 Δ0 (Typed.ask (s43 bs)) (at59 bs) (Relend.t-sl-aggregate 𝓤 H A W E e0· 𝓣 (Relend.asMut e0·) G45 22 23 13 y8· y8· (λ x. x) (Scalar.oFld 3 ((Syntax.field 1) ∷ []) y2· 8 λ v. Shared.lenV (v .0)) (Reads'.as-is 𝓤 H A (Relend.msptr e0· y8· 13)) (Reads'.room-gone 𝓤 H A y21·) (Relend.reads-owed-len 𝓤 H A W e0· y12· 1 13 k0· 8 Path'.refl, Path'.refl) Path'.refl Path'.refl λ b o k. tt) d59
+          d60 : Typed.Typed 𝓤 H A 𝓣 E G24 b40 Δ0 (at60 bs)
+          d60 = Typed.g-pre 𝓤 H A W 𝓣 E G24 G25 b40 Δ0 (Typed.both (s23 bs)) (at59 bs) (Relend.g-back-sl 𝓤 H A W E e0· G24 15 3 1 10 y12· y8· k0· (λ x. x) (λ x. x) (Reads'.as-is 𝓤 H A (Mut.msleft e0· y8·)) (Reads'.as-is 𝓤 H A (Relend.mslice-owed e0· y12· 1 10 k0·)) Path'.refl Path'.refl) d59
 
-          d61 : Typed.Typed 𝓤 H A 𝓣 E G44 b48 Δ0 (at61 bs)
-          d61 = Typed.s-seq 𝓤 H A W 𝓣 E G44 G45 b14 b47 Δ0 (Typed.give (s42 bs)) (at60 bs) (Relend.t-sl-relend 𝓤 H A W E e0· 𝓣 G44 3 22 1 13 y12· y8· k0· 0 (λ x. x) (Reads'.as-is 𝓤 H A (Mut.mslice e0· y12· 1)) (Reads'.room-gone 𝓤 H A y8·) Path'.refl tt Path'.refl Path'.refl Path'.refl λ b o. tt) d60
+          d61 : Typed.Typed 𝓤 H A 𝓣 E G23 b40 Δ0 (at61 bs)
+          d61 = Typed.g-pre 𝓤 H A W 𝓣 E G23 G24 b40 Δ0 (λ Ψ. Ψ) (at60 bs) (Lifetime.g-end 𝓤 H A W E G23 10 Path'.refl) d60
 
-          d62 : Typed.Typed 𝓤 H A 𝓣 E G37 b48 Δ0 (at62 bs)
-          d62 = Typed.g-pre 𝓤 H A W 𝓣 E G37 G44 b48 Δ0 (λ Ψ. Ψ) (at61 bs) (Lifetime.g-begin 𝓤 H A W E G37 13 (tt, (tt, (tt, (tt, (tt, (tt, (tt, (tt, (tt, (tt, (tt, (tt, (tt, (tt, (tt, (tt, (tt, (tt, (tt, (tt, (tt, (tt, (tt, (tt, (tt, (tt, (tt, (tt, (tt, (tt, (tt, (tt, (tt, (tt, (tt, (tt, tt))))))))))))))))))))))))))))))))))))) d61
+          d62 : Typed.Typed 𝓤 H A 𝓣 E G22 b40 Δ0 (at62 bs)
+          d62 = Typed.g-pre 𝓤 H A W 𝓣 E G22 G23 b40 Δ0 (Typed.pass T22 T23 (s21 bs)) (at61 bs) (Scalar.g-room 𝓤 H A W E G22 18 y2· (Scalar.room-sc 𝓤 H A W (Row.sInt Syntax.w64))) d61
 
-          d63 : Typed.Typed 𝓤 H A 𝓣 E G36 b49 Δ0 (at63 bs)
-          d63 = Typed.t-seq 𝓤 H A W 𝓣 E G36 G37 b13 b48 Δ0 (at8 bs) (at62 bs) d8 d62
+          d63 : Typed.Typed 𝓤 H A 𝓣 E G21 b40 Δ0 (at63 bs)
+          d63 = Typed.g-pre 𝓤 H A W 𝓣 E G21 G22 b40 Δ0 (Typed.pass T21 T22 (s20 bs)) (at62 bs) (Scalar.g-room 𝓤 H A W E G21 17 y22· (Shared.room-sslice 𝓤 H A W e0· y9· 11)) d62
 
-          d64 : Typed.Typed 𝓤 H A 𝓣 E G35 b50 Δ0 (at64 bs)
-          d64 = Typed.s-seq 𝓤 H A W 𝓣 E G35 G36 b8 b49 Δ0 (Typed.ask (s34 bs)) (at63 bs) (Scalar.t-op1 𝓤 H A W E 𝓣 G35 Syntax.bitNot (Scalar.oFld 12 ((Syntax.field 0) ∷ []) Syntax.tyBool 0 (Reads.fieldV Begun.the-type Laws'.the-laws 0)) 21 (Rows.sc-here Row.sBool) Syntax.tyBool (Row.valS Row.sBool) (Row.sBool .of) (Reads.reads-field 𝓤 H A W Begun.the-type Laws'.the-laws 0 Syntax.tyBool 0 Path'.refl, Path'.refl) (Reads'.room-gone 𝓤 H A Syntax.tyBool) (Scalar.holds-sc 𝓤 H A W Row.sBool) Path'.refl (λ u. Path'.refl) λ u. tt) d63
+          d64 : Typed.Typed 𝓤 H A 𝓣 E G20 b41 Δ0 (at64 bs)
+          d64 = Typed.s-seq 𝓤 H A W 𝓣 E G20 G21 b7 b40 Δ0 (Typed.both (s19 bs)) (at63 bs) (Plain.t-call-plain 𝓤 H A W 𝓣 9 ps·0 r·0 (claims· .0) (claims· .1) "finish::begin" (known .0) E (λ pos β. β) G20 (record { pos = 1; st = List.[]; d = 0; at = λ x. x }, (record { pos = 2; ty = Syntax.tyRef (Syntax.named 0) Syntax.imm y1·; ref = λ x. x }, (record { pos = 15; ty = Syntax.tyRef Syntax.erased Syntax.mut y1·; ref = λ x. x }, (record { pos = 4; ty = Syntax.tyRef (Syntax.named 2) Syntax.imm y1·; ref = λ x. x }, (record { pos = 5; ty = Syntax.tyRef (Syntax.named 3) Syntax.imm y1·; ref = λ x. x }, (record { pos = 6; ty = Syntax.tyRef (Syntax.named 4) Syntax.imm y1·; ref = λ x. x }, (record { pos = 7; ty = Syntax.tyRef (Syntax.named 5) Syntax.imm y1·; ref = λ x. x }, (record { pos = 8; ty = Syntax.tyRef (Syntax.named 6) Syntax.imm y1·; ref = λ x. x }, (record { pos = 17; ty = Syntax.tyRef Syntax.erased Syntax.imm y1·; ref = λ x. x }, (Num.vAt 18 λ x. x, (record { pos = 20; ty = Syntax.tyRef Syntax.erased Syntax.mut y1·; ref = λ x. x }, tt))))))))))) 12 (0 ∷ 10 ∷ 2 ∷ 3 ∷ 4 ∷ 5 ∷ 6 ∷ 11 ∷ 12 ∷ []) (Call.sub-id 𝓤 H A W (G20 .slots)) ((Yields.yields-copy 𝓤 H A W (λ ρ. Unit) (Declared.row CodeBuffer.the-type) Path'.refl (Copies.cStruct CodeBuffer.the-type Laws.the-laws Laws.the-copy .copy 𝓤 H A W) (Rows.whole (Declared.row CodeBuffer.the-type)) (λ x. x) (λ x. x) (λ ρ told. Local.mem-whole 𝓤 H A W (Declared.row CodeBuffer.the-type) ρ) λ ρ told. Local.whole-mem 𝓤 H A W (Declared.row CodeBuffer.the-type) ρ, Path'.refl), (ShrSlice.spares-sslice 𝓤 H A W e0· y11· 0, Shared.reads-sslice 𝓤 H A W e0· y11· 0, Path'.refl, (Reads'.as-is 𝓤 H A (Mut.mslice e0· y8· 10), Mut.reads-mslice 𝓤 H A W e0· y8· 10, Path'.refl, (ShrSlice.spares-sslice 𝓤 H A W e0· y13· 2, Shared.reads-sslice 𝓤 H A W e0· y13· 2, Path'.refl, (ShrSlice.spares-sslice 𝓤 H A W e0· y14· 3, Shared.reads-sslice 𝓤 H A W e0· y14· 3, Path'.refl, (ShrSlice.spares-sslice 𝓤 H A W e0· y15· 4, Shared.reads-sslice 𝓤 H A W e0· y15· 4, Path'.refl, (ShrSlice.spares-sslice 𝓤 H A W e0· y16· 5, Shared.reads-sslice 𝓤 H A W e0· y16· 5, Path'.refl, (ShrSlice.spares-sslice 𝓤 H A W e0· y17· 6, Shared.reads-sslice 𝓤 H A W e0· y17· 6, Path'.refl, (ShrSlice.spares-sslice 𝓤 H A W e0· y9· 11, Shared.reads-sslice 𝓤 H A W e0· y9· 11, Path'.refl, ((Scalar.reads-sc 𝓤 H A W (Row.sInt Syntax.w64), Path'.refl), (Reads'.as-is 𝓤 H A (Mut.mslice e0· y8· 12), Mut.reads-mslice 𝓤 H A W e0· y8· 12, Path'.refl, tt))))))))))) (Reads'.room-gone 𝓤 H A y23·) (tt, (tt, (tt, (tt, (tt, (tt, (tt, (tt, (tt, tt))))))))) Path'.refl) d63
 
-          d65 : Typed.Typed 𝓤 H A 𝓣 E G34 b50 Δ0 (at65 bs)
-          d65 = Typed.g-pre 𝓤 H A W 𝓣 E G34 G35 b50 Δ0 (Typed.give (s33 bs)) (at64 bs) (Know'.g-struct-known 𝓤 H A W E Begun.the-type Laws'.the-laws G34 12 (λ x. x) (Reads'.as-is 𝓤 H A (Rows.whole (Declared.row Begun.the-type)))) d64
+          d65 : Typed.Typed 𝓤 H A 𝓣 E G19 b42 Δ0 (at65 bs)
+          d65 = Typed.s-seq 𝓤 H A W 𝓣 E G19 G20 b6 b41 Δ0 (Typed.ask (s18 bs)) (at64 bs) (Relend.t-sl-aggregate 𝓤 H A W E e0· 𝓣 (Relend.asMut e0·) G19 19 20 12 y8· y8· (λ x. x) (Scalar.oFld 11 ((Syntax.field 1) ∷ []) y2· 8 λ v. Shared.lenV (v .0)) (Reads'.as-is 𝓤 H A (Relend.msptr e0· y8· 12)) (Reads'.room-gone 𝓤 H A y21·) (Relend.reads-owed-len 𝓤 H A W e0· y19· 9 12 k2· 8 Path'.refl, Path'.refl) Path'.refl Path'.refl λ b o k. tt) d64
 
-          d66 : Typed.Typed 𝓤 H A 𝓣 E G33 b50 Δ0 (at66 bs)
-          d66 = Typed.g-pre 𝓤 H A W 𝓣 E G33 G34 b50 Δ0 (λ Ψ. Ψ) (at65 bs) (Lifetime.g-forget 𝓤 H A W E G33 12 Row.dead Path'.refl) d65
+          d66 : Typed.Typed 𝓤 H A 𝓣 E G18 b43 Δ0 (at66 bs)
+          d66 = Typed.s-seq 𝓤 H A W 𝓣 E G18 G19 b5 b42 Δ0 (Typed.give (s17 bs)) (at65 bs) (Relend.t-sl-relend 𝓤 H A W E e0· 𝓣 G18 11 19 9 12 y19· y8· k2· 0 (λ x. x) (Reads'.as-is 𝓤 H A (Mut.mslice e0· y19· 9)) (Reads'.room-gone 𝓤 H A y8·) Path'.refl tt Path'.refl Path'.refl Path'.refl λ b o. tt) d65
 
-          d67 : Typed.Typed 𝓤 H A 𝓣 E G32 b50 Δ0 (at67 bs)
-          d67 = Typed.g-pre 𝓤 H A W 𝓣 E G32 G33 b50 Δ0 (Typed.give (s31 bs)) (at66 bs) (Know.g-sl-known 𝓤 H A W (Referent.fInt Syntax.w8) E G32 11 9 y19· k2· 0 (λ x. x) record { fits = Dec'.lit< tt } (Reads'.as-is 𝓤 H A (Mut.mslice e0· y19· 9)) Path'.refl tt) d66
+          d67 : Typed.Typed 𝓤 H A 𝓣 E G17 b43 Δ0 (at67 bs)
+          d67 = Typed.g-pre 𝓤 H A W 𝓣 E G17 G18 b43 Δ0 (λ Ψ. Ψ) (at66 bs) (Lifetime.g-begin 𝓤 H A W E G17 12 (tt, (tt, (tt, ((tt, tt), (tt, (tt, (tt, (tt, (tt, ((tt, tt), (tt, (tt, (tt, (tt, (tt, (tt, (tt, (tt, (tt, (tt, (tt, (tt, (tt, (tt, (tt, (tt, (tt, (tt, (tt, (tt, (tt, (tt, tt))))))))))))))))))))))))))))))))) d66
 
-          d68 : Typed.Typed 𝓤 H A 𝓣 E G31 b50 Δ0 (at68 bs)
-          d68 = Typed.g-pre 𝓤 H A W 𝓣 E G31 G32 b50 Δ0 (Typed.both (s30 bs)) (at67 bs) (Relend.g-back-sl 𝓤 H A W E e0· G31 20 11 9 12 y19· y8· k2· (λ x. x) (λ x. x) (Reads'.as-is 𝓤 H A (Mut.msleft e0· y8·)) (Reads'.as-is 𝓤 H A (Relend.mslice-owed e0· y19· 9 12 k2·)) Path'.refl Path'.refl) d67
+          d68 : Typed.Typed 𝓤 H A 𝓣 E G16 b44 Δ0 (at68 bs)
+          d68 = Typed.s-seq 𝓤 H A W 𝓣 E G16 G17 b4 b43 Δ0 (Typed.pass T16 T17 (s15 bs)) (at67 bs) (Scalar.t-use 𝓤 H A W E 𝓣 G16 (Scalar.oFld 10 ((Syntax.field 1) ∷ []) y2· 8 Shared.lenV) 18 (Rows.sc-here (Row.sInt Syntax.w64)) y2· (Row.valS (Row.sInt Syntax.w64)) (Row.sInt Syntax.w64 .of) (Mut.reads-mslice-len 𝓤 H A W ROW·.the-row y4· 8 8 Path'.refl, Path'.refl) (Reads'.room-gone 𝓤 H A y2·) (Scalar.holds-sc 𝓤 H A W (Row.sInt Syntax.w64)) Path'.refl (λ u. Path'.refl) λ u. tt) d67
 
-          d69 : Typed.Typed 𝓤 H A 𝓣 E G30 b50 Δ0 (at69 bs)
-          d69 = Typed.g-pre 𝓤 H A W 𝓣 E G30 G31 b50 Δ0 (λ Ψ. Ψ) (at68 bs) (Lifetime.g-end 𝓤 H A W E G30 12 Path'.refl) d68
+          d69 : Typed.Typed 𝓤 H A 𝓣 E G15 b45 Δ0 (at69 bs)
+          d69 = Typed.s-seq 𝓤 H A W 𝓣 E G15 G16 b3 b44 Δ0 (Typed.ask (s14 bs)) (at68 bs) (Relend.t-sl-aggregate 𝓤 H A W E e0· 𝓣 (Relend.asShr e0·) G15 16 17 11 y9· y9· (λ x. x) (Scalar.oFld 9 ((Syntax.field 1) ∷ []) y2· 8 λ v. Shared.lenV (v .0)) (Reads'.as-is 𝓤 H A (Relend.ssptr e0· y9· 11)) (Reads'.room-gone 𝓤 H A y22·) (Reshare.reads-owedS-len 𝓤 H A W e0· y18· 7 11 k1· 8 Path'.refl, Path'.refl) Path'.refl Path'.refl λ b o k. tt) d68
 
-          d70 : Typed.Typed 𝓤 H A 𝓣 E G29 b50 Δ0 (at70 bs)
-          d70 = Typed.g-pre 𝓤 H A W 𝓣 E G29 G30 b50 Δ0 (λ Ψ. Ψ) (at69 bs) (Lifetime.g-forget 𝓤 H A W E G29 11 Row.dead Path'.refl) d69
+          d70 : Typed.Typed 𝓤 H A 𝓣 E G14 b46 Δ0 (at70 bs)
+          d70 = Typed.s-seq 𝓤 H A W 𝓣 E G14 G15 b2 b45 Δ0 (Typed.give (s13 bs)) (at69 bs) (Reshare.t-sl-reshare 𝓤 H A W E e0· 𝓣 G14 9 16 7 11 y18· y9· k1· 0 (λ x. x) (Reads'.as-is 𝓤 H A (Mut.mslice e0· y18· 7)) (Reads'.room-gone 𝓤 H A y9·) Path'.refl tt Path'.refl Path'.refl Path'.refl λ b o. tt) d69
 
-          d71 : Typed.Typed 𝓤 H A 𝓣 E G28 b50 Δ0 (at71 bs)
-          d71 = Typed.g-pre 𝓤 H A W 𝓣 E G28 G29 b50 Δ0 (Typed.pass T26 T29 (s27 bs)) (at70 bs) (Reshare.g-back-sl-shr 𝓤 H A W E e0· G28 9 7 11 y18· k1· (λ x. x) (Reads'.as-is 𝓤 H A (Reshare.mslice-owedS e0· y18· 7 11 k1·)) Path'.refl Path'.refl) d70
+          d71 : Typed.Typed 𝓤 H A 𝓣 E G13 b46 Δ0 (at71 bs)
+          d71 = Typed.g-pre 𝓤 H A W 𝓣 E G13 G14 b46 Δ0 (λ Ψ. Ψ) (at70 bs) (Lifetime.g-begin 𝓤 H A W E G13 11 (tt, (tt, (tt, ((tt, tt), (tt, (tt, (tt, (tt, (tt, (tt, (tt, (tt, (tt, (tt, (tt, (tt, (tt, (tt, (tt, (tt, (tt, (tt, (tt, (tt, (tt, (tt, (tt, (tt, (tt, (tt, (tt, (tt, tt))))))))))))))))))))))))))))))))) d70
 
-          d72 : Typed.Typed 𝓤 H A 𝓣 E G27 b50 Δ0 (at72 bs)
-          d72 = Typed.g-pre 𝓤 H A W 𝓣 E G27 G28 b50 Δ0 (λ Ψ. Ψ) (at71 bs) (Lifetime.g-end 𝓤 H A W E G27 11 Path'.refl) d71
+          d72 : Typed.Typed 𝓤 H A 𝓣 E G12 b47 Δ0 (at72 bs)
+          d72 = Typed.s-seq 𝓤 H A W 𝓣 E G12 G13 b1 b46 Δ0 (Typed.ask (s11 bs)) (at71 bs) (Relend.t-sl-aggregate 𝓤 H A W E e0· 𝓣 (Relend.asMut e0·) G12 14 15 10 y8· y8· (λ x. x) (Scalar.oFld 3 ((Syntax.field 1) ∷ []) y2· 8 λ v. Shared.lenV (v .0)) (Reads'.as-is 𝓤 H A (Relend.msptr e0· y8· 10)) (Reads'.room-gone 𝓤 H A y21·) (Relend.reads-owed-len 𝓤 H A W e0· y12· 1 10 k0· 8 Path'.refl, Path'.refl) Path'.refl Path'.refl λ b o k. tt) d71
 
-          d73 : Typed.Typed 𝓤 H A 𝓣 E G26 b50 Δ0 (at73 bs)
-          d73 = Typed.g-pre 𝓤 H A W 𝓣 E G26 G27 b50 Δ0 (λ Ψ. Ψ) (at72 bs) (Lifetime.g-forget 𝓤 H A W E G26 10 Row.dead Path'.refl) d72
+          d73 : Typed.Typed 𝓤 H A 𝓣 E G11 b48 Δ0 (at73 bs)
+          d73 = Typed.s-seq 𝓤 H A W 𝓣 E G11 G12 b0 b47 Δ0 (Typed.give (s10 bs)) (at72 bs) (Relend.t-sl-relend 𝓤 H A W E e0· 𝓣 G11 3 14 1 10 y12· y8· k0· 0 (λ x. x) (Reads'.as-is 𝓤 H A (Mut.mslice e0· y12· 1)) (Reads'.room-gone 𝓤 H A y8·) Path'.refl tt Path'.refl Path'.refl Path'.refl λ b o. tt) d72
 
-          d74 : Typed.Typed 𝓤 H A 𝓣 E G25 b50 Δ0 (at74 bs)
-          d74 = Typed.g-pre 𝓤 H A W 𝓣 E G25 G26 b50 Δ0 (Typed.give (s24 bs)) (at73 bs) (Know.g-sl-known 𝓤 H A W (Referent.fInt Syntax.w8) E G25 3 1 y12· k0· 0 (λ x. x) record { fits = Dec'.lit< tt } (Reads'.as-is 𝓤 H A (Mut.mslice e0· y12· 1)) Path'.refl tt) d73
+          d74 : Typed.Typed 𝓤 H A 𝓣 E G10 b48 Δ0 (at74 bs)
+          d74 = Typed.g-pre 𝓤 H A W 𝓣 E G10 G11 b48 Δ0 (λ Ψ. Ψ) (at73 bs) (Lifetime.g-begin 𝓤 H A W E G10 10 (tt, (tt, (tt, (tt, (tt, (tt, (tt, (tt, (tt, (tt, (tt, (tt, (tt, (tt, (tt, (tt, (tt, (tt, (tt, (tt, (tt, (tt, (tt, (tt, (tt, (tt, (tt, (tt, (tt, (tt, (tt, (tt, tt))))))))))))))))))))))))))))))))) d73
 
-          d75 : Typed.Typed 𝓤 H A 𝓣 E G24 b50 Δ0 (at75 bs)
-          d75 = Typed.g-pre 𝓤 H A W 𝓣 E G24 G25 b50 Δ0 (Typed.both (s23 bs)) (at74 bs) (Relend.g-back-sl 𝓤 H A W E e0· G24 15 3 1 10 y12· y8· k0· (λ x. x) (λ x. x) (Reads'.as-is 𝓤 H A (Mut.msleft e0· y8·)) (Reads'.as-is 𝓤 H A (Relend.mslice-owed e0· y12· 1 10 k0·)) Path'.refl Path'.refl) d74
+          d75 : Typed.Typed 𝓤 H A 𝓣 E G9 b48 Δ0 (at75 bs)
+          d75 = Typed.g-pre 𝓤 H A W 𝓣 E G9 G10 b48 Δ0 (Typed.give (s8 bs)) (at74 bs) (Know.g-sl-known 𝓤 H A W (Referent.fInt Syntax.w8) E G9 11 9 y19· k2· 0 (λ x. x) record { fits = Dec'.lit< tt } (Reads'.as-is 𝓤 H A (Mut.mslice e0· y19· 9)) Path'.refl tt) d74
 
-          d76 : Typed.Typed 𝓤 H A 𝓣 E G23 b50 Δ0 (at76 bs)
-          d76 = Typed.g-pre 𝓤 H A W 𝓣 E G23 G24 b50 Δ0 (λ Ψ. Ψ) (at75 bs) (Lifetime.g-end 𝓤 H A W E G23 10 Path'.refl) d75
+          d76 : Typed.Typed 𝓤 H A 𝓣 E G8 b48 Δ0 (at76 bs)
+          d76 = Typed.g-pre 𝓤 H A W 𝓣 E G8 G9 b48 Δ0 (Typed.give (s7 bs)) (at75 bs) (Know.g-sl-known 𝓤 H A W (Referent.fInt Syntax.w8) E G8 9 7 y18· k1· 0 (λ x. x) record { fits = Dec'.lit< tt } (Reads'.as-is 𝓤 H A (Mut.mslice e0· y18· 7)) Path'.refl tt) d75
 
-          d77 : Typed.Typed 𝓤 H A 𝓣 E G22 b50 Δ0 (at77 bs)
-          d77 = Typed.g-pre 𝓤 H A W 𝓣 E G22 G23 b50 Δ0 (Typed.pass T22 T23 (s21 bs)) (at76 bs) (Scalar.g-room 𝓤 H A W E G22 18 y2· (Scalar.room-sc 𝓤 H A W (Row.sInt Syntax.w64))) d76
+          d77 : Typed.Typed 𝓤 H A 𝓣 E G7 b48 Δ0 (at77 bs)
+          d77 = Typed.g-pre 𝓤 H A W 𝓣 E G7 G8 b48 Δ0 (Typed.give (s6 bs)) (at76 bs) (Know.g-shs-known 𝓤 H A W (Referent.fInt Syntax.w8) E G7 8 6 y17· k9· 0 (λ x. x) record { fits = Dec'.lit< tt } (Reads'.as-is 𝓤 H A (Rows.sslice e0· y17· 6)) Path'.refl tt) d76
 
-          d78 : Typed.Typed 𝓤 H A 𝓣 E G21 b50 Δ0 (at78 bs)
-          d78 = Typed.g-pre 𝓤 H A W 𝓣 E G21 G22 b50 Δ0 (Typed.pass T21 T22 (s20 bs)) (at77 bs) (Scalar.g-room 𝓤 H A W E G21 17 y22· (Shared.room-sslice 𝓤 H A W e0· y9· 11)) d77
+          d78 : Typed.Typed 𝓤 H A 𝓣 E G6 b48 Δ0 (at78 bs)
+          d78 = Typed.g-pre 𝓤 H A W 𝓣 E G6 G7 b48 Δ0 (Typed.give (s5 bs)) (at77 bs) (Know.g-shs-known 𝓤 H A W (Referent.fInt Syntax.w8) E G6 7 5 y16· k8· 0 (λ x. x) record { fits = Dec'.lit< tt } (Reads'.as-is 𝓤 H A (Rows.sslice e0· y16· 5)) Path'.refl tt) d77
 
-          d79 : Typed.Typed 𝓤 H A 𝓣 E G20 b51 Δ0 (at79 bs)
-          d79 = Typed.s-seq 𝓤 H A W 𝓣 E G20 G21 b7 b50 Δ0 (Typed.both (s19 bs)) (at78 bs) (Plain.t-call-plain 𝓤 H A W 𝓣 9 ps·0 r·0 (claims· .0) (claims· .1) "finish::begin" (known .0) E (λ pos β. β) G20 (record { pos = 1; st = List.[]; d = 0; at = λ x. x }, (record { pos = 2; ty = Syntax.tyRef (Syntax.named 0) Syntax.imm y1·; ref = λ x. x }, (record { pos = 15; ty = Syntax.tyRef Syntax.erased Syntax.mut y1·; ref = λ x. x }, (record { pos = 4; ty = Syntax.tyRef (Syntax.named 2) Syntax.imm y1·; ref = λ x. x }, (record { pos = 5; ty = Syntax.tyRef (Syntax.named 3) Syntax.imm y1·; ref = λ x. x }, (record { pos = 6; ty = Syntax.tyRef (Syntax.named 4) Syntax.imm y1·; ref = λ x. x }, (record { pos = 7; ty = Syntax.tyRef (Syntax.named 5) Syntax.imm y1·; ref = λ x. x }, (record { pos = 8; ty = Syntax.tyRef (Syntax.named 6) Syntax.imm y1·; ref = λ x. x }, (record { pos = 17; ty = Syntax.tyRef Syntax.erased Syntax.imm y1·; ref = λ x. x }, (Num.vAt 18 λ x. x, (record { pos = 20; ty = Syntax.tyRef Syntax.erased Syntax.mut y1·; ref = λ x. x }, tt))))))))))) 12 (0 ∷ 10 ∷ 2 ∷ 3 ∷ 4 ∷ 5 ∷ 6 ∷ 11 ∷ 12 ∷ []) (Call.sub-id 𝓤 H A W (G20 .slots)) ((Yields.yields-copy 𝓤 H A W (λ ρ. Unit) (Declared.row CodeBuffer.the-type) Path'.refl (Copies.cStruct CodeBuffer.the-type Laws.the-laws Laws.the-copy .copy 𝓤 H A W) (Rows.whole (Declared.row CodeBuffer.the-type)) (λ x. x) (λ x. x) (λ ρ told. Local.mem-whole 𝓤 H A W (Declared.row CodeBuffer.the-type) ρ) λ ρ told. Local.whole-mem 𝓤 H A W (Declared.row CodeBuffer.the-type) ρ, Path'.refl), (ShrSlice.spares-sslice 𝓤 H A W e0· y11· 0, Shared.reads-sslice 𝓤 H A W e0· y11· 0, Path'.refl, (Reads'.as-is 𝓤 H A (Mut.mslice e0· y8· 10), Mut.reads-mslice 𝓤 H A W e0· y8· 10, Path'.refl, (ShrSlice.spares-sslice 𝓤 H A W e0· y13· 2, Shared.reads-sslice 𝓤 H A W e0· y13· 2, Path'.refl, (ShrSlice.spares-sslice 𝓤 H A W e0· y14· 3, Shared.reads-sslice 𝓤 H A W e0· y14· 3, Path'.refl, (ShrSlice.spares-sslice 𝓤 H A W e0· y15· 4, Shared.reads-sslice 𝓤 H A W e0· y15· 4, Path'.refl, (ShrSlice.spares-sslice 𝓤 H A W e0· y16· 5, Shared.reads-sslice 𝓤 H A W e0· y16· 5, Path'.refl, (ShrSlice.spares-sslice 𝓤 H A W e0· y17· 6, Shared.reads-sslice 𝓤 H A W e0· y17· 6, Path'.refl, (ShrSlice.spares-sslice 𝓤 H A W e0· y9· 11, Shared.reads-sslice 𝓤 H A W e0· y9· 11, Path'.refl, ((Scalar.reads-sc 𝓤 H A W (Row.sInt Syntax.w64), Path'.refl), (Reads'.as-is 𝓤 H A (Mut.mslice e0· y8· 12), Mut.reads-mslice 𝓤 H A W e0· y8· 12, Path'.refl, tt))))))))))) (Reads'.room-gone 𝓤 H A y23·) (tt, (tt, (tt, (tt, (tt, (tt, (tt, (tt, (tt, tt))))))))) Path'.refl) d78
+          d79 : Typed.Typed 𝓤 H A 𝓣 E G5 b48 Δ0 (at79 bs)
+          d79 = Typed.g-pre 𝓤 H A W 𝓣 E G5 G6 b48 Δ0 (Typed.give (s4 bs)) (at78 bs) (Know.g-shs-known 𝓤 H A W (Referent.fInt Syntax.w8) E G5 6 4 y15· k7· 0 (λ x. x) record { fits = Dec'.lit< tt } (Reads'.as-is 𝓤 H A (Rows.sslice e0· y15· 4)) Path'.refl tt) d78
 
-          d80 : Typed.Typed 𝓤 H A 𝓣 E G19 b52 Δ0 (at80 bs)
-          d80 = Typed.s-seq 𝓤 H A W 𝓣 E G19 G20 b6 b51 Δ0 (Typed.ask (s18 bs)) (at79 bs) (Relend.t-sl-aggregate 𝓤 H A W E e0· 𝓣 (Relend.asMut e0·) G19 19 20 12 y8· y8· (λ x. x) (Scalar.oFld 11 ((Syntax.field 1) ∷ []) y2· 8 λ v. Shared.lenV (v .0)) (Reads'.as-is 𝓤 H A (Relend.msptr e0· y8· 12)) (Reads'.room-gone 𝓤 H A y21·) (Relend.reads-owed-len 𝓤 H A W e0· y19· 9 12 k2· 8 Path'.refl, Path'.refl) Path'.refl Path'.refl λ b o k. tt) d79
+          d80 : Typed.Typed 𝓤 H A 𝓣 E G4 b48 Δ0 (at80 bs)
+          d80 = Typed.g-pre 𝓤 H A W 𝓣 E G4 G5 b48 Δ0 (Typed.give (s3 bs)) (at79 bs) (Know.g-shs-known 𝓤 H A W (Referent.fInt Syntax.w8) E G4 5 3 y14· k6· 0 (λ x. x) record { fits = Dec'.lit< tt } (Reads'.as-is 𝓤 H A (Rows.sslice e0· y14· 3)) Path'.refl tt) d79
 
-          d81 : Typed.Typed 𝓤 H A 𝓣 E G18 b53 Δ0 (at81 bs)
-          d81 = Typed.s-seq 𝓤 H A W 𝓣 E G18 G19 b5 b52 Δ0 (Typed.give (s17 bs)) (at80 bs) (Relend.t-sl-relend 𝓤 H A W E e0· 𝓣 G18 11 19 9 12 y19· y8· k2· 0 (λ x. x) (Reads'.as-is 𝓤 H A (Mut.mslice e0· y19· 9)) (Reads'.room-gone 𝓤 H A y8·) Path'.refl tt Path'.refl Path'.refl Path'.refl λ b o. tt) d80
+          d81 : Typed.Typed 𝓤 H A 𝓣 E G3 b48 Δ0 (at81 bs)
+          d81 = Typed.g-pre 𝓤 H A W 𝓣 E G3 G4 b48 Δ0 (Typed.give (s2 bs)) (at80 bs) (Know.g-shs-known 𝓤 H A W (Referent.fInt Syntax.w8) E G3 4 2 y13· k5· 0 (λ x. x) record { fits = Dec'.lit< tt } (Reads'.as-is 𝓤 H A (Rows.sslice e0· y13· 2)) Path'.refl tt) d80
 
-          d82 : Typed.Typed 𝓤 H A 𝓣 E G17 b53 Δ0 (at82 bs)
-          d82 = Typed.g-pre 𝓤 H A W 𝓣 E G17 G18 b53 Δ0 (λ Ψ. Ψ) (at81 bs) (Lifetime.g-begin 𝓤 H A W E G17 12 (tt, (tt, (tt, ((tt, tt), (tt, (tt, (tt, (tt, (tt, ((tt, tt), (tt, (tt, (tt, (tt, (tt, (tt, (tt, (tt, (tt, (tt, (tt, (tt, (tt, (tt, (tt, (tt, (tt, (tt, (tt, (tt, (tt, (tt, (tt, (tt, (tt, (tt, tt))))))))))))))))))))))))))))))))))))) d81
+          d82 : Typed.Typed 𝓤 H A 𝓣 E G2 b48 Δ0 (at82 bs)
+          d82 = Typed.g-pre 𝓤 H A W 𝓣 E G2 G3 b48 Δ0 (Typed.give (s1 bs)) (at81 bs) (Know.g-sl-known 𝓤 H A W (Referent.fInt Syntax.w8) E G2 3 1 y12· k0· 0 (λ x. x) record { fits = Dec'.lit< tt } (Reads'.as-is 𝓤 H A (Mut.mslice e0· y12· 1)) Path'.refl tt) d81
 
-          d83 : Typed.Typed 𝓤 H A 𝓣 E G16 b54 Δ0 (at83 bs)
-          d83 = Typed.s-seq 𝓤 H A W 𝓣 E G16 G17 b4 b53 Δ0 (Typed.pass T16 T17 (s15 bs)) (at82 bs) (Scalar.t-use 𝓤 H A W E 𝓣 G16 (Scalar.oFld 10 ((Syntax.field 1) ∷ []) y2· 8 Shared.lenV) 18 (Rows.sc-here (Row.sInt Syntax.w64)) y2· (Row.valS (Row.sInt Syntax.w64)) (Row.sInt Syntax.w64 .of) (Mut.reads-mslice-len 𝓤 H A W ROW·.the-row y4· 8 8 Path'.refl, Path'.refl) (Reads'.room-gone 𝓤 H A y2·) (Scalar.holds-sc 𝓤 H A W (Row.sInt Syntax.w64)) Path'.refl (λ u. Path'.refl) λ u. tt) d82
+          d83 : Typed.Typed 𝓤 H A 𝓣 E G0 b48 Δ0 (at83 bs)
+          d83 = Typed.g-pre 𝓤 H A W 𝓣 E G0 G2 b48 Δ0 (Typed.give (s0 bs)) (at82 bs) (Know.g-shs-known 𝓤 H A W (Referent.fInt Syntax.w8) E G0 2 0 y11· k4· 0 (λ x. x) record { fits = Dec'.lit< tt } (Reads'.as-is 𝓤 H A (Rows.sslice e0· y11· 0)) Path'.refl tt) d82
 
-          d84 : Typed.Typed 𝓤 H A 𝓣 E G15 b55 Δ0 (at84 bs)
-          d84 = Typed.s-seq 𝓤 H A W 𝓣 E G15 G16 b3 b54 Δ0 (Typed.ask (s14 bs)) (at83 bs) (Relend.t-sl-aggregate 𝓤 H A W E e0· 𝓣 (Relend.asShr e0·) G15 16 17 11 y9· y9· (λ x. x) (Scalar.oFld 9 ((Syntax.field 1) ∷ []) y2· 8 λ v. Shared.lenV (v .0)) (Reads'.as-is 𝓤 H A (Relend.ssptr e0· y9· 11)) (Reads'.room-gone 𝓤 H A y22·) (Reshare.reads-owedS-len 𝓤 H A W e0· y18· 7 11 k1· 8 Path'.refl, Path'.refl) Path'.refl Path'.refl λ b o k. tt) d83
-
-          d85 : Typed.Typed 𝓤 H A 𝓣 E G14 b56 Δ0 (at85 bs)
-          d85 = Typed.s-seq 𝓤 H A W 𝓣 E G14 G15 b2 b55 Δ0 (Typed.give (s13 bs)) (at84 bs) (Reshare.t-sl-reshare 𝓤 H A W E e0· 𝓣 G14 9 16 7 11 y18· y9· k1· 0 (λ x. x) (Reads'.as-is 𝓤 H A (Mut.mslice e0· y18· 7)) (Reads'.room-gone 𝓤 H A y9·) Path'.refl tt Path'.refl Path'.refl Path'.refl λ b o. tt) d84
-
-          d86 : Typed.Typed 𝓤 H A 𝓣 E G13 b56 Δ0 (at86 bs)
-          d86 = Typed.g-pre 𝓤 H A W 𝓣 E G13 G14 b56 Δ0 (λ Ψ. Ψ) (at85 bs) (Lifetime.g-begin 𝓤 H A W E G13 11 (tt, (tt, (tt, ((tt, tt), (tt, (tt, (tt, (tt, (tt, (tt, (tt, (tt, (tt, (tt, (tt, (tt, (tt, (tt, (tt, (tt, (tt, (tt, (tt, (tt, (tt, (tt, (tt, (tt, (tt, (tt, (tt, (tt, (tt, (tt, (tt, (tt, tt))))))))))))))))))))))))))))))))))))) d85
-
-          d87 : Typed.Typed 𝓤 H A 𝓣 E G12 b57 Δ0 (at87 bs)
-          d87 = Typed.s-seq 𝓤 H A W 𝓣 E G12 G13 b1 b56 Δ0 (Typed.ask (s11 bs)) (at86 bs) (Relend.t-sl-aggregate 𝓤 H A W E e0· 𝓣 (Relend.asMut e0·) G12 14 15 10 y8· y8· (λ x. x) (Scalar.oFld 3 ((Syntax.field 1) ∷ []) y2· 8 λ v. Shared.lenV (v .0)) (Reads'.as-is 𝓤 H A (Relend.msptr e0· y8· 10)) (Reads'.room-gone 𝓤 H A y21·) (Relend.reads-owed-len 𝓤 H A W e0· y12· 1 10 k0· 8 Path'.refl, Path'.refl) Path'.refl Path'.refl λ b o k. tt) d86
-
-          d88 : Typed.Typed 𝓤 H A 𝓣 E G11 b58 Δ0 (at88 bs)
-          d88 = Typed.s-seq 𝓤 H A W 𝓣 E G11 G12 b0 b57 Δ0 (Typed.give (s10 bs)) (at87 bs) (Relend.t-sl-relend 𝓤 H A W E e0· 𝓣 G11 3 14 1 10 y12· y8· k0· 0 (λ x. x) (Reads'.as-is 𝓤 H A (Mut.mslice e0· y12· 1)) (Reads'.room-gone 𝓤 H A y8·) Path'.refl tt Path'.refl Path'.refl Path'.refl λ b o. tt) d87
-
-          d89 : Typed.Typed 𝓤 H A 𝓣 E G10 b58 Δ0 (at89 bs)
-          d89 = Typed.g-pre 𝓤 H A W 𝓣 E G10 G11 b58 Δ0 (λ Ψ. Ψ) (at88 bs) (Lifetime.g-begin 𝓤 H A W E G10 10 (tt, (tt, (tt, (tt, (tt, (tt, (tt, (tt, (tt, (tt, (tt, (tt, (tt, (tt, (tt, (tt, (tt, (tt, (tt, (tt, (tt, (tt, (tt, (tt, (tt, (tt, (tt, (tt, (tt, (tt, (tt, (tt, (tt, (tt, (tt, (tt, tt))))))))))))))))))))))))))))))))))))) d88
-
-          d90 : Typed.Typed 𝓤 H A 𝓣 E G9 b58 Δ0 (at90 bs)
-          d90 = Typed.g-pre 𝓤 H A W 𝓣 E G9 G10 b58 Δ0 (Typed.give (s8 bs)) (at89 bs) (Know.g-sl-known 𝓤 H A W (Referent.fInt Syntax.w8) E G9 11 9 y19· k2· 0 (λ x. x) record { fits = Dec'.lit< tt } (Reads'.as-is 𝓤 H A (Mut.mslice e0· y19· 9)) Path'.refl tt) d89
-
-          d91 : Typed.Typed 𝓤 H A 𝓣 E G8 b58 Δ0 (at91 bs)
-          d91 = Typed.g-pre 𝓤 H A W 𝓣 E G8 G9 b58 Δ0 (Typed.give (s7 bs)) (at90 bs) (Know.g-sl-known 𝓤 H A W (Referent.fInt Syntax.w8) E G8 9 7 y18· k1· 0 (λ x. x) record { fits = Dec'.lit< tt } (Reads'.as-is 𝓤 H A (Mut.mslice e0· y18· 7)) Path'.refl tt) d90
-
-          d92 : Typed.Typed 𝓤 H A 𝓣 E G7 b58 Δ0 (at92 bs)
-          d92 = Typed.g-pre 𝓤 H A W 𝓣 E G7 G8 b58 Δ0 (Typed.give (s6 bs)) (at91 bs) (Know.g-shs-known 𝓤 H A W (Referent.fInt Syntax.w8) E G7 8 6 y17· k9· 0 (λ x. x) record { fits = Dec'.lit< tt } (Reads'.as-is 𝓤 H A (Rows.sslice e0· y17· 6)) Path'.refl tt) d91
-
-          d93 : Typed.Typed 𝓤 H A 𝓣 E G6 b58 Δ0 (at93 bs)
-          d93 = Typed.g-pre 𝓤 H A W 𝓣 E G6 G7 b58 Δ0 (Typed.give (s5 bs)) (at92 bs) (Know.g-shs-known 𝓤 H A W (Referent.fInt Syntax.w8) E G6 7 5 y16· k8· 0 (λ x. x) record { fits = Dec'.lit< tt } (Reads'.as-is 𝓤 H A (Rows.sslice e0· y16· 5)) Path'.refl tt) d92
-
-          d94 : Typed.Typed 𝓤 H A 𝓣 E G5 b58 Δ0 (at94 bs)
-          d94 = Typed.g-pre 𝓤 H A W 𝓣 E G5 G6 b58 Δ0 (Typed.give (s4 bs)) (at93 bs) (Know.g-shs-known 𝓤 H A W (Referent.fInt Syntax.w8) E G5 6 4 y15· k7· 0 (λ x. x) record { fits = Dec'.lit< tt } (Reads'.as-is 𝓤 H A (Rows.sslice e0· y15· 4)) Path'.refl tt) d93
-
-          d95 : Typed.Typed 𝓤 H A 𝓣 E G4 b58 Δ0 (at95 bs)
-          d95 = Typed.g-pre 𝓤 H A W 𝓣 E G4 G5 b58 Δ0 (Typed.give (s3 bs)) (at94 bs) (Know.g-shs-known 𝓤 H A W (Referent.fInt Syntax.w8) E G4 5 3 y14· k6· 0 (λ x. x) record { fits = Dec'.lit< tt } (Reads'.as-is 𝓤 H A (Rows.sslice e0· y14· 3)) Path'.refl tt) d94
-
-          d96 : Typed.Typed 𝓤 H A 𝓣 E G3 b58 Δ0 (at96 bs)
-          d96 = Typed.g-pre 𝓤 H A W 𝓣 E G3 G4 b58 Δ0 (Typed.give (s2 bs)) (at95 bs) (Know.g-shs-known 𝓤 H A W (Referent.fInt Syntax.w8) E G3 4 2 y13· k5· 0 (λ x. x) record { fits = Dec'.lit< tt } (Reads'.as-is 𝓤 H A (Rows.sslice e0· y13· 2)) Path'.refl tt) d95
-
-          d97 : Typed.Typed 𝓤 H A 𝓣 E G2 b58 Δ0 (at97 bs)
-          d97 = Typed.g-pre 𝓤 H A W 𝓣 E G2 G3 b58 Δ0 (Typed.give (s1 bs)) (at96 bs) (Know.g-sl-known 𝓤 H A W (Referent.fInt Syntax.w8) E G2 3 1 y12· k0· 0 (λ x. x) record { fits = Dec'.lit< tt } (Reads'.as-is 𝓤 H A (Mut.mslice e0· y12· 1)) Path'.refl tt) d96
-
-          d98 : Typed.Typed 𝓤 H A 𝓣 E G0 b58 Δ0 (at98 bs)
-          d98 = Typed.g-pre 𝓤 H A W 𝓣 E G0 G2 b58 Δ0 (Typed.give (s0 bs)) (at97 bs) (Know.g-shs-known 𝓤 H A W (Referent.fInt Syntax.w8) E G0 2 0 y11· k4· 0 (λ x. x) record { fits = Dec'.lit< tt } (Reads'.as-is 𝓤 H A (Rows.sslice e0· y11· 0)) Path'.refl tt) d97
-
-          pub typed : Typed.Typed 𝓤 H A 𝓣 E (Function.Γin 10 ps r xs m κs qs) b58 (Function.Δret 10 ps r xs m κs qs) (Φ bs)
-          typed = d98
+          pub typed : Typed.Typed 𝓤 H A 𝓣 E (Function.Γin 10 ps r xs m κs qs) b48 (Function.Δret 10 ps r xs m κs qs) (Φ bs)
+          typed = d83
 
       module _ (κs : Lifetimes.Lfts 10) where
         pub record Args : Type 0 where
@@ -2594,7 +2285,7 @@ module _ (claims· : Claims) where
       m26 = λ before given. s34 (before .before .before .before .before .before .before .before .before .before .before .before .before .before .before .before .before .before .blocks) .next (m25 before given)
 
       abbrev W1 : (before : After-slice-known5) → (given : s33 (before .before .before .before .before .before .before .before .before .before .before .before .before .before .before .before .before .before .blocks) .gives (m24 (before .before) (before .slice-known5 .given))) → Typed.Want O1
-      W1 = λ before given. Typed.wantNext T37 O0 (at62 (before .before .before .before .before .before .before .before .before .before .before .before .before .before .before .before .before .before .blocks) (W0 (before .before .before .before .before .before .before .before .before .before .before .before .before .before .before .before .before .before .κs) (before .before .before .before .before .before .before .before .before .before .before .before .before .before .before .before .before .before .args) (before .before .before .before .before .before .before .before .before .before .before .before .before .before .before .before .before .before .blocks))) (W0 (before .before .before .before .before .before .before .before .before .before .before .before .before .before .before .before .before .before .κs) (before .before .before .before .before .before .before .before .before .before .before .before .before .before .before .before .before .before .args) (before .before .before .before .before .before .before .before .before .before .before .before .before .before .before .before .before .before .blocks))
+      W1 = λ before given. Typed.wantNext T37 O0 (at47 (before .before .before .before .before .before .before .before .before .before .before .before .before .before .before .before .before .before .blocks) (W0 (before .before .before .before .before .before .before .before .before .before .before .before .before .before .before .before .before .before .κs) (before .before .before .before .before .before .before .before .before .before .before .before .before .before .before .before .before .before .args) (before .before .before .before .before .before .before .before .before .before .before .before .before .before .before .before .before .before .blocks))) (W0 (before .before .before .before .before .before .before .before .before .before .before .before .before .before .before .before .before .before .κs) (before .before .before .before .before .before .before .before .before .before .before .before .before .before .before .before .before .before .args) (before .before .before .before .before .before .before .before .before .before .before .before .before .before .before .before .before .before .blocks))
 
       module _ (before· : After-slice-known5) where
         pub record After-struct-known·own : Type 0 where
@@ -2714,288 +2405,188 @@ module _ (claims· : Claims) where
         pub before : After-relaxed-arg3
         pub relaxed-arg4 : After-relaxed-arg4·own before
 
+      abbrev pub Need-relaxed-requires : Type 0
+      Need-relaxed-requires = (c : After-relaxed-arg4) → s53 (c .before .before .before .before .before .before .before .before .before .before .before .before .before .before .before .before .before .before .before .before .before .before .before .blocks) .asks (m40 (c .before) (c .relaxed-arg4 .given))
+
       abbrev pub m41 : (before : After-relaxed-arg4) → (given : s53 (before .before .before .before .before .before .before .before .before .before .before .before .before .before .before .before .before .before .before .before .before .before .before .before .blocks) .gives (m40 (before .before) (before .relaxed-arg4 .given))) → Typed.Mo T56
       m41 = λ before given. s53 (before .before .before .before .before .before .before .before .before .before .before .before .before .before .before .before .before .before .before .before .before .before .before .before .blocks) .next (m40 (before .before) (before .relaxed-arg4 .given)) given
 
       module _ (before· : After-relaxed-arg4) where
-        pub record After-struct-known2·own : Type 0 where
-          pub given : s53 (before· .before .before .before .before .before .before .before .before .before .before .before .before .before .before .before .before .before .before .before .before .before .before .before .blocks) .gives (m40 (before· .before) (before· .relaxed-arg4 .given))
-
-      pub record After-struct-known2 : Type 0 where
-        pub before : After-relaxed-arg4
-        pub struct-known2 : After-struct-known2·own before
-
-      abbrev pub Need-cast-relaxed : Type 0
-      Need-cast-relaxed = (c : After-struct-known2) → s54 (c .before .before .before .before .before .before .before .before .before .before .before .before .before .before .before .before .before .before .before .before .before .before .before .before .blocks) .asks (m41 (c .before) (c .struct-known2 .given))
-
-      abbrev pub m42 : (before : After-relaxed-arg4) → (given : s53 (before .before .before .before .before .before .before .before .before .before .before .before .before .before .before .before .before .before .before .before .before .before .before .before .blocks) .gives (m40 (before .before) (before .relaxed-arg4 .given))) → Typed.Mo T57
-      m42 = λ before given. s54 (before .before .before .before .before .before .before .before .before .before .before .before .before .before .before .before .before .before .before .before .before .before .before .before .blocks) .next (m41 before given)
-
-      abbrev pub m43 : (before : After-struct-known2) → (given : s55 (before .before .before .before .before .before .before .before .before .before .before .before .before .before .before .before .before .before .before .before .before .before .before .before .before .blocks) .gives (m42 (before .before) (before .struct-known2 .given))) → Typed.Mo T58
-      m43 = λ before given. s55 (before .before .before .before .before .before .before .before .before .before .before .before .before .before .before .before .before .before .before .before .before .before .before .before .before .blocks) .next (m42 (before .before) (before .struct-known2 .given)) given
-
-      module _ (before· : After-struct-known2) where
-        pub record After-struct-known3·own : Type 0 where
-          pub given : s55 (before· .before .before .before .before .before .before .before .before .before .before .before .before .before .before .before .before .before .before .before .before .before .before .before .before .blocks) .gives (m42 (before· .before) (before· .struct-known2 .given))
-
-      pub record After-struct-known3 : Type 0 where
-        pub before : After-struct-known2
-        pub struct-known3 : After-struct-known3·own before
-
-      abbrev pub Need-cast-relaxed-2 : Type 0
-      Need-cast-relaxed-2 = (c : After-struct-known3) → s56 (c .before .before .before .before .before .before .before .before .before .before .before .before .before .before .before .before .before .before .before .before .before .before .before .before .before .blocks) .asks (m43 (c .before) (c .struct-known3 .given))
-
-      abbrev pub m44 : (before : After-struct-known2) → (given : s55 (before .before .before .before .before .before .before .before .before .before .before .before .before .before .before .before .before .before .before .before .before .before .before .before .before .blocks) .gives (m42 (before .before) (before .struct-known2 .given))) → Typed.Mo T59
-      m44 = λ before given. s56 (before .before .before .before .before .before .before .before .before .before .before .before .before .before .before .before .before .before .before .before .before .before .before .before .before .blocks) .next (m43 before given)
-
-      abbrev pub m45 : (before : After-struct-known3) → (given : s57 (before .before .before .before .before .before .before .before .before .before .before .before .before .before .before .before .before .before .before .before .before .before .before .before .before .before .blocks) .gives (m44 (before .before) (before .struct-known3 .given))) → Typed.Mo T60
-      m45 = λ before given. s57 (before .before .before .before .before .before .before .before .before .before .before .before .before .before .before .before .before .before .before .before .before .before .before .before .before .before .blocks) .next (m44 (before .before) (before .struct-known3 .given)) given
-
-      module _ (before· : After-struct-known3) where
-        pub record After-struct-known4·own : Type 0 where
-          pub given : s57 (before· .before .before .before .before .before .before .before .before .before .before .before .before .before .before .before .before .before .before .before .before .before .before .before .before .before .blocks) .gives (m44 (before· .before) (before· .struct-known3 .given))
-
-      pub record After-struct-known4 : Type 0 where
-        pub before : After-struct-known3
-        pub struct-known4 : After-struct-known4·own before
-
-      abbrev pub Need-cast-relaxed-3 : Type 0
-      Need-cast-relaxed-3 = (c : After-struct-known4) → s58 (c .before .before .before .before .before .before .before .before .before .before .before .before .before .before .before .before .before .before .before .before .before .before .before .before .before .before .blocks) .asks (m45 (c .before) (c .struct-known4 .given))
-
-      abbrev pub m46 : (before : After-struct-known3) → (given : s57 (before .before .before .before .before .before .before .before .before .before .before .before .before .before .before .before .before .before .before .before .before .before .before .before .before .before .blocks) .gives (m44 (before .before) (before .struct-known3 .given))) → Typed.Mo T61
-      m46 = λ before given. s58 (before .before .before .before .before .before .before .before .before .before .before .before .before .before .before .before .before .before .before .before .before .before .before .before .before .before .blocks) .next (m45 before given)
-
-      abbrev pub m47 : (before : After-struct-known4) → (given : s59 (before .before .before .before .before .before .before .before .before .before .before .before .before .before .before .before .before .before .before .before .before .before .before .before .before .before .before .blocks) .gives (m46 (before .before) (before .struct-known4 .given))) → Typed.Mo T62
-      m47 = λ before given. s59 (before .before .before .before .before .before .before .before .before .before .before .before .before .before .before .before .before .before .before .before .before .before .before .before .before .before .before .blocks) .next (m46 (before .before) (before .struct-known4 .given)) given
-
-      module _ (before· : After-struct-known4) where
-        pub record After-struct-known5·own : Type 0 where
-          pub given : s59 (before· .before .before .before .before .before .before .before .before .before .before .before .before .before .before .before .before .before .before .before .before .before .before .before .before .before .before .blocks) .gives (m46 (before· .before) (before· .struct-known4 .given))
-
-      pub record After-struct-known5 : Type 0 where
-        pub before : After-struct-known4
-        pub struct-known5 : After-struct-known5·own before
-
-      abbrev pub Need-cast-relaxed-4 : Type 0
-      Need-cast-relaxed-4 = (c : After-struct-known5) → s60 (c .before .before .before .before .before .before .before .before .before .before .before .before .before .before .before .before .before .before .before .before .before .before .before .before .before .before .before .blocks) .asks (m47 (c .before) (c .struct-known5 .given))
-
-      abbrev pub m48 : (before : After-struct-known4) → (given : s59 (before .before .before .before .before .before .before .before .before .before .before .before .before .before .before .before .before .before .before .before .before .before .before .before .before .before .before .blocks) .gives (m46 (before .before) (before .struct-known4 .given))) → Typed.Mo T63
-      m48 = λ before given. s60 (before .before .before .before .before .before .before .before .before .before .before .before .before .before .before .before .before .before .before .before .before .before .before .before .before .before .before .blocks) .next (m47 before given)
-
-      abbrev pub m49 : (before : After-struct-known5) → (given : s61 (before .before .before .before .before .before .before .before .before .before .before .before .before .before .before .before .before .before .before .before .before .before .before .before .before .before .before .before .blocks) .gives (m48 (before .before) (before .struct-known5 .given))) → Typed.Mo T64
-      m49 = λ before given. s61 (before .before .before .before .before .before .before .before .before .before .before .before .before .before .before .before .before .before .before .before .before .before .before .before .before .before .before .before .blocks) .next (m48 (before .before) (before .struct-known5 .given)) given
-
-      module _ (before· : After-struct-known5) where
-        pub record After-struct-known6·own : Type 0 where
-          pub given : s61 (before· .before .before .before .before .before .before .before .before .before .before .before .before .before .before .before .before .before .before .before .before .before .before .before .before .before .before .before .blocks) .gives (m48 (before· .before) (before· .struct-known5 .given))
-
-      pub record After-struct-known6 : Type 0 where
-        pub before : After-struct-known5
-        pub struct-known6 : After-struct-known6·own before
-
-      abbrev pub Need-cast-relaxed-5 : Type 0
-      Need-cast-relaxed-5 = (c : After-struct-known6) → s62 (c .before .before .before .before .before .before .before .before .before .before .before .before .before .before .before .before .before .before .before .before .before .before .before .before .before .before .before .before .blocks) .asks (m49 (c .before) (c .struct-known6 .given))
-
-      abbrev pub m50 : (before : After-struct-known5) → (given : s61 (before .before .before .before .before .before .before .before .before .before .before .before .before .before .before .before .before .before .before .before .before .before .before .before .before .before .before .before .blocks) .gives (m48 (before .before) (before .struct-known5 .given))) → Typed.Mo T65
-      m50 = λ before given. s62 (before .before .before .before .before .before .before .before .before .before .before .before .before .before .before .before .before .before .before .before .before .before .before .before .before .before .before .before .blocks) .next (m49 before given)
-
-      abbrev pub Need-relaxed-requires : Type 0
-      Need-relaxed-requires = (c : After-struct-known6) → s63 (c .before .before .before .before .before .before .before .before .before .before .before .before .before .before .before .before .before .before .before .before .before .before .before .before .before .before .before .before .blocks) .asks (m50 (c .before) (c .struct-known6 .given))
-
-      abbrev pub m51 : (before : After-struct-known6) → (given : s63 (before .before .before .before .before .before .before .before .before .before .before .before .before .before .before .before .before .before .before .before .before .before .before .before .before .before .before .before .before .blocks) .gives (m50 (before .before) (before .struct-known6 .given))) → Typed.Mo T66
-      m51 = λ before given. s63 (before .before .before .before .before .before .before .before .before .before .before .before .before .before .before .before .before .before .before .before .before .before .before .before .before .before .before .before .before .blocks) .next (m50 (before .before) (before .struct-known6 .given)) given
-
-      module _ (before· : After-struct-known6) where
         abbrev pub After-relaxed·own : Type 0
-        After-relaxed·own = Called.Called ps·1 r·1 (claims· .3) T65 (record { pos = 2; ty = Syntax.tyRef (Syntax.named 0) Syntax.imm y1·; ref = λ x. x }, (record { pos = 23; ty = Syntax.tyRef Syntax.erased Syntax.mut y1·; ref = λ x. x }, (record { pos = 4; ty = Syntax.tyRef (Syntax.named 2) Syntax.imm y1·; ref = λ x. x }, (record { pos = 6; ty = Syntax.tyRef (Syntax.named 4) Syntax.imm y1·; ref = λ x. x }, (record { pos = 7; ty = Syntax.tyRef (Syntax.named 5) Syntax.imm y1·; ref = λ x. x }, (record { pos = 8; ty = Syntax.tyRef (Syntax.named 6) Syntax.imm y1·; ref = λ x. x }, (record { pos = 25; ty = Syntax.tyRef Syntax.erased Syntax.mut y1·; ref = λ x. x }, (record { pos = 27; ty = Syntax.tyRef Syntax.erased Syntax.mut (MEM·.pointee (ROW·.the-row .written)); ref = λ x. x }, (record { pos = 29; ty = Syntax.tyRef Syntax.erased Syntax.mut y1·; ref = λ x. x }, (Num.vFld 1 ((Syntax.field 4) ∷ []) 16 λ x. CodeBuffer.struct .as-values x .1 .1 .1 .1 .0, (Num.vAt 18 λ x. x, (Num.vAt 30 λ x. x, (Num.vAt 31 λ x. x, (Num.vAt 32 λ x. x, (Num.vAt 33 λ x. x, tt))))))))))))))) (m50 (before· .before) (before· .struct-known6 .given))
+        After-relaxed·own = Called.Called ps·1 r·1 (claims· .3) T55 (record { pos = 1; st = List.[]; d = 0; at = λ x. x }, (record { pos = 2; ty = Syntax.tyRef (Syntax.named 0) Syntax.imm y1·; ref = λ x. x }, (record { pos = 23; ty = Syntax.tyRef Syntax.erased Syntax.mut y1·; ref = λ x. x }, (record { pos = 4; ty = Syntax.tyRef (Syntax.named 2) Syntax.imm y1·; ref = λ x. x }, (record { pos = 6; ty = Syntax.tyRef (Syntax.named 4) Syntax.imm y1·; ref = λ x. x }, (record { pos = 7; ty = Syntax.tyRef (Syntax.named 5) Syntax.imm y1·; ref = λ x. x }, (record { pos = 8; ty = Syntax.tyRef (Syntax.named 6) Syntax.imm y1·; ref = λ x. x }, (record { pos = 25; ty = Syntax.tyRef Syntax.erased Syntax.mut y1·; ref = λ x. x }, (record { pos = 27; ty = Syntax.tyRef Syntax.erased Syntax.mut (MEM·.pointee (ROW·.the-row .written)); ref = λ x. x }, (record { pos = 29; ty = Syntax.tyRef Syntax.erased Syntax.mut y1·; ref = λ x. x }, tt)))))))))) (m40 (before· .before) (before· .relaxed-arg4 .given))
 
       pub record After-relaxed : Type 0 where
-        pub before : After-struct-known6
+        pub before : After-relaxed-arg4
         pub relaxed : After-relaxed·own before
 
-      abbrev pub After-relaxed·gave : (c : After-relaxed) → s63 (c .before .before .before .before .before .before .before .before .before .before .before .before .before .before .before .before .before .before .before .before .before .before .before .before .before .before .before .before .before .blocks) .gives (m50 (c .before .before) (c .before .struct-known6 .given))
-      After-relaxed·gave = λ c. Called.given ps·1 r·1 (claims· .3) T65 (record { pos = 2; ty = Syntax.tyRef (Syntax.named 0) Syntax.imm y1·; ref = λ x. x }, (record { pos = 23; ty = Syntax.tyRef Syntax.erased Syntax.mut y1·; ref = λ x. x }, (record { pos = 4; ty = Syntax.tyRef (Syntax.named 2) Syntax.imm y1·; ref = λ x. x }, (record { pos = 6; ty = Syntax.tyRef (Syntax.named 4) Syntax.imm y1·; ref = λ x. x }, (record { pos = 7; ty = Syntax.tyRef (Syntax.named 5) Syntax.imm y1·; ref = λ x. x }, (record { pos = 8; ty = Syntax.tyRef (Syntax.named 6) Syntax.imm y1·; ref = λ x. x }, (record { pos = 25; ty = Syntax.tyRef Syntax.erased Syntax.mut y1·; ref = λ x. x }, (record { pos = 27; ty = Syntax.tyRef Syntax.erased Syntax.mut (MEM·.pointee (ROW·.the-row .written)); ref = λ x. x }, (record { pos = 29; ty = Syntax.tyRef Syntax.erased Syntax.mut y1·; ref = λ x. x }, (Num.vFld 1 ((Syntax.field 4) ∷ []) 16 λ x. CodeBuffer.struct .as-values x .1 .1 .1 .1 .0, (Num.vAt 18 λ x. x, (Num.vAt 30 λ x. x, (Num.vAt 31 λ x. x, (Num.vAt 32 λ x. x, (Num.vAt 33 λ x. x, tt))))))))))))))) (m50 (c .before .before) (c .before .struct-known6 .given)) (c .relaxed)
+      abbrev pub After-relaxed·gave : (c : After-relaxed) → s53 (c .before .before .before .before .before .before .before .before .before .before .before .before .before .before .before .before .before .before .before .before .before .before .before .before .blocks) .gives (m40 (c .before .before) (c .before .relaxed-arg4 .given))
+      After-relaxed·gave = λ c. Called.given ps·1 r·1 (claims· .3) T55 (record { pos = 1; st = List.[]; d = 0; at = λ x. x }, (record { pos = 2; ty = Syntax.tyRef (Syntax.named 0) Syntax.imm y1·; ref = λ x. x }, (record { pos = 23; ty = Syntax.tyRef Syntax.erased Syntax.mut y1·; ref = λ x. x }, (record { pos = 4; ty = Syntax.tyRef (Syntax.named 2) Syntax.imm y1·; ref = λ x. x }, (record { pos = 6; ty = Syntax.tyRef (Syntax.named 4) Syntax.imm y1·; ref = λ x. x }, (record { pos = 7; ty = Syntax.tyRef (Syntax.named 5) Syntax.imm y1·; ref = λ x. x }, (record { pos = 8; ty = Syntax.tyRef (Syntax.named 6) Syntax.imm y1·; ref = λ x. x }, (record { pos = 25; ty = Syntax.tyRef Syntax.erased Syntax.mut y1·; ref = λ x. x }, (record { pos = 27; ty = Syntax.tyRef Syntax.erased Syntax.mut (MEM·.pointee (ROW·.the-row .written)); ref = λ x. x }, (record { pos = 29; ty = Syntax.tyRef Syntax.erased Syntax.mut y1·; ref = λ x. x }, tt)))))))))) (m40 (c .before .before) (c .before .relaxed-arg4 .given)) (c .relaxed)
 
-      abbrev pub m52 : (before : After-struct-known6) → (given : s63 (before .before .before .before .before .before .before .before .before .before .before .before .before .before .before .before .before .before .before .before .before .before .before .before .before .before .before .before .before .blocks) .gives (m50 (before .before) (before .struct-known6 .given))) → Typed.Mo T67
-      m52 = λ before given. s64 (before .before .before .before .before .before .before .before .before .before .before .before .before .before .before .before .before .before .before .before .before .before .before .before .before .before .before .before .before .blocks) (m51 before given)
-
-      abbrev pub m53 : (before : After-struct-known6) → (given : s63 (before .before .before .before .before .before .before .before .before .before .before .before .before .before .before .before .before .before .before .before .before .before .before .before .before .before .before .before .before .blocks) .gives (m50 (before .before) (before .struct-known6 .given))) → Typed.Mo T68
-      m53 = λ before given. s65 (before .before .before .before .before .before .before .before .before .before .before .before .before .before .before .before .before .before .before .before .before .before .before .before .before .before .before .before .before .blocks) (m52 before given)
-
-      abbrev pub m54 : (before : After-struct-known6) → (given : s63 (before .before .before .before .before .before .before .before .before .before .before .before .before .before .before .before .before .before .before .before .before .before .before .before .before .before .before .before .before .blocks) .gives (m50 (before .before) (before .struct-known6 .given))) → Typed.Mo T69
-      m54 = λ before given. s66 (before .before .before .before .before .before .before .before .before .before .before .before .before .before .before .before .before .before .before .before .before .before .before .before .before .before .before .before .before .blocks) (m53 before given)
-
-      abbrev pub m55 : (before : After-struct-known6) → (given : s63 (before .before .before .before .before .before .before .before .before .before .before .before .before .before .before .before .before .before .before .before .before .before .before .before .before .before .before .before .before .blocks) .gives (m50 (before .before) (before .struct-known6 .given))) → Typed.Mo T70
-      m55 = λ before given. s67 (before .before .before .before .before .before .before .before .before .before .before .before .before .before .before .before .before .before .before .before .before .before .before .before .before .before .before .before .before .blocks) (m54 before given)
-
-      abbrev pub m56 : (before : After-struct-known6) → (given : s63 (before .before .before .before .before .before .before .before .before .before .before .before .before .before .before .before .before .before .before .before .before .before .before .before .before .before .before .before .before .blocks) .gives (m50 (before .before) (before .struct-known6 .given))) → Typed.Mo T71
-      m56 = λ before given. s68 (before .before .before .before .before .before .before .before .before .before .before .before .before .before .before .before .before .before .before .before .before .before .before .before .before .before .before .before .before .blocks) (m55 before given)
-
-      abbrev pub m57 : (before : After-relaxed) → (given : s70 (before .before .before .before .before .before .before .before .before .before .before .before .before .before .before .before .before .before .before .before .before .before .before .before .before .before .before .before .before .before .blocks) .gives (m56 (before .before) (After-relaxed·gave before))) → Typed.Mo T73
-      m57 = λ before given. s70 (before .before .before .before .before .before .before .before .before .before .before .before .before .before .before .before .before .before .before .before .before .before .before .before .before .before .before .before .before .before .blocks) .next (m56 (before .before) (After-relaxed·gave before)) given
+      abbrev pub m42 : (before : After-relaxed) → (given : s55 (before .before .before .before .before .before .before .before .before .before .before .before .before .before .before .before .before .before .before .before .before .before .before .before .before .blocks) .gives (m41 (before .before) (After-relaxed·gave before))) → Typed.Mo T58
+      m42 = λ before given. s55 (before .before .before .before .before .before .before .before .before .before .before .before .before .before .before .before .before .before .before .before .before .before .before .before .before .blocks) .next (m41 (before .before) (After-relaxed·gave before)) given
 
       module _ (before· : After-relaxed) where
         pub record After-labels2·own : Type 0 where
-          pub given : s70 (before· .before .before .before .before .before .before .before .before .before .before .before .before .before .before .before .before .before .before .before .before .before .before .before .before .before .before .before .before .before .blocks) .gives (m56 (before· .before) (After-relaxed·gave before·))
+          pub given : s55 (before· .before .before .before .before .before .before .before .before .before .before .before .before .before .before .before .before .before .before .before .before .before .before .before .before .blocks) .gives (m41 (before· .before) (After-relaxed·gave before·))
 
       pub record After-labels2 : Type 0 where
         pub before : After-relaxed
         pub labels2 : After-labels2·own before
 
-      abbrev pub m58 : (before : After-labels2) → (given : s71 (before .before .before .before .before .before .before .before .before .before .before .before .before .before .before .before .before .before .before .before .before .before .before .before .before .before .before .before .before .before .before .blocks) .gives (m57 (before .before) (before .labels2 .given))) → Typed.Mo T74
-      m58 = λ before given. s71 (before .before .before .before .before .before .before .before .before .before .before .before .before .before .before .before .before .before .before .before .before .before .before .before .before .before .before .before .before .before .before .blocks) .next (m57 (before .before) (before .labels2 .given)) given
+      abbrev pub m43 : (before : After-labels2) → (given : s56 (before .before .before .before .before .before .before .before .before .before .before .before .before .before .before .before .before .before .before .before .before .before .before .before .before .before .blocks) .gives (m42 (before .before) (before .labels2 .given))) → Typed.Mo T59
+      m43 = λ before given. s56 (before .before .before .before .before .before .before .before .before .before .before .before .before .before .before .before .before .before .before .before .before .before .before .before .before .before .blocks) .next (m42 (before .before) (before .labels2 .given)) given
 
       module _ (before· : After-labels2) where
         pub record After-slice-known6·own : Type 0 where
-          pub given : s71 (before· .before .before .before .before .before .before .before .before .before .before .before .before .before .before .before .before .before .before .before .before .before .before .before .before .before .before .before .before .before .before .blocks) .gives (m57 (before· .before) (before· .labels2 .given))
+          pub given : s56 (before· .before .before .before .before .before .before .before .before .before .before .before .before .before .before .before .before .before .before .before .before .before .before .before .before .before .blocks) .gives (m42 (before· .before) (before· .labels2 .given))
 
       pub record After-slice-known6 : Type 0 where
         pub before : After-labels2
         pub slice-known6 : After-slice-known6·own before
 
-      abbrev pub m59 : (before : After-slice-known6) → (given : s74 (before .before .before .before .before .before .before .before .before .before .before .before .before .before .before .before .before .before .before .before .before .before .before .before .before .before .before .before .before .before .before .before .blocks) .gives (m58 (before .before) (before .slice-known6 .given))) → Typed.Mo T77
-      m59 = λ before given. s74 (before .before .before .before .before .before .before .before .before .before .before .before .before .before .before .before .before .before .before .before .before .before .before .before .before .before .before .before .before .before .before .before .blocks) .next (m58 (before .before) (before .slice-known6 .given)) given
+      abbrev pub m44 : (before : After-slice-known6) → (given : s59 (before .before .before .before .before .before .before .before .before .before .before .before .before .before .before .before .before .before .before .before .before .before .before .before .before .before .before .blocks) .gives (m43 (before .before) (before .slice-known6 .given))) → Typed.Mo T62
+      m44 = λ before given. s59 (before .before .before .before .before .before .before .before .before .before .before .before .before .before .before .before .before .before .before .before .before .before .before .before .before .before .before .blocks) .next (m43 (before .before) (before .slice-known6 .given)) given
 
       module _ (before· : After-slice-known6) where
         pub record After-relocs·own : Type 0 where
-          pub given : s74 (before· .before .before .before .before .before .before .before .before .before .before .before .before .before .before .before .before .before .before .before .before .before .before .before .before .before .before .before .before .before .before .before .blocks) .gives (m58 (before· .before) (before· .slice-known6 .given))
+          pub given : s59 (before· .before .before .before .before .before .before .before .before .before .before .before .before .before .before .before .before .before .before .before .before .before .before .before .before .before .before .blocks) .gives (m43 (before· .before) (before· .slice-known6 .given))
 
       pub record After-relocs : Type 0 where
         pub before : After-slice-known6
         pub relocs : After-relocs·own before
 
-      abbrev pub m60 : (before : After-relocs) → (given : s75 (before .before .before .before .before .before .before .before .before .before .before .before .before .before .before .before .before .before .before .before .before .before .before .before .before .before .before .before .before .before .before .before .before .blocks) .gives (m59 (before .before) (before .relocs .given))) → Typed.Mo T78
-      m60 = λ before given. s75 (before .before .before .before .before .before .before .before .before .before .before .before .before .before .before .before .before .before .before .before .before .before .before .before .before .before .before .before .before .before .before .before .before .blocks) .next (m59 (before .before) (before .relocs .given)) given
+      abbrev pub m45 : (before : After-relocs) → (given : s60 (before .before .before .before .before .before .before .before .before .before .before .before .before .before .before .before .before .before .before .before .before .before .before .before .before .before .before .before .blocks) .gives (m44 (before .before) (before .relocs .given))) → Typed.Mo T63
+      m45 = λ before given. s60 (before .before .before .before .before .before .before .before .before .before .before .before .before .before .before .before .before .before .before .before .before .before .before .before .before .before .before .before .blocks) .next (m44 (before .before) (before .relocs .given)) given
 
       module _ (before· : After-relocs) where
         pub record After-slice-known7·own : Type 0 where
-          pub given : s75 (before· .before .before .before .before .before .before .before .before .before .before .before .before .before .before .before .before .before .before .before .before .before .before .before .before .before .before .before .before .before .before .before .before .blocks) .gives (m59 (before· .before) (before· .relocs .given))
+          pub given : s60 (before· .before .before .before .before .before .before .before .before .before .before .before .before .before .before .before .before .before .before .before .before .before .before .before .before .before .before .before .blocks) .gives (m44 (before· .before) (before· .relocs .given))
 
       pub record After-slice-known7 : Type 0 where
         pub before : After-relocs
         pub slice-known7 : After-slice-known7·own before
 
-      abbrev pub m61 : (before : After-slice-known7) → (given : s78 (before .before .before .before .before .before .before .before .before .before .before .before .before .before .before .before .before .before .before .before .before .before .before .before .before .before .before .before .before .before .before .before .before .before .blocks) .gives (m60 (before .before) (before .slice-known7 .given))) → Typed.Mo T81
-      m61 = λ before given. s78 (before .before .before .before .before .before .before .before .before .before .before .before .before .before .before .before .before .before .before .before .before .before .before .before .before .before .before .before .before .before .before .before .before .before .blocks) .next (m60 (before .before) (before .slice-known7 .given)) given
+      abbrev pub m46 : (before : After-slice-known7) → (given : s63 (before .before .before .before .before .before .before .before .before .before .before .before .before .before .before .before .before .before .before .before .before .before .before .before .before .before .before .before .before .blocks) .gives (m45 (before .before) (before .slice-known7 .given))) → Typed.Mo T66
+      m46 = λ before given. s63 (before .before .before .before .before .before .before .before .before .before .before .before .before .before .before .before .before .before .before .before .before .before .before .before .before .before .before .before .before .blocks) .next (m45 (before .before) (before .slice-known7 .given)) given
 
       module _ (before· : After-slice-known7) where
         pub record After-segments·own : Type 0 where
-          pub given : s78 (before· .before .before .before .before .before .before .before .before .before .before .before .before .before .before .before .before .before .before .before .before .before .before .before .before .before .before .before .before .before .before .before .before .before .blocks) .gives (m60 (before· .before) (before· .slice-known7 .given))
+          pub given : s63 (before· .before .before .before .before .before .before .before .before .before .before .before .before .before .before .before .before .before .before .before .before .before .before .before .before .before .before .before .before .blocks) .gives (m45 (before· .before) (before· .slice-known7 .given))
 
       pub record After-segments : Type 0 where
         pub before : After-slice-known7
         pub segments : After-segments·own before
 
-      abbrev pub m62 : (before : After-segments) → (given : s81 (before .before .before .before .before .before .before .before .before .before .before .before .before .before .before .before .before .before .before .before .before .before .before .before .before .before .before .before .before .before .before .before .before .before .before .blocks) .gives (m61 (before .before) (before .segments .given))) → Typed.Mo T84
-      m62 = λ before given. s81 (before .before .before .before .before .before .before .before .before .before .before .before .before .before .before .before .before .before .before .before .before .before .before .before .before .before .before .before .before .before .before .before .before .before .before .blocks) .next (m61 (before .before) (before .segments .given)) given
+      abbrev pub m47 : (before : After-segments) → (given : s66 (before .before .before .before .before .before .before .before .before .before .before .before .before .before .before .before .before .before .before .before .before .before .before .before .before .before .before .before .before .before .blocks) .gives (m46 (before .before) (before .segments .given))) → Typed.Mo T69
+      m47 = λ before given. s66 (before .before .before .before .before .before .before .before .before .before .before .before .before .before .before .before .before .before .before .before .before .before .before .before .before .before .before .before .before .before .blocks) .next (m46 (before .before) (before .segments .given)) given
 
       module _ (before· : After-segments) where
         pub record After-output2·own : Type 0 where
-          pub given : s81 (before· .before .before .before .before .before .before .before .before .before .before .before .before .before .before .before .before .before .before .before .before .before .before .before .before .before .before .before .before .before .before .before .before .before .before .blocks) .gives (m61 (before· .before) (before· .segments .given))
+          pub given : s66 (before· .before .before .before .before .before .before .before .before .before .before .before .before .before .before .before .before .before .before .before .before .before .before .before .before .before .before .before .before .before .blocks) .gives (m46 (before· .before) (before· .segments .given))
 
       pub record After-output2 : Type 0 where
         pub before : After-segments
         pub output2 : After-output2·own before
 
-      abbrev pub m63 : (before : After-output2) → (given : s82 (before .before .before .before .before .before .before .before .before .before .before .before .before .before .before .before .before .before .before .before .before .before .before .before .before .before .before .before .before .before .before .before .before .before .before .before .blocks) .gives (m62 (before .before) (before .output2 .given))) → Typed.Mo T85
-      m63 = λ before given. s82 (before .before .before .before .before .before .before .before .before .before .before .before .before .before .before .before .before .before .before .before .before .before .before .before .before .before .before .before .before .before .before .before .before .before .before .before .blocks) .next (m62 (before .before) (before .output2 .given)) given
+      abbrev pub m48 : (before : After-output2) → (given : s67 (before .before .before .before .before .before .before .before .before .before .before .before .before .before .before .before .before .before .before .before .before .before .before .before .before .before .before .before .before .before .before .blocks) .gives (m47 (before .before) (before .output2 .given))) → Typed.Mo T70
+      m48 = λ before given. s67 (before .before .before .before .before .before .before .before .before .before .before .before .before .before .before .before .before .before .before .before .before .before .before .before .before .before .before .before .before .before .before .blocks) .next (m47 (before .before) (before .output2 .given)) given
 
       module _ (before· : After-output2) where
         pub record After-slice-known8·own : Type 0 where
-          pub given : s82 (before· .before .before .before .before .before .before .before .before .before .before .before .before .before .before .before .before .before .before .before .before .before .before .before .before .before .before .before .before .before .before .before .before .before .before .before .blocks) .gives (m62 (before· .before) (before· .output2 .given))
+          pub given : s67 (before· .before .before .before .before .before .before .before .before .before .before .before .before .before .before .before .before .before .before .before .before .before .before .before .before .before .before .before .before .before .before .blocks) .gives (m47 (before· .before) (before· .output2 .given))
 
       pub record After-slice-known8 : Type 0 where
         pub before : After-output2
         pub slice-known8 : After-slice-known8·own before
 
-      abbrev pub m64 : (before : After-slice-known8) → (given : s85 (before .before .before .before .before .before .before .before .before .before .before .before .before .before .before .before .before .before .before .before .before .before .before .before .before .before .before .before .before .before .before .before .before .before .before .before .before .blocks) .gives (m63 (before .before) (before .slice-known8 .given))) → Typed.Mo T88
-      m64 = λ before given. s85 (before .before .before .before .before .before .before .before .before .before .before .before .before .before .before .before .before .before .before .before .before .before .before .before .before .before .before .before .before .before .before .before .before .before .before .before .before .blocks) .next (m63 (before .before) (before .slice-known8 .given)) given
+      abbrev pub m49 : (before : After-slice-known8) → (given : s70 (before .before .before .before .before .before .before .before .before .before .before .before .before .before .before .before .before .before .before .before .before .before .before .before .before .before .before .before .before .before .before .before .blocks) .gives (m48 (before .before) (before .slice-known8 .given))) → Typed.Mo T73
+      m49 = λ before given. s70 (before .before .before .before .before .before .before .before .before .before .before .before .before .before .before .before .before .before .before .before .before .before .before .before .before .before .before .before .before .before .before .before .blocks) .next (m48 (before .before) (before .slice-known8 .given)) given
 
-      abbrev pub m65 : (before : After-slice-known8) → (given : s85 (before .before .before .before .before .before .before .before .before .before .before .before .before .before .before .before .before .before .before .before .before .before .before .before .before .before .before .before .before .before .before .before .before .before .before .before .before .blocks) .gives (m63 (before .before) (before .slice-known8 .given))) → Typed.Mo T89
-      m65 = λ before given. s86 (before .before .before .before .before .before .before .before .before .before .before .before .before .before .before .before .before .before .before .before .before .before .before .before .before .before .before .before .before .before .before .before .before .before .before .before .before .blocks) .next (m64 before given)
+      abbrev pub m50 : (before : After-slice-known8) → (given : s70 (before .before .before .before .before .before .before .before .before .before .before .before .before .before .before .before .before .before .before .before .before .before .before .before .before .before .before .before .before .before .before .before .blocks) .gives (m48 (before .before) (before .slice-known8 .given))) → Typed.Mo T74
+      m50 = λ before given. s71 (before .before .before .before .before .before .before .before .before .before .before .before .before .before .before .before .before .before .before .before .before .before .before .before .before .before .before .before .before .before .before .before .blocks) .next (m49 before given)
 
       module _ (before· : After-slice-known8) where
         pub record After-conclude-arg·own : Type 0 where
-          pub given : s85 (before· .before .before .before .before .before .before .before .before .before .before .before .before .before .before .before .before .before .before .before .before .before .before .before .before .before .before .before .before .before .before .before .before .before .before .before .before .blocks) .gives (m63 (before· .before) (before· .slice-known8 .given))
+          pub given : s70 (before· .before .before .before .before .before .before .before .before .before .before .before .before .before .before .before .before .before .before .before .before .before .before .before .before .before .before .before .before .before .before .before .blocks) .gives (m48 (before· .before) (before· .slice-known8 .given))
 
       pub record After-conclude-arg : Type 0 where
         pub before : After-slice-known8
         pub conclude-arg : After-conclude-arg·own before
 
       abbrev pub Need-conclude-requires : Type 0
-      Need-conclude-requires = (c : After-conclude-arg) → s87 (c .before .before .before .before .before .before .before .before .before .before .before .before .before .before .before .before .before .before .before .before .before .before .before .before .before .before .before .before .before .before .before .before .before .before .before .before .before .blocks) .asks (m65 (c .before) (c .conclude-arg .given))
+      Need-conclude-requires = (c : After-conclude-arg) → s72 (c .before .before .before .before .before .before .before .before .before .before .before .before .before .before .before .before .before .before .before .before .before .before .before .before .before .before .before .before .before .before .before .before .blocks) .asks (m50 (c .before) (c .conclude-arg .given))
 
-      abbrev pub m66 : (before : After-conclude-arg) → (given : s87 (before .before .before .before .before .before .before .before .before .before .before .before .before .before .before .before .before .before .before .before .before .before .before .before .before .before .before .before .before .before .before .before .before .before .before .before .before .before .blocks) .gives (m65 (before .before) (before .conclude-arg .given))) → Typed.Mo T90
-      m66 = λ before given. s87 (before .before .before .before .before .before .before .before .before .before .before .before .before .before .before .before .before .before .before .before .before .before .before .before .before .before .before .before .before .before .before .before .before .before .before .before .before .before .blocks) .next (m65 (before .before) (before .conclude-arg .given)) given
+      abbrev pub m51 : (before : After-conclude-arg) → (given : s72 (before .before .before .before .before .before .before .before .before .before .before .before .before .before .before .before .before .before .before .before .before .before .before .before .before .before .before .before .before .before .before .before .before .blocks) .gives (m50 (before .before) (before .conclude-arg .given))) → Typed.Mo T75
+      m51 = λ before given. s72 (before .before .before .before .before .before .before .before .before .before .before .before .before .before .before .before .before .before .before .before .before .before .before .before .before .before .before .before .before .before .before .before .before .blocks) .next (m50 (before .before) (before .conclude-arg .given)) given
 
       module _ (before· : After-conclude-arg) where
         abbrev pub After-conclude·own : Type 0
-        After-conclude·own = Called.Called ps·2 r·2 (claims· .5) T89 (record { pos = 1; st = List.[]; d = 0; at = λ x. x }, (record { pos = 35; ty = Syntax.tyRef Syntax.erased Syntax.mut y1·; ref = λ x. x }, (record { pos = 7; ty = Syntax.tyRef (Syntax.named 5) Syntax.imm y1·; ref = λ x. x }, (record { pos = 8; ty = Syntax.tyRef (Syntax.named 6) Syntax.imm y1·; ref = λ x. x }, (record { pos = 13; st = List.[]; d = 0; at = λ x. x }, tt))))) (m65 (before· .before) (before· .conclude-arg .given))
+        After-conclude·own = Called.Called ps·2 r·2 (claims· .5) T74 (record { pos = 1; st = List.[]; d = 0; at = λ x. x }, (record { pos = 31; ty = Syntax.tyRef Syntax.erased Syntax.mut y1·; ref = λ x. x }, (record { pos = 7; ty = Syntax.tyRef (Syntax.named 5) Syntax.imm y1·; ref = λ x. x }, (record { pos = 8; ty = Syntax.tyRef (Syntax.named 6) Syntax.imm y1·; ref = λ x. x }, (record { pos = 13; st = List.[]; d = 0; at = λ x. x }, tt))))) (m50 (before· .before) (before· .conclude-arg .given))
 
       pub record After-conclude : Type 0 where
         pub before : After-conclude-arg
         pub conclude : After-conclude·own before
 
-      abbrev pub After-conclude·gave : (c : After-conclude) → s87 (c .before .before .before .before .before .before .before .before .before .before .before .before .before .before .before .before .before .before .before .before .before .before .before .before .before .before .before .before .before .before .before .before .before .before .before .before .before .before .blocks) .gives (m65 (c .before .before) (c .before .conclude-arg .given))
-      After-conclude·gave = λ c. Called.given ps·2 r·2 (claims· .5) T89 (record { pos = 1; st = List.[]; d = 0; at = λ x. x }, (record { pos = 35; ty = Syntax.tyRef Syntax.erased Syntax.mut y1·; ref = λ x. x }, (record { pos = 7; ty = Syntax.tyRef (Syntax.named 5) Syntax.imm y1·; ref = λ x. x }, (record { pos = 8; ty = Syntax.tyRef (Syntax.named 6) Syntax.imm y1·; ref = λ x. x }, (record { pos = 13; st = List.[]; d = 0; at = λ x. x }, tt))))) (m65 (c .before .before) (c .before .conclude-arg .given)) (c .conclude)
+      abbrev pub After-conclude·gave : (c : After-conclude) → s72 (c .before .before .before .before .before .before .before .before .before .before .before .before .before .before .before .before .before .before .before .before .before .before .before .before .before .before .before .before .before .before .before .before .before .blocks) .gives (m50 (c .before .before) (c .before .conclude-arg .given))
+      After-conclude·gave = λ c. Called.given ps·2 r·2 (claims· .5) T74 (record { pos = 1; st = List.[]; d = 0; at = λ x. x }, (record { pos = 31; ty = Syntax.tyRef Syntax.erased Syntax.mut y1·; ref = λ x. x }, (record { pos = 7; ty = Syntax.tyRef (Syntax.named 5) Syntax.imm y1·; ref = λ x. x }, (record { pos = 8; ty = Syntax.tyRef (Syntax.named 6) Syntax.imm y1·; ref = λ x. x }, (record { pos = 13; st = List.[]; d = 0; at = λ x. x }, tt))))) (m50 (c .before .before) (c .before .conclude-arg .given)) (c .conclude)
 
-      abbrev pub m67 : (before : After-conclude-arg) → (given : s87 (before .before .before .before .before .before .before .before .before .before .before .before .before .before .before .before .before .before .before .before .before .before .before .before .before .before .before .before .before .before .before .before .before .before .before .before .before .before .blocks) .gives (m65 (before .before) (before .conclude-arg .given))) → Typed.Mo T91
-      m67 = λ before given. s88 (before .before .before .before .before .before .before .before .before .before .before .before .before .before .before .before .before .before .before .before .before .before .before .before .before .before .before .before .before .before .before .before .before .before .before .before .before .before .blocks) (m66 before given)
+      abbrev pub m52 : (before : After-conclude-arg) → (given : s72 (before .before .before .before .before .before .before .before .before .before .before .before .before .before .before .before .before .before .before .before .before .before .before .before .before .before .before .before .before .before .before .before .before .blocks) .gives (m50 (before .before) (before .conclude-arg .given))) → Typed.Mo T76
+      m52 = λ before given. s73 (before .before .before .before .before .before .before .before .before .before .before .before .before .before .before .before .before .before .before .before .before .before .before .before .before .before .before .before .before .before .before .before .before .blocks) (m51 before given)
 
-      abbrev pub m68 : (before : After-conclude-arg) → (given : s87 (before .before .before .before .before .before .before .before .before .before .before .before .before .before .before .before .before .before .before .before .before .before .before .before .before .before .before .before .before .before .before .before .before .before .before .before .before .before .blocks) .gives (m65 (before .before) (before .conclude-arg .given))) → Typed.Mo T92
-      m68 = λ before given. s89 (before .before .before .before .before .before .before .before .before .before .before .before .before .before .before .before .before .before .before .before .before .before .before .before .before .before .before .before .before .before .before .before .before .before .before .before .before .before .blocks) (m67 before given)
+      abbrev pub m53 : (before : After-conclude-arg) → (given : s72 (before .before .before .before .before .before .before .before .before .before .before .before .before .before .before .before .before .before .before .before .before .before .before .before .before .before .before .before .before .before .before .before .before .blocks) .gives (m50 (before .before) (before .conclude-arg .given))) → Typed.Mo T77
+      m53 = λ before given. s74 (before .before .before .before .before .before .before .before .before .before .before .before .before .before .before .before .before .before .before .before .before .before .before .before .before .before .before .before .before .before .before .before .before .blocks) (m52 before given)
 
-      abbrev pub m69 : (before : After-conclude) → (given : s91 (before .before .before .before .before .before .before .before .before .before .before .before .before .before .before .before .before .before .before .before .before .before .before .before .before .before .before .before .before .before .before .before .before .before .before .before .before .before .before .blocks) .gives (m68 (before .before) (After-conclude·gave before))) → Typed.Mo T94
-      m69 = λ before given. s91 (before .before .before .before .before .before .before .before .before .before .before .before .before .before .before .before .before .before .before .before .before .before .before .before .before .before .before .before .before .before .before .before .before .before .before .before .before .before .before .blocks) .next (m68 (before .before) (After-conclude·gave before)) given
+      abbrev pub m54 : (before : After-conclude) → (given : s76 (before .before .before .before .before .before .before .before .before .before .before .before .before .before .before .before .before .before .before .before .before .before .before .before .before .before .before .before .before .before .before .before .before .before .blocks) .gives (m53 (before .before) (After-conclude·gave before))) → Typed.Mo T79
+      m54 = λ before given. s76 (before .before .before .before .before .before .before .before .before .before .before .before .before .before .before .before .before .before .before .before .before .before .before .before .before .before .before .before .before .before .before .before .before .before .blocks) .next (m53 (before .before) (After-conclude·gave before)) given
 
       module _ (before· : After-conclude) where
         pub record After-labels3·own : Type 0 where
-          pub given : s91 (before· .before .before .before .before .before .before .before .before .before .before .before .before .before .before .before .before .before .before .before .before .before .before .before .before .before .before .before .before .before .before .before .before .before .before .before .before .before .before .blocks) .gives (m68 (before· .before) (After-conclude·gave before·))
+          pub given : s76 (before· .before .before .before .before .before .before .before .before .before .before .before .before .before .before .before .before .before .before .before .before .before .before .before .before .before .before .before .before .before .before .before .before .before .blocks) .gives (m53 (before· .before) (After-conclude·gave before·))
 
       pub record After-labels3 : Type 0 where
         pub before : After-conclude
         pub labels3 : After-labels3·own before
 
-      abbrev pub m70 : (before : After-labels3) → (given : s92 (before .before .before .before .before .before .before .before .before .before .before .before .before .before .before .before .before .before .before .before .before .before .before .before .before .before .before .before .before .before .before .before .before .before .before .before .before .before .before .before .blocks) .gives (m69 (before .before) (before .labels3 .given))) → Typed.Mo T95
-      m70 = λ before given. s92 (before .before .before .before .before .before .before .before .before .before .before .before .before .before .before .before .before .before .before .before .before .before .before .before .before .before .before .before .before .before .before .before .before .before .before .before .before .before .before .before .blocks) .next (m69 (before .before) (before .labels3 .given)) given
+      abbrev pub m55 : (before : After-labels3) → (given : s77 (before .before .before .before .before .before .before .before .before .before .before .before .before .before .before .before .before .before .before .before .before .before .before .before .before .before .before .before .before .before .before .before .before .before .before .blocks) .gives (m54 (before .before) (before .labels3 .given))) → Typed.Mo T80
+      m55 = λ before given. s77 (before .before .before .before .before .before .before .before .before .before .before .before .before .before .before .before .before .before .before .before .before .before .before .before .before .before .before .before .before .before .before .before .before .before .before .blocks) .next (m54 (before .before) (before .labels3 .given)) given
 
       module _ (before· : After-labels3) where
         pub record After-slice-known9·own : Type 0 where
-          pub given : s92 (before· .before .before .before .before .before .before .before .before .before .before .before .before .before .before .before .before .before .before .before .before .before .before .before .before .before .before .before .before .before .before .before .before .before .before .before .before .before .before .before .blocks) .gives (m69 (before· .before) (before· .labels3 .given))
+          pub given : s77 (before· .before .before .before .before .before .before .before .before .before .before .before .before .before .before .before .before .before .before .before .before .before .before .before .before .before .before .before .before .before .before .before .before .before .before .blocks) .gives (m54 (before· .before) (before· .labels3 .given))
 
       pub record After-slice-known9 : Type 0 where
         pub before : After-labels3
         pub slice-known9 : After-slice-known9·own before
 
       abbrev pub Need-same-length-4 : Type 0
-      Need-same-length-4 = (c : After-slice-known9) → MutSlice.SameLen (Row.get 3 (T95 .locals) (m70 (c .before) (c .slice-known9 .given))) (dens (c .before .before .before .before .before .before .before .before .before .before .before .before .before .before .before .before .before .before .before .before .before .before .before .before .before .before .before .before .before .before .before .before .before .before .before .before .before .before .before .before .κs) (c .before .before .before .before .before .before .before .before .before .before .before .before .before .before .before .before .before .before .before .before .before .before .before .before .before .before .before .before .before .before .before .before .before .before .before .before .before .before .before .before .args) .1 .1 .0)
+      Need-same-length-4 = (c : After-slice-known9) → MutSlice.SameLen (Row.get 3 (T80 .locals) (m55 (c .before) (c .slice-known9 .given))) (dens (c .before .before .before .before .before .before .before .before .before .before .before .before .before .before .before .before .before .before .before .before .before .before .before .before .before .before .before .before .before .before .before .before .before .before .before .κs) (c .before .before .before .before .before .before .before .before .before .before .before .before .before .before .before .before .before .before .before .before .before .before .before .before .before .before .before .before .before .before .before .before .before .before .before .args) .1 .1 .0)
 
       abbrev pub Need-same-length-5 : Type 0
-      Need-same-length-5 = (c : After-slice-known9) → MutSlice.SameLen (Row.get 9 (T95 .locals) (m70 (c .before) (c .slice-known9 .given))) (dens (c .before .before .before .before .before .before .before .before .before .before .before .before .before .before .before .before .before .before .before .before .before .before .before .before .before .before .before .before .before .before .before .before .before .before .before .before .before .before .before .before .κs) (c .before .before .before .before .before .before .before .before .before .before .before .before .before .before .before .before .before .before .before .before .before .before .before .before .before .before .before .before .before .before .before .before .before .before .before .before .before .before .before .before .args) .1 .1 .1 .1 .1 .1 .1 .1 .0)
+      Need-same-length-5 = (c : After-slice-known9) → MutSlice.SameLen (Row.get 9 (T80 .locals) (m55 (c .before) (c .slice-known9 .given))) (dens (c .before .before .before .before .before .before .before .before .before .before .before .before .before .before .before .before .before .before .before .before .before .before .before .before .before .before .before .before .before .before .before .before .before .before .before .κs) (c .before .before .before .before .before .before .before .before .before .before .before .before .before .before .before .before .before .before .before .before .before .before .before .before .before .before .before .before .before .before .before .before .before .before .before .args) .1 .1 .1 .1 .1 .1 .1 .1 .0)
 
       abbrev pub Need-same-length-6 : Type 0
-      Need-same-length-6 = (c : After-slice-known9) → MutSlice.SameLen (Row.get 10 (T95 .locals) (m70 (c .before) (c .slice-known9 .given))) (dens (c .before .before .before .before .before .before .before .before .before .before .before .before .before .before .before .before .before .before .before .before .before .before .before .before .before .before .before .before .before .before .before .before .before .before .before .before .before .before .before .before .κs) (c .before .before .before .before .before .before .before .before .before .before .before .before .before .before .before .before .before .before .before .before .before .before .before .before .before .before .before .before .before .before .before .before .before .before .before .before .before .before .before .before .args) .1 .1 .1 .1 .1 .1 .1 .1 .1 .0)
+      Need-same-length-6 = (c : After-slice-known9) → MutSlice.SameLen (Row.get 10 (T80 .locals) (m55 (c .before) (c .slice-known9 .given))) (dens (c .before .before .before .before .before .before .before .before .before .before .before .before .before .before .before .before .before .before .before .before .before .before .before .before .before .before .before .before .before .before .before .before .before .before .before .κs) (c .before .before .before .before .before .before .before .before .before .before .before .before .before .before .before .before .before .before .before .before .before .before .before .before .before .before .before .before .before .before .before .before .before .before .before .args) .1 .1 .1 .1 .1 .1 .1 .1 .1 .0)
 
       abbrev pub Need-same-length-7 : Type 0
-      Need-same-length-7 = (c : After-slice-known9) → MutSlice.SameLen (Row.get 11 (T95 .locals) (m70 (c .before) (c .slice-known9 .given))) (dens (c .before .before .before .before .before .before .before .before .before .before .before .before .before .before .before .before .before .before .before .before .before .before .before .before .before .before .before .before .before .before .before .before .before .before .before .before .before .before .before .before .κs) (c .before .before .before .before .before .before .before .before .before .before .before .before .before .before .before .before .before .before .before .before .before .before .before .before .before .before .before .before .before .before .before .before .before .before .before .before .before .before .before .before .args) .1 .1 .1 .1 .1 .1 .1 .1 .1 .1 .0)
+      Need-same-length-7 = (c : After-slice-known9) → MutSlice.SameLen (Row.get 11 (T80 .locals) (m55 (c .before) (c .slice-known9 .given))) (dens (c .before .before .before .before .before .before .before .before .before .before .before .before .before .before .before .before .before .before .before .before .before .before .before .before .before .before .before .before .before .before .before .before .before .before .before .κs) (c .before .before .before .before .before .before .before .before .before .before .before .before .before .before .before .before .before .before .before .before .before .before .before .before .before .before .before .before .before .before .before .before .before .before .before .args) .1 .1 .1 .1 .1 .1 .1 .1 .1 .1 .0)
 
       abbrev pub Need-returns-2 : Type 0
-      Need-returns-2 = (c : After-slice-known9) → Post· (c .before .before .before .before .before .before .before .before .before .before .before .before .before .before .before .before .before .before .before .before .before .before .before .before .before .before .before .before .before .before .before .before .before .before .before .before .before .before .before .before .κs) (dens (c .before .before .before .before .before .before .before .before .before .before .before .before .before .before .before .before .before .before .before .before .before .before .before .before .before .before .before .before .before .before .before .before .before .before .before .before .before .before .before .before .κs) (c .before .before .before .before .before .before .before .before .before .before .before .before .before .before .before .before .before .before .before .before .before .before .before .before .before .before .before .before .before .before .before .before .before .before .before .before .before .before .before .before .args)) (Function.resV r (c .before .before .before .before .before .before .before .before .before .before .before .before .before .before .before .before .before .before .before .before .before .before .before .before .before .before .before .before .before .before .before .before .before .before .before .before .before .before .before .before .κs) (m70 (c .before) (c .slice-known9 .given) .0)) (Clauses.atExit (Kinds.endedOf 10 ps r) (c .before .before .before .before .before .before .before .before .before .before .before .before .before .before .before .before .before .before .before .before .before .before .before .before .before .before .before .before .before .before .before .before .before .before .before .before .before .before .before .before .κs) (dens (c .before .before .before .before .before .before .before .before .before .before .before .before .before .before .before .before .before .before .before .before .before .before .before .before .before .before .before .before .before .before .before .before .before .before .before .before .before .before .before .before .κs) (c .before .before .before .before .before .before .before .before .before .before .before .before .before .before .before .before .before .before .before .before .before .before .before .before .before .before .before .before .before .before .before .before .before .before .before .before .before .before .before .before .args)) (Enter.lastsP (c .before .before .before .before .before .before .before .before .before .before .before .before .before .before .before .before .before .before .before .before .before .before .before .before .before .before .before .before .before .before .before .before .before .before .before .before .before .before .before .before .κs) 1 ps xs (dens (c .before .before .before .before .before .before .before .before .before .before .before .before .before .before .before .before .before .before .before .before .before .before .before .before .before .before .before .before .before .before .before .before .before .before .before .before .before .before .before .before .κs) (c .before .before .before .before .before .before .before .before .before .before .before .before .before .before .before .before .before .before .before .before .before .before .before .before .before .before .before .before .before .before .before .before .before .before .before .before .before .before .before .before .args)) (m70 (c .before) (c .slice-known9 .given) .1)))
+      Need-returns-2 = (c : After-slice-known9) → Post· (c .before .before .before .before .before .before .before .before .before .before .before .before .before .before .before .before .before .before .before .before .before .before .before .before .before .before .before .before .before .before .before .before .before .before .before .κs) (dens (c .before .before .before .before .before .before .before .before .before .before .before .before .before .before .before .before .before .before .before .before .before .before .before .before .before .before .before .before .before .before .before .before .before .before .before .κs) (c .before .before .before .before .before .before .before .before .before .before .before .before .before .before .before .before .before .before .before .before .before .before .before .before .before .before .before .before .before .before .before .before .before .before .before .args)) (Function.resV r (c .before .before .before .before .before .before .before .before .before .before .before .before .before .before .before .before .before .before .before .before .before .before .before .before .before .before .before .before .before .before .before .before .before .before .before .κs) (m55 (c .before) (c .slice-known9 .given) .0)) (Clauses.atExit (Kinds.endedOf 10 ps r) (c .before .before .before .before .before .before .before .before .before .before .before .before .before .before .before .before .before .before .before .before .before .before .before .before .before .before .before .before .before .before .before .before .before .before .before .κs) (dens (c .before .before .before .before .before .before .before .before .before .before .before .before .before .before .before .before .before .before .before .before .before .before .before .before .before .before .before .before .before .before .before .before .before .before .before .κs) (c .before .before .before .before .before .before .before .before .before .before .before .before .before .before .before .before .before .before .before .before .before .before .before .before .before .before .before .before .before .before .before .before .before .before .before .args)) (Enter.lastsP (c .before .before .before .before .before .before .before .before .before .before .before .before .before .before .before .before .before .before .before .before .before .before .before .before .before .before .before .before .before .before .before .before .before .before .before .κs) 1 ps xs (dens (c .before .before .before .before .before .before .before .before .before .before .before .before .before .before .before .before .before .before .before .before .before .before .before .before .before .before .before .before .before .before .before .before .before .before .before .κs) (c .before .before .before .before .before .before .before .before .before .before .before .before .before .before .before .before .before .before .before .before .before .before .before .before .before .before .before .before .before .before .before .before .before .before .before .args)) (m55 (c .before) (c .slice-known9 .given) .1)))
 
-      module _ (begin-requires : Need-begin-requires) (same-length : Need-same-length) (same-length-2 : Need-same-length-2) (same-length-3 : Need-same-length-3) (returns : Need-returns) (cast-relaxed : Need-cast-relaxed) (cast-relaxed-2 : Need-cast-relaxed-2) (cast-relaxed-3 : Need-cast-relaxed-3) (cast-relaxed-4 : Need-cast-relaxed-4) (cast-relaxed-5 : Need-cast-relaxed-5) (relaxed-requires : Need-relaxed-requires) (conclude-requires : Need-conclude-requires) (same-length-4 : Need-same-length-4) (same-length-5 : Need-same-length-5) (same-length-6 : Need-same-length-6) (same-length-7 : Need-same-length-7) (returns-2 : Need-returns-2) where
-        lay4 : (c : After-conclude) → at15 (c .before .before .before .before .before .before .before .before .before .before .before .before .before .before .before .before .before .before .before .before .before .before .before .before .before .before .before .before .before .before .before .before .before .before .before .before .before .before .blocks) (W0 (c .before .before .before .before .before .before .before .before .before .before .before .before .before .before .before .before .before .before .before .before .before .before .before .before .before .before .before .before .before .before .before .before .before .before .before .before .before .before .κs) (c .before .before .before .before .before .before .before .before .before .before .before .before .before .before .before .before .before .before .before .before .before .before .before .before .before .before .before .before .before .before .before .before .before .before .before .before .before .before .args) (c .before .before .before .before .before .before .before .before .before .before .before .before .before .before .before .before .before .before .before .before .before .before .before .before .before .before .before .before .before .before .before .before .before .before .before .before .before .before .blocks)) (m66 (c .before) (After-conclude·gave c))
-        lay4 = λ c. (Path'.refl, λ g. λ g'. ((tt, (Path'.refl, (MutSlice.fix-len (Row.get 3 (T95 .locals) (m70 record { before = record { before = c .before; conclude = c .conclude }; labels3 = record { given = g } } g') .ptr) (Row.get 3 (T95 .locals) (m70 record { before = record { before = c .before; conclude = c .conclude }; labels3 = record { given = g } } g') .name) (Row.get 3 (T95 .locals) (m70 record { before = record { before = c .before; conclude = c .conclude }; labels3 = record { given = g } } g') .now) (dens (c .before .before .before .before .before .before .before .before .before .before .before .before .before .before .before .before .before .before .before .before .before .before .before .before .before .before .before .before .before .before .before .before .before .before .before .before .before .before .κs) (c .before .before .before .before .before .before .before .before .before .before .before .before .before .before .before .before .before .before .before .before .before .before .before .before .before .before .before .before .before .before .before .before .before .before .before .before .before .before .args) .1 .1 .0 .now) (same-length-4 record { before = record { before = record { before = c .before; conclude = c .conclude }; labels3 = record { given = g } }; slice-known9 = record { given = g' } }), (Path'.refl, (Path'.refl, (Path'.refl, (Path'.refl, (Path'.refl, (MutSlice.fix-len (Row.get 9 (T95 .locals) (m70 record { before = record { before = c .before; conclude = c .conclude }; labels3 = record { given = g } } g') .ptr) (Row.get 9 (T95 .locals) (m70 record { before = record { before = c .before; conclude = c .conclude }; labels3 = record { given = g } } g') .name) (Row.get 9 (T95 .locals) (m70 record { before = record { before = c .before; conclude = c .conclude }; labels3 = record { given = g } } g') .now) (dens (c .before .before .before .before .before .before .before .before .before .before .before .before .before .before .before .before .before .before .before .before .before .before .before .before .before .before .before .before .before .before .before .before .before .before .before .before .before .before .κs) (c .before .before .before .before .before .before .before .before .before .before .before .before .before .before .before .before .before .before .before .before .before .before .before .before .before .before .before .before .before .before .before .before .before .before .before .before .before .before .args) .1 .1 .1 .1 .1 .1 .1 .1 .0 .now) (same-length-5 record { before = record { before = record { before = c .before; conclude = c .conclude }; labels3 = record { given = g } }; slice-known9 = record { given = g' } }), (MutSlice.fix-len (Row.get 10 (T95 .locals) (m70 record { before = record { before = c .before; conclude = c .conclude }; labels3 = record { given = g } } g') .ptr) (Row.get 10 (T95 .locals) (m70 record { before = record { before = c .before; conclude = c .conclude }; labels3 = record { given = g } } g') .name) (Row.get 10 (T95 .locals) (m70 record { before = record { before = c .before; conclude = c .conclude }; labels3 = record { given = g } } g') .now) (dens (c .before .before .before .before .before .before .before .before .before .before .before .before .before .before .before .before .before .before .before .before .before .before .before .before .before .before .before .before .before .before .before .before .before .before .before .before .before .before .κs) (c .before .before .before .before .before .before .before .before .before .before .before .before .before .before .before .before .before .before .before .before .before .before .before .before .before .before .before .before .before .before .before .before .before .before .before .before .before .before .args) .1 .1 .1 .1 .1 .1 .1 .1 .1 .0 .now) (same-length-6 record { before = record { before = record { before = c .before; conclude = c .conclude }; labels3 = record { given = g } }; slice-known9 = record { given = g' } }), (MutSlice.fix-len (Row.get 11 (T95 .locals) (m70 record { before = record { before = c .before; conclude = c .conclude }; labels3 = record { given = g } } g') .ptr) (Row.get 11 (T95 .locals) (m70 record { before = record { before = c .before; conclude = c .conclude }; labels3 = record { given = g } } g') .name) (Row.get 11 (T95 .locals) (m70 record { before = record { before = c .before; conclude = c .conclude }; labels3 = record { given = g } } g') .now) (dens (c .before .before .before .before .before .before .before .before .before .before .before .before .before .before .before .before .before .before .before .before .before .before .before .before .before .before .before .before .before .before .before .before .before .before .before .before .before .before .κs) (c .before .before .before .before .before .before .before .before .before .before .before .before .before .before .before .before .before .before .before .before .before .before .before .before .before .before .before .before .before .before .before .before .before .before .before .before .before .before .args) .1 .1 .1 .1 .1 .1 .1 .1 .1 .1 .0 .now) (same-length-7 record { before = record { before = record { before = c .before; conclude = c .conclude }; labels3 = record { given = g } }; slice-known9 = record { given = g' } }), tt))))))))))), returns-2 record { before = record { before = record { before = c .before; conclude = c .conclude }; labels3 = record { given = g } }; slice-known9 = record { given = g' } }))
+      module _ (begin-requires : Need-begin-requires) (same-length : Need-same-length) (same-length-2 : Need-same-length-2) (same-length-3 : Need-same-length-3) (returns : Need-returns) (relaxed-requires : Need-relaxed-requires) (conclude-requires : Need-conclude-requires) (same-length-4 : Need-same-length-4) (same-length-5 : Need-same-length-5) (same-length-6 : Need-same-length-6) (same-length-7 : Need-same-length-7) (returns-2 : Need-returns-2) where
+        lay4 : (c : After-conclude) → at15 (c .before .before .before .before .before .before .before .before .before .before .before .before .before .before .before .before .before .before .before .before .before .before .before .before .before .before .before .before .before .before .before .before .before .blocks) (W0 (c .before .before .before .before .before .before .before .before .before .before .before .before .before .before .before .before .before .before .before .before .before .before .before .before .before .before .before .before .before .before .before .before .before .κs) (c .before .before .before .before .before .before .before .before .before .before .before .before .before .before .before .before .before .before .before .before .before .before .before .before .before .before .before .before .before .before .before .before .before .args) (c .before .before .before .before .before .before .before .before .before .before .before .before .before .before .before .before .before .before .before .before .before .before .before .before .before .before .before .before .before .before .before .before .before .blocks)) (m51 (c .before) (After-conclude·gave c))
+        lay4 = λ c. (Path'.refl, λ g. λ g'. ((tt, (Path'.refl, (MutSlice.fix-len (Row.get 3 (T80 .locals) (m55 record { before = record { before = c .before; conclude = c .conclude }; labels3 = record { given = g } } g') .ptr) (Row.get 3 (T80 .locals) (m55 record { before = record { before = c .before; conclude = c .conclude }; labels3 = record { given = g } } g') .name) (Row.get 3 (T80 .locals) (m55 record { before = record { before = c .before; conclude = c .conclude }; labels3 = record { given = g } } g') .now) (dens (c .before .before .before .before .before .before .before .before .before .before .before .before .before .before .before .before .before .before .before .before .before .before .before .before .before .before .before .before .before .before .before .before .before .κs) (c .before .before .before .before .before .before .before .before .before .before .before .before .before .before .before .before .before .before .before .before .before .before .before .before .before .before .before .before .before .before .before .before .before .args) .1 .1 .0 .now) (same-length-4 record { before = record { before = record { before = c .before; conclude = c .conclude }; labels3 = record { given = g } }; slice-known9 = record { given = g' } }), (Path'.refl, (Path'.refl, (Path'.refl, (Path'.refl, (Path'.refl, (MutSlice.fix-len (Row.get 9 (T80 .locals) (m55 record { before = record { before = c .before; conclude = c .conclude }; labels3 = record { given = g } } g') .ptr) (Row.get 9 (T80 .locals) (m55 record { before = record { before = c .before; conclude = c .conclude }; labels3 = record { given = g } } g') .name) (Row.get 9 (T80 .locals) (m55 record { before = record { before = c .before; conclude = c .conclude }; labels3 = record { given = g } } g') .now) (dens (c .before .before .before .before .before .before .before .before .before .before .before .before .before .before .before .before .before .before .before .before .before .before .before .before .before .before .before .before .before .before .before .before .before .κs) (c .before .before .before .before .before .before .before .before .before .before .before .before .before .before .before .before .before .before .before .before .before .before .before .before .before .before .before .before .before .before .before .before .before .args) .1 .1 .1 .1 .1 .1 .1 .1 .0 .now) (same-length-5 record { before = record { before = record { before = c .before; conclude = c .conclude }; labels3 = record { given = g } }; slice-known9 = record { given = g' } }), (MutSlice.fix-len (Row.get 10 (T80 .locals) (m55 record { before = record { before = c .before; conclude = c .conclude }; labels3 = record { given = g } } g') .ptr) (Row.get 10 (T80 .locals) (m55 record { before = record { before = c .before; conclude = c .conclude }; labels3 = record { given = g } } g') .name) (Row.get 10 (T80 .locals) (m55 record { before = record { before = c .before; conclude = c .conclude }; labels3 = record { given = g } } g') .now) (dens (c .before .before .before .before .before .before .before .before .before .before .before .before .before .before .before .before .before .before .before .before .before .before .before .before .before .before .before .before .before .before .before .before .before .κs) (c .before .before .before .before .before .before .before .before .before .before .before .before .before .before .before .before .before .before .before .before .before .before .before .before .before .before .before .before .before .before .before .before .before .args) .1 .1 .1 .1 .1 .1 .1 .1 .1 .0 .now) (same-length-6 record { before = record { before = record { before = c .before; conclude = c .conclude }; labels3 = record { given = g } }; slice-known9 = record { given = g' } }), (MutSlice.fix-len (Row.get 11 (T80 .locals) (m55 record { before = record { before = c .before; conclude = c .conclude }; labels3 = record { given = g } } g') .ptr) (Row.get 11 (T80 .locals) (m55 record { before = record { before = c .before; conclude = c .conclude }; labels3 = record { given = g } } g') .name) (Row.get 11 (T80 .locals) (m55 record { before = record { before = c .before; conclude = c .conclude }; labels3 = record { given = g } } g') .now) (dens (c .before .before .before .before .before .before .before .before .before .before .before .before .before .before .before .before .before .before .before .before .before .before .before .before .before .before .before .before .before .before .before .before .before .κs) (c .before .before .before .before .before .before .before .before .before .before .before .before .before .before .before .before .before .before .before .before .before .before .before .before .before .before .before .before .before .before .before .before .before .args) .1 .1 .1 .1 .1 .1 .1 .1 .1 .1 .0 .now) (same-length-7 record { before = record { before = record { before = c .before; conclude = c .conclude }; labels3 = record { given = g } }; slice-known9 = record { given = g' } }), tt))))))))))), returns-2 record { before = record { before = record { before = c .before; conclude = c .conclude }; labels3 = record { given = g } }; slice-known9 = record { given = g' } }))
 
-        lay3 : (c : After-relaxed) → at39 (c .before .before .before .before .before .before .before .before .before .before .before .before .before .before .before .before .before .before .before .before .before .before .before .before .before .before .before .before .before .blocks) (W0 (c .before .before .before .before .before .before .before .before .before .before .before .before .before .before .before .before .before .before .before .before .before .before .before .before .before .before .before .before .before .κs) (c .before .before .before .before .before .before .before .before .before .before .before .before .before .before .before .before .before .before .before .before .before .before .before .before .before .before .before .before .before .args) (c .before .before .before .before .before .before .before .before .before .before .before .before .before .before .before .before .before .before .before .before .before .before .before .before .before .before .before .before .before .blocks)) (m51 (c .before) (After-relaxed·gave c))
-        lay3 = λ c. (Path'.refl, λ g. λ g'. (Path'.refl, λ g''. λ g'3. (Path'.refl, λ g'4. (Path'.refl, λ g'5. λ g'6. λ g'7. (Path'.refl, (conclude-requires record { before = record { before = record { before = record { before = record { before = record { before = record { before = record { before = record { before = c .before; relaxed = c .relaxed }; labels2 = record { given = g } }; slice-known6 = record { given = g' } }; relocs = record { given = g'' } }; slice-known7 = record { given = g'3 } }; segments = record { given = g'4 } }; output2 = record { given = g'5 } }; slice-known8 = record { given = g'6 } }; conclude-arg = record { given = g'7 } }, λ g'8. lay4 record { before = record { before = record { before = record { before = record { before = record { before = record { before = record { before = record { before = record { before = c .before; relaxed = c .relaxed }; labels2 = record { given = g } }; slice-known6 = record { given = g' } }; relocs = record { given = g'' } }; slice-known7 = record { given = g'3 } }; segments = record { given = g'4 } }; output2 = record { given = g'5 } }; slice-known8 = record { given = g'6 } }; conclude-arg = record { given = g'7 } }; conclude = Called.called ps·2 r·2 (claims· .5) T89 (record { pos = 1; st = List.[]; d = 0; at = λ x. x }, (record { pos = 35; ty = Syntax.tyRef Syntax.erased Syntax.mut y1·; ref = λ x. x }, (record { pos = 7; ty = Syntax.tyRef (Syntax.named 5) Syntax.imm y1·; ref = λ x. x }, (record { pos = 8; ty = Syntax.tyRef (Syntax.named 6) Syntax.imm y1·; ref = λ x. x }, (record { pos = 13; st = List.[]; d = 0; at = λ x. x }, tt))))) (m65 record { before = record { before = record { before = record { before = record { before = record { before = record { before = record { before = c .before; relaxed = c .relaxed }; labels2 = record { given = g } }; slice-known6 = record { given = g' } }; relocs = record { given = g'' } }; slice-known7 = record { given = g'3 } }; segments = record { given = g'4 } }; output2 = record { given = g'5 } }; slice-known8 = record { given = g'6 } } g'7) g'8 }))))))
+        lay3 : (c : After-relaxed) → at34 (c .before .before .before .before .before .before .before .before .before .before .before .before .before .before .before .before .before .before .before .before .before .before .before .before .blocks) (W0 (c .before .before .before .before .before .before .before .before .before .before .before .before .before .before .before .before .before .before .before .before .before .before .before .before .κs) (c .before .before .before .before .before .before .before .before .before .before .before .before .before .before .before .before .before .before .before .before .before .before .before .before .args) (c .before .before .before .before .before .before .before .before .before .before .before .before .before .before .before .before .before .before .before .before .before .before .before .before .blocks)) (m41 (c .before) (After-relaxed·gave c))
+        lay3 = λ c. (Path'.refl, λ g. λ g'. (Path'.refl, λ g''. λ g'3. (Path'.refl, λ g'4. (Path'.refl, λ g'5. λ g'6. λ g'7. (Path'.refl, (conclude-requires record { before = record { before = record { before = record { before = record { before = record { before = record { before = record { before = record { before = c .before; relaxed = c .relaxed }; labels2 = record { given = g } }; slice-known6 = record { given = g' } }; relocs = record { given = g'' } }; slice-known7 = record { given = g'3 } }; segments = record { given = g'4 } }; output2 = record { given = g'5 } }; slice-known8 = record { given = g'6 } }; conclude-arg = record { given = g'7 } }, λ g'8. lay4 record { before = record { before = record { before = record { before = record { before = record { before = record { before = record { before = record { before = record { before = c .before; relaxed = c .relaxed }; labels2 = record { given = g } }; slice-known6 = record { given = g' } }; relocs = record { given = g'' } }; slice-known7 = record { given = g'3 } }; segments = record { given = g'4 } }; output2 = record { given = g'5 } }; slice-known8 = record { given = g'6 } }; conclude-arg = record { given = g'7 } }; conclude = Called.called ps·2 r·2 (claims· .5) T74 (record { pos = 1; st = List.[]; d = 0; at = λ x. x }, (record { pos = 31; ty = Syntax.tyRef Syntax.erased Syntax.mut y1·; ref = λ x. x }, (record { pos = 7; ty = Syntax.tyRef (Syntax.named 5) Syntax.imm y1·; ref = λ x. x }, (record { pos = 8; ty = Syntax.tyRef (Syntax.named 6) Syntax.imm y1·; ref = λ x. x }, (record { pos = 13; st = List.[]; d = 0; at = λ x. x }, tt))))) (m50 record { before = record { before = record { before = record { before = record { before = record { before = record { before = record { before = c .before; relaxed = c .relaxed }; labels2 = record { given = g } }; slice-known6 = record { given = g' } }; relocs = record { given = g'' } }; slice-known7 = record { given = g'3 } }; segments = record { given = g'4 } }; output2 = record { given = g'5 } }; slice-known8 = record { given = g'6 } } g'7) g'8 }))))))
 
-        lay2 : (c : Else1) → at62 (c .before .before .before .before .before .before .before .before .before .before .before .before .before .before .before .before .before .before .before .blocks) (W0 (c .before .before .before .before .before .before .before .before .before .before .before .before .before .before .before .before .before .before .before .κs) (c .before .before .before .before .before .before .before .before .before .before .before .before .before .before .before .before .before .before .before .args) (c .before .before .before .before .before .before .before .before .before .before .before .before .before .before .before .before .before .before .before .blocks)) (m32 (c .before))
-        lay2 = λ c. λ g. (Path'.refl, λ g'. (Path'.refl, λ g''. (Path'.refl, λ g'3. (Path'.refl, λ g'4. (cast-relaxed record { before = record { before = record { before = record { before = record { before = record { before = c .before; if1 = c .if1 }; relaxed-arg = record { given = g } }; relaxed-arg2 = record { given = g' } }; relaxed-arg3 = record { given = g'' } }; relaxed-arg4 = record { given = g'3 } }; struct-known2 = record { given = g'4 } }, λ g'5. (cast-relaxed-2 record { before = record { before = record { before = record { before = record { before = record { before = record { before = c .before; if1 = c .if1 }; relaxed-arg = record { given = g } }; relaxed-arg2 = record { given = g' } }; relaxed-arg3 = record { given = g'' } }; relaxed-arg4 = record { given = g'3 } }; struct-known2 = record { given = g'4 } }; struct-known3 = record { given = g'5 } }, λ g'6. (cast-relaxed-3 record { before = record { before = record { before = record { before = record { before = record { before = record { before = record { before = c .before; if1 = c .if1 }; relaxed-arg = record { given = g } }; relaxed-arg2 = record { given = g' } }; relaxed-arg3 = record { given = g'' } }; relaxed-arg4 = record { given = g'3 } }; struct-known2 = record { given = g'4 } }; struct-known3 = record { given = g'5 } }; struct-known4 = record { given = g'6 } }, λ g'7. (cast-relaxed-4 record { before = record { before = record { before = record { before = record { before = record { before = record { before = record { before = record { before = c .before; if1 = c .if1 }; relaxed-arg = record { given = g } }; relaxed-arg2 = record { given = g' } }; relaxed-arg3 = record { given = g'' } }; relaxed-arg4 = record { given = g'3 } }; struct-known2 = record { given = g'4 } }; struct-known3 = record { given = g'5 } }; struct-known4 = record { given = g'6 } }; struct-known5 = record { given = g'7 } }, λ g'8. (cast-relaxed-5 record { before = record { before = record { before = record { before = record { before = record { before = record { before = record { before = record { before = record { before = c .before; if1 = c .if1 }; relaxed-arg = record { given = g } }; relaxed-arg2 = record { given = g' } }; relaxed-arg3 = record { given = g'' } }; relaxed-arg4 = record { given = g'3 } }; struct-known2 = record { given = g'4 } }; struct-known3 = record { given = g'5 } }; struct-known4 = record { given = g'6 } }; struct-known5 = record { given = g'7 } }; struct-known6 = record { given = g'8 } }, (relaxed-requires record { before = record { before = record { before = record { before = record { before = record { before = record { before = record { before = record { before = record { before = c .before; if1 = c .if1 }; relaxed-arg = record { given = g } }; relaxed-arg2 = record { given = g' } }; relaxed-arg3 = record { given = g'' } }; relaxed-arg4 = record { given = g'3 } }; struct-known2 = record { given = g'4 } }; struct-known3 = record { given = g'5 } }; struct-known4 = record { given = g'6 } }; struct-known5 = record { given = g'7 } }; struct-known6 = record { given = g'8 } }, λ g'9. lay3 record { before = record { before = record { before = record { before = record { before = record { before = record { before = record { before = record { before = record { before = record { before = c .before; if1 = c .if1 }; relaxed-arg = record { given = g } }; relaxed-arg2 = record { given = g' } }; relaxed-arg3 = record { given = g'' } }; relaxed-arg4 = record { given = g'3 } }; struct-known2 = record { given = g'4 } }; struct-known3 = record { given = g'5 } }; struct-known4 = record { given = g'6 } }; struct-known5 = record { given = g'7 } }; struct-known6 = record { given = g'8 } }; relaxed = Called.called ps·1 r·1 (claims· .3) T65 (record { pos = 2; ty = Syntax.tyRef (Syntax.named 0) Syntax.imm y1·; ref = λ x. x }, (record { pos = 23; ty = Syntax.tyRef Syntax.erased Syntax.mut y1·; ref = λ x. x }, (record { pos = 4; ty = Syntax.tyRef (Syntax.named 2) Syntax.imm y1·; ref = λ x. x }, (record { pos = 6; ty = Syntax.tyRef (Syntax.named 4) Syntax.imm y1·; ref = λ x. x }, (record { pos = 7; ty = Syntax.tyRef (Syntax.named 5) Syntax.imm y1·; ref = λ x. x }, (record { pos = 8; ty = Syntax.tyRef (Syntax.named 6) Syntax.imm y1·; ref = λ x. x }, (record { pos = 25; ty = Syntax.tyRef Syntax.erased Syntax.mut y1·; ref = λ x. x }, (record { pos = 27; ty = Syntax.tyRef Syntax.erased Syntax.mut (MEM·.pointee (ROW·.the-row .written)); ref = λ x. x }, (record { pos = 29; ty = Syntax.tyRef Syntax.erased Syntax.mut y1·; ref = λ x. x }, (Num.vFld 1 ((Syntax.field 4) ∷ []) 16 λ x. CodeBuffer.struct .as-values x .1 .1 .1 .1 .0, (Num.vAt 18 λ x. x, (Num.vAt 30 λ x. x, (Num.vAt 31 λ x. x, (Num.vAt 32 λ x. x, (Num.vAt 33 λ x. x, tt))))))))))))))) (m50 record { before = record { before = record { before = record { before = record { before = record { before = record { before = record { before = record { before = c .before; if1 = c .if1 }; relaxed-arg = record { given = g } }; relaxed-arg2 = record { given = g' } }; relaxed-arg3 = record { given = g'' } }; relaxed-arg4 = record { given = g'3 } }; struct-known2 = record { given = g'4 } }; struct-known3 = record { given = g'5 } }; struct-known4 = record { given = g'6 } }; struct-known5 = record { given = g'7 } } g'8) g'9 }))))))))))
+        lay2 : (c : Else1) → at47 (c .before .before .before .before .before .before .before .before .before .before .before .before .before .before .before .before .before .before .before .blocks) (W0 (c .before .before .before .before .before .before .before .before .before .before .before .before .before .before .before .before .before .before .before .κs) (c .before .before .before .before .before .before .before .before .before .before .before .before .before .before .before .before .before .before .before .args) (c .before .before .before .before .before .before .before .before .before .before .before .before .before .before .before .before .before .before .before .blocks)) (m32 (c .before))
+        lay2 = λ c. λ g. (Path'.refl, λ g'. (Path'.refl, λ g''. (Path'.refl, λ g'3. (Path'.refl, (relaxed-requires record { before = record { before = record { before = record { before = record { before = c .before; if1 = c .if1 }; relaxed-arg = record { given = g } }; relaxed-arg2 = record { given = g' } }; relaxed-arg3 = record { given = g'' } }; relaxed-arg4 = record { given = g'3 } }, λ g'4. lay3 record { before = record { before = record { before = record { before = record { before = record { before = c .before; if1 = c .if1 }; relaxed-arg = record { given = g } }; relaxed-arg2 = record { given = g' } }; relaxed-arg3 = record { given = g'' } }; relaxed-arg4 = record { given = g'3 } }; relaxed = Called.called ps·1 r·1 (claims· .3) T55 (record { pos = 1; st = List.[]; d = 0; at = λ x. x }, (record { pos = 2; ty = Syntax.tyRef (Syntax.named 0) Syntax.imm y1·; ref = λ x. x }, (record { pos = 23; ty = Syntax.tyRef Syntax.erased Syntax.mut y1·; ref = λ x. x }, (record { pos = 4; ty = Syntax.tyRef (Syntax.named 2) Syntax.imm y1·; ref = λ x. x }, (record { pos = 6; ty = Syntax.tyRef (Syntax.named 4) Syntax.imm y1·; ref = λ x. x }, (record { pos = 7; ty = Syntax.tyRef (Syntax.named 5) Syntax.imm y1·; ref = λ x. x }, (record { pos = 8; ty = Syntax.tyRef (Syntax.named 6) Syntax.imm y1·; ref = λ x. x }, (record { pos = 25; ty = Syntax.tyRef Syntax.erased Syntax.mut y1·; ref = λ x. x }, (record { pos = 27; ty = Syntax.tyRef Syntax.erased Syntax.mut (MEM·.pointee (ROW·.the-row .written)); ref = λ x. x }, (record { pos = 29; ty = Syntax.tyRef Syntax.erased Syntax.mut y1·; ref = λ x. x }, tt)))))))))) (m40 record { before = record { before = record { before = record { before = c .before; if1 = c .if1 }; relaxed-arg = record { given = g } }; relaxed-arg2 = record { given = g' } }; relaxed-arg3 = record { given = g'' } } g'3) g'4 })))))
 
-        lay1 : (c : After-begin) → at78 (c .before .before .before .before .before .before .before .before .before .before .before .before .before .blocks) (W0 (c .before .before .before .before .before .before .before .before .before .before .before .before .before .κs) (c .before .before .before .before .before .before .before .before .before .before .before .before .before .args) (c .before .before .before .before .before .before .before .before .before .before .before .before .before .blocks)) (m17 (c .before) (After-begin·gave c))
+        lay1 : (c : After-begin) → at63 (c .before .before .before .before .before .before .before .before .before .before .before .before .before .blocks) (W0 (c .before .before .before .before .before .before .before .before .before .before .before .before .before .κs) (c .before .before .before .before .before .before .before .before .before .before .before .before .before .args) (c .before .before .before .before .before .before .before .before .before .before .before .before .before .blocks)) (m17 (c .before) (After-begin·gave c))
         lay1 = λ c. (Path'.refl, λ g. λ g'. (Path'.refl, λ g''. λ g'3. λ g'4. (tt, (λ taken. (tt, λ g'5. ((tt, (Path'.refl, (MutSlice.fix-len (Row.get 3 (T41 .locals) (m30 record { before = record { before = record { before = record { before = record { before = record { before = record { before = c .before; begin = c .begin }; labels = record { given = g } }; slice-known4 = record { given = g' } }; output = record { given = g'' } }; slice-known5 = record { given = g'3 } }; struct-known = record { given = g'4 } }; if1 = record { taken = taken } } g'5) .ptr) (Row.get 3 (T41 .locals) (m30 record { before = record { before = record { before = record { before = record { before = record { before = record { before = c .before; begin = c .begin }; labels = record { given = g } }; slice-known4 = record { given = g' } }; output = record { given = g'' } }; slice-known5 = record { given = g'3 } }; struct-known = record { given = g'4 } }; if1 = record { taken = taken } } g'5) .name) (Row.get 3 (T41 .locals) (m30 record { before = record { before = record { before = record { before = record { before = record { before = record { before = c .before; begin = c .begin }; labels = record { given = g } }; slice-known4 = record { given = g' } }; output = record { given = g'' } }; slice-known5 = record { given = g'3 } }; struct-known = record { given = g'4 } }; if1 = record { taken = taken } } g'5) .now) (dens (c .before .before .before .before .before .before .before .before .before .before .before .before .before .κs) (c .before .before .before .before .before .before .before .before .before .before .before .before .before .args) .1 .1 .0 .now) (same-length record { before = record { before = record { before = record { before = record { before = record { before = record { before = record { before = c .before; begin = c .begin }; labels = record { given = g } }; slice-known4 = record { given = g' } }; output = record { given = g'' } }; slice-known5 = record { given = g'3 } }; struct-known = record { given = g'4 } }; if1 = record { taken = taken } }; result = record { given = g'5 } }), (Path'.refl, (Path'.refl, (Path'.refl, (Path'.refl, (Path'.refl, (MutSlice.fix-len (Row.get 9 (T41 .locals) (m30 record { before = record { before = record { before = record { before = record { before = record { before = record { before = c .before; begin = c .begin }; labels = record { given = g } }; slice-known4 = record { given = g' } }; output = record { given = g'' } }; slice-known5 = record { given = g'3 } }; struct-known = record { given = g'4 } }; if1 = record { taken = taken } } g'5) .ptr) (Row.get 9 (T41 .locals) (m30 record { before = record { before = record { before = record { before = record { before = record { before = record { before = c .before; begin = c .begin }; labels = record { given = g } }; slice-known4 = record { given = g' } }; output = record { given = g'' } }; slice-known5 = record { given = g'3 } }; struct-known = record { given = g'4 } }; if1 = record { taken = taken } } g'5) .name) (Row.get 9 (T41 .locals) (m30 record { before = record { before = record { before = record { before = record { before = record { before = record { before = c .before; begin = c .begin }; labels = record { given = g } }; slice-known4 = record { given = g' } }; output = record { given = g'' } }; slice-known5 = record { given = g'3 } }; struct-known = record { given = g'4 } }; if1 = record { taken = taken } } g'5) .now) (dens (c .before .before .before .before .before .before .before .before .before .before .before .before .before .κs) (c .before .before .before .before .before .before .before .before .before .before .before .before .before .args) .1 .1 .1 .1 .1 .1 .1 .1 .0 .now) (same-length-2 record { before = record { before = record { before = record { before = record { before = record { before = record { before = record { before = c .before; begin = c .begin }; labels = record { given = g } }; slice-known4 = record { given = g' } }; output = record { given = g'' } }; slice-known5 = record { given = g'3 } }; struct-known = record { given = g'4 } }; if1 = record { taken = taken } }; result = record { given = g'5 } }), (Path'.refl, (MutSlice.fix-len (Row.get 11 (T41 .locals) (m30 record { before = record { before = record { before = record { before = record { before = record { before = record { before = c .before; begin = c .begin }; labels = record { given = g } }; slice-known4 = record { given = g' } }; output = record { given = g'' } }; slice-known5 = record { given = g'3 } }; struct-known = record { given = g'4 } }; if1 = record { taken = taken } } g'5) .ptr) (Row.get 11 (T41 .locals) (m30 record { before = record { before = record { before = record { before = record { before = record { before = record { before = c .before; begin = c .begin }; labels = record { given = g } }; slice-known4 = record { given = g' } }; output = record { given = g'' } }; slice-known5 = record { given = g'3 } }; struct-known = record { given = g'4 } }; if1 = record { taken = taken } } g'5) .name) (Row.get 11 (T41 .locals) (m30 record { before = record { before = record { before = record { before = record { before = record { before = record { before = c .before; begin = c .begin }; labels = record { given = g } }; slice-known4 = record { given = g' } }; output = record { given = g'' } }; slice-known5 = record { given = g'3 } }; struct-known = record { given = g'4 } }; if1 = record { taken = taken } } g'5) .now) (dens (c .before .before .before .before .before .before .before .before .before .before .before .before .before .κs) (c .before .before .before .before .before .before .before .before .before .before .before .before .before .args) .1 .1 .1 .1 .1 .1 .1 .1 .1 .1 .0 .now) (same-length-3 record { before = record { before = record { before = record { before = record { before = record { before = record { before = record { before = c .before; begin = c .begin }; labels = record { given = g } }; slice-known4 = record { given = g' } }; output = record { given = g'' } }; slice-known5 = record { given = g'3 } }; struct-known = record { given = g'4 } }; if1 = record { taken = taken } }; result = record { given = g'5 } }), tt))))))))))), returns record { before = record { before = record { before = record { before = record { before = record { before = record { before = record { before = c .before; begin = c .begin }; labels = record { given = g } }; slice-known4 = record { given = g' } }; output = record { given = g'' } }; slice-known5 = record { given = g'3 } }; struct-known = record { given = g'4 } }; if1 = record { taken = taken } }; result = record { given = g'5 } })), λ left. lay2 record { before = record { before = record { before = record { before = record { before = record { before = record { before = c .before; begin = c .begin }; labels = record { given = g } }; slice-known4 = record { given = g' } }; output = record { given = g'' } }; slice-known5 = record { given = g'3 } }; struct-known = record { given = g'4 } }; if1 = record { left = left } }))))
 
-        pub laid : (c : Start) → at98 (c .blocks) (W0 (c .κs) (c .args) (c .blocks)) (m0 (c .κs) (c .args) (c .blocks))
+        pub laid : (c : Start) → at83 (c .blocks) (W0 (c .κs) (c .args) (c .blocks)) (m0 (c .κs) (c .args) (c .blocks))
         laid = λ c. λ g. λ g'. λ g''. λ g'3. λ g'4. λ g'5. λ g'6. λ g'7. λ g'8. λ g'9. (Path'.refl, λ g'10. (Path'.refl, λ g'11. (Path'.refl, (begin-requires record { before = record { before = record { before = record { before = record { before = record { before = record { before = record { before = record { before = record { before = record { before = record { before = c; shared-slice-known = record { given = g } }; slice-known = record { given = g' } }; shared-slice-known2 = record { given = g'' } }; shared-slice-known3 = record { given = g'3 } }; shared-slice-known4 = record { given = g'4 } }; shared-slice-known5 = record { given = g'5 } }; shared-slice-known6 = record { given = g'6 } }; slice-known2 = record { given = g'7 } }; slice-known3 = record { given = g'8 } }; begin-arg = record { given = g'9 } }; begin-arg2 = record { given = g'10 } }; begin-arg3 = record { given = g'11 } }, λ g'12. lay1 record { before = record { before = record { before = record { before = record { before = record { before = record { before = record { before = record { before = record { before = record { before = record { before = record { before = c; shared-slice-known = record { given = g } }; slice-known = record { given = g' } }; shared-slice-known2 = record { given = g'' } }; shared-slice-known3 = record { given = g'3 } }; shared-slice-known4 = record { given = g'4 } }; shared-slice-known5 = record { given = g'5 } }; shared-slice-known6 = record { given = g'6 } }; slice-known2 = record { given = g'7 } }; slice-known3 = record { given = g'8 } }; begin-arg = record { given = g'9 } }; begin-arg2 = record { given = g'10 } }; begin-arg3 = record { given = g'11 } }; begin = Called.called ps·0 r·0 (claims· .1) T20 (record { pos = 1; st = List.[]; d = 0; at = λ x. x }, (record { pos = 2; ty = Syntax.tyRef (Syntax.named 0) Syntax.imm y1·; ref = λ x. x }, (record { pos = 15; ty = Syntax.tyRef Syntax.erased Syntax.mut y1·; ref = λ x. x }, (record { pos = 4; ty = Syntax.tyRef (Syntax.named 2) Syntax.imm y1·; ref = λ x. x }, (record { pos = 5; ty = Syntax.tyRef (Syntax.named 3) Syntax.imm y1·; ref = λ x. x }, (record { pos = 6; ty = Syntax.tyRef (Syntax.named 4) Syntax.imm y1·; ref = λ x. x }, (record { pos = 7; ty = Syntax.tyRef (Syntax.named 5) Syntax.imm y1·; ref = λ x. x }, (record { pos = 8; ty = Syntax.tyRef (Syntax.named 6) Syntax.imm y1·; ref = λ x. x }, (record { pos = 17; ty = Syntax.tyRef Syntax.erased Syntax.imm y1·; ref = λ x. x }, (Num.vAt 18 λ x. x, (record { pos = 20; ty = Syntax.tyRef Syntax.erased Syntax.mut y1·; ref = λ x. x }, tt))))))))))) (m16 record { before = record { before = record { before = record { before = record { before = record { before = record { before = record { before = record { before = record { before = record { before = c; shared-slice-known = record { given = g } }; slice-known = record { given = g' } }; shared-slice-known2 = record { given = g'' } }; shared-slice-known3 = record { given = g'3 } }; shared-slice-known4 = record { given = g'4 } }; shared-slice-known5 = record { given = g'5 } }; shared-slice-known6 = record { given = g'6 } }; slice-known2 = record { given = g'7 } }; slice-known3 = record { given = g'8 } }; begin-arg = record { given = g'9 } }; begin-arg2 = record { given = g'10 } } g'11) g'12 }))))
 
         module _ (κs : Lifetimes.Lfts 10) (qs : Lifetimes.Shares 10) where

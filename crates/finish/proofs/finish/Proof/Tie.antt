@@ -96,21 +96,6 @@ After-relaxed-arg3 = Lts.After-relaxed-arg3 (Reads.Asked, Reads.Learnt, Reads'3.
 abbrev pub After-relaxed-arg4 : Type 0
 After-relaxed-arg4 = Lts.After-relaxed-arg4 (Reads.Asked, Reads.Learnt, Reads'3.Asked, Reads'3.Learnt, Reads'.Asked, Reads'.Learnt) Reads''.Pre Reads''.Post
 
-abbrev pub After-struct-known2 : Type 0
-After-struct-known2 = Lts.After-struct-known2 (Reads.Asked, Reads.Learnt, Reads'3.Asked, Reads'3.Learnt, Reads'.Asked, Reads'.Learnt) Reads''.Pre Reads''.Post
-
-abbrev pub After-struct-known3 : Type 0
-After-struct-known3 = Lts.After-struct-known3 (Reads.Asked, Reads.Learnt, Reads'3.Asked, Reads'3.Learnt, Reads'.Asked, Reads'.Learnt) Reads''.Pre Reads''.Post
-
-abbrev pub After-struct-known4 : Type 0
-After-struct-known4 = Lts.After-struct-known4 (Reads.Asked, Reads.Learnt, Reads'3.Asked, Reads'3.Learnt, Reads'.Asked, Reads'.Learnt) Reads''.Pre Reads''.Post
-
-abbrev pub After-struct-known5 : Type 0
-After-struct-known5 = Lts.After-struct-known5 (Reads.Asked, Reads.Learnt, Reads'3.Asked, Reads'3.Learnt, Reads'.Asked, Reads'.Learnt) Reads''.Pre Reads''.Post
-
-abbrev pub After-struct-known6 : Type 0
-After-struct-known6 = Lts.After-struct-known6 (Reads.Asked, Reads.Learnt, Reads'3.Asked, Reads'3.Learnt, Reads'.Asked, Reads'.Learnt) Reads''.Pre Reads''.Post
-
 abbrev pub After-relaxed : Type 0
 After-relaxed = Lts.After-relaxed (Reads.Asked, Reads.Learnt, Reads'3.Asked, Reads'3.Learnt, Reads'.Asked, Reads'.Learnt) Reads''.Pre Reads''.Post
 
@@ -162,21 +147,6 @@ Need-same-length-3 = Lts.Need-same-length-3 (Reads.Asked, Reads.Learnt, Reads'3.
 abbrev pub Need-returns : Type 0
 Need-returns = Lts.Need-returns (Reads.Asked, Reads.Learnt, Reads'3.Asked, Reads'3.Learnt, Reads'.Asked, Reads'.Learnt) Reads''.Pre Reads''.Post
 
-abbrev pub Need-cast-relaxed : Type 0
-Need-cast-relaxed = Lts.Need-cast-relaxed (Reads.Asked, Reads.Learnt, Reads'3.Asked, Reads'3.Learnt, Reads'.Asked, Reads'.Learnt) Reads''.Pre Reads''.Post
-
-abbrev pub Need-cast-relaxed-2 : Type 0
-Need-cast-relaxed-2 = Lts.Need-cast-relaxed-2 (Reads.Asked, Reads.Learnt, Reads'3.Asked, Reads'3.Learnt, Reads'.Asked, Reads'.Learnt) Reads''.Pre Reads''.Post
-
-abbrev pub Need-cast-relaxed-3 : Type 0
-Need-cast-relaxed-3 = Lts.Need-cast-relaxed-3 (Reads.Asked, Reads.Learnt, Reads'3.Asked, Reads'3.Learnt, Reads'.Asked, Reads'.Learnt) Reads''.Pre Reads''.Post
-
-abbrev pub Need-cast-relaxed-4 : Type 0
-Need-cast-relaxed-4 = Lts.Need-cast-relaxed-4 (Reads.Asked, Reads.Learnt, Reads'3.Asked, Reads'3.Learnt, Reads'.Asked, Reads'.Learnt) Reads''.Pre Reads''.Post
-
-abbrev pub Need-cast-relaxed-5 : Type 0
-Need-cast-relaxed-5 = Lts.Need-cast-relaxed-5 (Reads.Asked, Reads.Learnt, Reads'3.Asked, Reads'3.Learnt, Reads'.Asked, Reads'.Learnt) Reads''.Pre Reads''.Post
-
 abbrev pub Need-relaxed-requires : Type 0
 Need-relaxed-requires = Lts.Need-relaxed-requires (Reads.Asked, Reads.Learnt, Reads'3.Asked, Reads'3.Learnt, Reads'.Asked, Reads'.Learnt) Reads''.Pre Reads''.Post
 
@@ -199,8 +169,8 @@ abbrev pub Need-returns-2 : Type 0
 Need-returns-2 = Lts.Need-returns-2 (Reads.Asked, Reads.Learnt, Reads'3.Asked, Reads'3.Learnt, Reads'.Asked, Reads'.Learnt) Reads''.Pre Reads''.Post
 
 module _ {M : Type 1} where
-  pub spec : (answer : Need-begin-requires) → (answer : Need-same-length) → (answer : Need-same-length-2) → (answer : Need-same-length-3) → (answer : Need-returns) → (answer : Need-cast-relaxed) → (answer : Need-cast-relaxed-2) → (answer : Need-cast-relaxed-3) → (answer : Need-cast-relaxed-4) → (answer : Need-cast-relaxed-5) → (answer : Need-relaxed-requires) → (answer : Need-conclude-requires) → (answer : Need-same-length-4) → (answer : Need-same-length-5) → (answer : Need-same-length-6) → (answer : Need-same-length-7) → (answer : Need-returns-2) → Lts.Closed (Reads.Asked, Reads.Learnt, Reads'3.Asked, Reads'3.Learnt, Reads'.Asked, Reads'.Learnt) Reads''.Pre Reads''.Post M
-  spec = λ answer answer' answer'' answer'3 answer'4 answer'5 answer'6 answer'7 answer'8 answer'9 answer'10 answer'11 answer'12 answer'13 answer'14 answer'15 answer'16. Lts.spec (Reads.Asked, Reads.Learnt, Reads'3.Asked, Reads'3.Learnt, Reads'.Asked, Reads'.Learnt) Reads''.Pre Reads''.Post answer answer' answer'' answer'3 answer'4 answer'5 answer'6 answer'7 answer'8 answer'9 answer'10 answer'11 answer'12 answer'13 answer'14 answer'15 answer'16
+  pub spec : (answer : Need-begin-requires) → (answer : Need-same-length) → (answer : Need-same-length-2) → (answer : Need-same-length-3) → (answer : Need-returns) → (answer : Need-relaxed-requires) → (answer : Need-conclude-requires) → (answer : Need-same-length-4) → (answer : Need-same-length-5) → (answer : Need-same-length-6) → (answer : Need-same-length-7) → (answer : Need-returns-2) → Lts.Closed (Reads.Asked, Reads.Learnt, Reads'3.Asked, Reads'3.Learnt, Reads'.Asked, Reads'.Learnt) Reads''.Pre Reads''.Post M
+  spec = λ answer answer' answer'' answer'3 answer'4 answer'5 answer'6 answer'7 answer'8 answer'9 answer'10 answer'11. Lts.spec (Reads.Asked, Reads.Learnt, Reads'3.Asked, Reads'3.Learnt, Reads'.Asked, Reads'.Learnt) Reads''.Pre Reads''.Post answer answer' answer'' answer'3 answer'4 answer'5 answer'6 answer'7 answer'8 answer'9 answer'10 answer'11
 
   pub close : Lts.Closed (Reads.Asked, Reads.Learnt, Reads'3.Asked, Reads'3.Learnt, Reads'.Asked, Reads'.Learnt) Reads''.Pre Reads''.Post M → Statement.statement M
   unfolding Code.routine Running.tablesOf

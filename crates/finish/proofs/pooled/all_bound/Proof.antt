@@ -8,22 +8,22 @@ use Rattle.finish.proofs.pooled.all_bound.Tie as tie
 uses-bound-requires : tie.Need-uses-bound-requires
 uses-bound-requires c κs =
     let start : tie.Start = search in
-    let e = start .pre in (omega (arith, e .used .room), uses-named _ _ _ _ _ _ _ _ _ _ _ _ _ e)
+    let e = start .pre in (omega (arith, e .used .room), uses-named e)
 
 relocs-bound-requires : tie.Need-relocs-bound-requires
 relocs-bound-requires c κs =
     let start : tie.Start = search in
-    let e = start .pre in (omega (arith, e .relocated .room), targets-named _ _ _ _ _ _ _ _ _ _ _ _ _ e)
+    let e = start .pre in (omega (arith, e .relocated .room), targets-named e)
 
 refs-bound-requires : tie.Need-refs-bound-requires
 refs-bound-requires c κs =
     let start : tie.Start = search in
-    let e = start .pre in (omega (arith, e .referred .room), refs-named _ _ _ _ _ _ _ _ _ _ _ _ _ e)
+    let e = start .pre in (omega (arith, e .referred .room), refs-named e)
 
 jumps-bound-requires : tie.Need-jumps-bound-requires
 jumps-bound-requires c κs =
     let start : tie.Start = search in
-    let e = start .pre in (omega (arith, e .recorded .room), jumps-named _ _ _ _ _ _ _ _ _ _ _ _ _ e)
+    let e = start .pre in (omega (arith, e .recorded .room), jumps-named e)
 
 returns : tie.Need-returns
 returns c =
@@ -39,9 +39,13 @@ pub all-bound-spec : {M : Type 1} → statement M
 all-bound-spec =
     tie.close
     (tie.spec
+    (λ c. search needs)
     uses-bound-requires
+    (λ c. search needs)
     relocs-bound-requires
+    (λ c. search needs)
     refs-bound-requires
+    (λ c. search needs)
     jumps-bound-requires
     (λ c κs. search needs)
     (λ c κs. search needs)

@@ -1,4 +1,4 @@
--- `relaxed` meets its contract: it lends `lay_out` a mark for each event.
+-- `relaxed` meets its contract: it lends `relax_and_write` a mark for each event.
 mod Tie
 use native.Mathlib.Omega.{arith}
 use Rattle.finish.proofs.Stages.{few, marks-short}
@@ -12,18 +12,20 @@ add-all c = let s : tie.Start = search in omega (arith, few (s .pre))
 part-long-end : tie.Need-part-long-end
 part-long-end c = let s : tie.Start = search in omega (arith, few (s .pre))
 
-lay-out-requires : tie.Need-lay-out-requires
-lay-out-requires c κs = let s : tie.Start = search in (s .pre, marks-short _ 65536 (few (s .pre)))
+relax-and-write-requires : tie.Need-relax-and-write-requires
+relax-and-write-requires c κs = let s : tie.Start = search in (s .pre, marks-short _ 65536 (few (s .pre)))
 
 pub relaxed-spec : {M : Type 1} → statement M
 relaxed-spec =
     tie.close
     (tie.spec
+    (λ c. search needs)
+    (λ c. search needs)
     add-all
     (λ c. search needs)
     (λ c. search needs)
     part-long-end
-    lay-out-requires
+    relax-and-write-requires
     (λ c. search needs)
     (λ c. search needs)
     (λ c. search needs)

@@ -23,4 +23,4 @@ returns-3 c =
     sym (yes-eq _ 0 _ _ (sym (after-why-uses .why-uses .ensures) ∙ else1 .if1 .left) ∙ no-lt _ _ 23 0 (c .if2 .left))
 
 pub why-not-in-place-spec : {M : Type 1} → statement M
-why-not-in-place-spec = tie.close (tie.spec (λ c κs. search needs) returns returns-2 returns-3)
+why-not-in-place-spec = tie.close (tie.spec (λ c. search needs) (λ c κs. search needs) returns returns-2 returns-3)

@@ -22,4 +22,4 @@ returns-3 c =
     sym (no-lt _ _ 16 _ (else1 .if1 .left) ∙ no-not _ 17 0 (sym (after-refs-clear .refs-clear .ensures) ∙ not-false _ (c .if2 .left)))
 
 pub why-not-laid-spec : {M : Type 1} → statement M
-why-not-laid-spec = tie.close (tie.spec (λ c. search needs) returns (λ c κs. search needs) returns-2 returns-3)
+why-not-laid-spec = tie.close (tie.spec (λ c. search needs) (λ c. search needs) (λ c. search needs) returns (λ c. search needs) (λ c κs. search needs) returns-2 returns-3)

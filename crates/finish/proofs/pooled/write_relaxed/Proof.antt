@@ -3,36 +3,40 @@ mod Tie
 use mathlib.Core.Path.{_∙_}
 use native.Mathlib.Omega.{arith}
 use borrow.Author.Needs.{needs}
+use Rattle.finish.proofs.Written.{written-in-order}
 use Rattle.finish.proofs.pooled.write_relaxed.Statement.{statement}
 use Rattle.finish.proofs.pooled.write_relaxed.Proof.Tie as tie
+
+abbrev entered : tie.After-emit-events → tie.Start
+entered c = search
 
 emit-requires : tie.Need-emit-requires
 emit-requires c κs =
     let after-map : tie.After-map = search in
     let after-emit-events : tie.After-emit-events = search in
-    let start : tie.Start = search in
-    let w = start .pre in
+    let w = entered after-emit-events .pre in
     let e = after-map .map .ensures ∙ w .ends in
     (w .pool, (omega (arith, w .near, e), rw e (omega (arith, w .pooled, after-emit-events .emit-events .kept .0))))
+
+map-requires : tie.Need-map-requires
+map-requires c κs =
+    let placed : tie.After-emit-events = search in
+    let w = entered placed .pre in
+    (w .rising, λ bound. omega (arith, w .small))
 
 patch-refs-requires : tie.Need-patch-refs-requires
 patch-refs-requires c κs =
     let after-emit : tie.After-emit = search in
     let after-emit-events : tie.After-emit-events = search in
-    let start : tie.Start = search in
-    let w = start .pre in
+    let w = entered after-emit-events .pre in
     (w .rising-all, rw (after-emit .emit .kept .0, after-emit-events .emit-events .kept .0) (w .filled))
-
-abbrev start-from-after-emit-events : tie.After-emit-events → tie.Start
-start-from-after-emit-events c = search
 
 patch-jumps-requires : tie.Need-patch-jumps-requires
 patch-jumps-requires c κs =
     let after-patch-refs : tie.After-patch-refs = search in
     let after-emit : tie.After-emit = search in
     let after-emit-events : tie.After-emit-events = search in
-    let start = start-from-after-emit-events after-emit-events in
-    let w = start .pre in
+    let w = entered after-emit-events .pre in
     rw (after-patch-refs .patch-refs .kept .0, after-emit .emit .kept .0, after-emit-events .emit-events .kept .0) (w .jumped)
 
 write-requires : tie.Need-write-requires
@@ -41,8 +45,7 @@ write-requires c κs =
     let after-patch-refs : tie.After-patch-refs = search in
     let after-emit : tie.After-emit = search in
     let after-emit-events : tie.After-emit-events = search in
-    let start = start-from-after-emit-events after-emit-events in
-    let w = start .pre in (
+    let w = entered after-emit-events .pre in (
       w .pool,
       (
         w .named,
@@ -62,23 +65,29 @@ write-requires c κs =
 
 returns : tie.Need-returns
 returns c =
-    let w = c .before .before .before .before .before .before .before .before .before .before .before .before .before .before .before .before .before .before .before .before .before .before .before .before .before .before .before .before .before .pre in
-    rw (
-      c .before .before .write .ensures,
-      c .before .before .before .before .before .before .patch-jumps .ensures,
-      c .before .before .before .before .before .before .before .before .before .before .patch-refs .ensures,
-      c .before .before .before .before .before .before .before .before .before .before .before .before .before .before .emit .ensures,
-      c .before .before .before .before .before .before .before .before .before .before .before .before .before .before .before .before .map .ensures ∙ w .ends,
-      c .before .before .before .before .before .before .before .before .before .before .before .before .before .before .before .before .before .before .before .emit-events .ensures,
-    )
+    let written : tie.After-write = search in
+    let jumped : tie.After-patch-jumps = search in
+    let filled : tie.After-patch-refs = search in
+    let pooled : tie.After-emit = search in
+    let mapped : tie.After-map = search in
+    let placed : tie.After-emit-events = search in
+    let s = entered placed in
+    let a = s .args in
+    written-in-order (a .output .now) (a .code .now) (a .labels .now) (a .events .now) (a .refs .now) (a .constants .now) (a .asked .now) (a .long .now) (a .segments .now)
+    (a .b .code) (a .b .events) (a .b .asked) (a .b .refs) (placed .emit-events .ensures) (mapped .map .ensures ∙ s .pre .ends) (pooled .emit .ensures)
+    (filled .patch-refs .ensures) (jumped .patch-jumps .ensures) (written .write .ensures)
 
 pub write-relaxed-spec : {M : Type 1} → statement M
 write-relaxed-spec =
     tie.close
     (tie.spec
+    (λ c. search needs)
+    (λ c. search needs)
+    (λ c. search needs)
     (λ c κs. search needs)
-    (λ c κs. search needs)
+    map-requires
     emit-requires
+    (λ c. search needs)
     (λ c. search needs)
     patch-refs-requires
     patch-jumps-requires

@@ -24,10 +24,9 @@ use borrow.Rule.Slice.Know
 use borrow.Rule.Slice.Mut
 use borrow.Rule.Slice.Shared
 use borrow.Rule.Yields
-use borrow.Struct.Reads
 use borrow.Table.Copies
 use borrow.Table.Elements
-use borrow.Table.Reads as Reads'
+use borrow.Table.Reads
 use borrow.Table.Referent
 use borrow.Table.Row
 use borrow.Table.Rows
@@ -76,13 +75,16 @@ abbrev pub y5· : Syntax.Ty
 y5· = Syntax.tyStruct (114 ∷ 101 ∷ 108 ∷ 97 ∷ 120 ∷ 58 ∷ 58 ∷ 82 ∷ 101 ∷ 108 ∷ 97 ∷ 120 ∷ 97 ∷ 98 ∷ 108 ∷ 101 ∷ 74 ∷ 117 ∷ 109 ∷ 112 ∷ []) (Syntax.tcons y1· (Syntax.tcons y1· (Syntax.tcons y1· (Syntax.tcons (Syntax.tyEnum (114 ∷ 101 ∷ 108 ∷ 97 ∷ 120 ∷ 58 ∷ 58 ∷ 67 ∷ 111 ∷ 110 ∷ 100 ∷ 105 ∷ 116 ∷ 105 ∷ 111 ∷ 110 ∷ []) (Syntax.ttcons Syntax.tnil (Syntax.ttcons (Syntax.tcons y1· Syntax.tnil) Syntax.ttnil))) Syntax.tnil))))
 
 abbrev pub y6· : Syntax.Ty
-y6· = Syntax.tyStruct (114 ∷ 101 ∷ 108 ∷ 97 ∷ 120 ∷ 58 ∷ 58 ∷ 83 ∷ 101 ∷ 103 ∷ 109 ∷ 101 ∷ 110 ∷ 116 ∷ []) (Syntax.tcons y1· (Syntax.tcons y1· (Syntax.tcons y1· (Syntax.tcons y1· Syntax.tnil))))
+y6· = Syntax.tyStruct (114 ∷ 101 ∷ 108 ∷ 97 ∷ 120 ∷ 58 ∷ 58 ∷ 65 ∷ 108 ∷ 105 ∷ 103 ∷ 110 ∷ 109 ∷ 101 ∷ 110 ∷ 116 ∷ []) (Syntax.tcons y1· (Syntax.tcons y1· (Syntax.tcons y1· Syntax.tnil)))
 
 abbrev pub y7· : Syntax.Ty
-y7· = Syntax.tyRef (Syntax.named 0) Syntax.imm y2·
+y7· = Syntax.tyStruct (114 ∷ 101 ∷ 108 ∷ 97 ∷ 120 ∷ 58 ∷ 58 ∷ 83 ∷ 101 ∷ 103 ∷ 109 ∷ 101 ∷ 110 ∷ 116 ∷ []) (Syntax.tcons y1· (Syntax.tcons y1· (Syntax.tcons y1· (Syntax.tcons y1· Syntax.tnil))))
 
 abbrev pub y8· : Syntax.Ty
-y8· = Syntax.tyRef (Syntax.named 1) Syntax.imm y2·
+y8· = Syntax.tyRef (Syntax.named 0) Syntax.imm y2·
+
+abbrev pub y9· : Syntax.Ty
+y9· = Syntax.tyRef (Syntax.named 1) Syntax.imm y2·
 
 abbrev pub e0· : RT·.RattleType
 e0· = Referent.rtF (Referent.fInt Syntax.w8)
@@ -91,10 +93,10 @@ abbrev pub r0· : Row.Entry
 r0· = (0, Rows.any-gone Syntax.tyBool)
 
 abbrev pub r1· : Row.Entry
-r1· = (1, Rows.sslice e0· y7· 0)
+r1· = (1, Rows.sslice e0· y8· 0)
 
 abbrev pub r2· : Row.Entry
-r2· = (2, Rows.sslice e0· y8· 1)
+r2· = (2, Rows.sslice e0· y9· 1)
 
 abbrev pub r3· : Row.Entry
 r3· = (3, Rows.sslice Segment.the-row y3· 2)
@@ -115,10 +117,10 @@ abbrev pub r8· : Row.Entry
 r8· = (8, Rows.any-gone y0·)
 
 abbrev pub r9· : Row.Entry
-r9· = (9, Rows.any-gone (Syntax.tyEnum (114 ∷ 101 ∷ 108 ∷ 97 ∷ 120 ∷ 58 ∷ 58 ∷ 76 ∷ 97 ∷ 121 ∷ 111 ∷ 117 ∷ 116 ∷ 69 ∷ 118 ∷ 101 ∷ 110 ∷ 116 ∷ []) (Syntax.ttcons (Syntax.tcons y5· Syntax.tnil) (Syntax.ttcons (Syntax.tcons y1· (Syntax.tcons y1· (Syntax.tcons y1· Syntax.tnil))) Syntax.ttnil))))
+r9· = (9, Rows.any-gone (Syntax.tyEnum (114 ∷ 101 ∷ 108 ∷ 97 ∷ 120 ∷ 58 ∷ 58 ∷ 76 ∷ 97 ∷ 121 ∷ 111 ∷ 117 ∷ 116 ∷ 69 ∷ 118 ∷ 101 ∷ 110 ∷ 116 ∷ []) (Syntax.ttcons (Syntax.tcons y5· Syntax.tnil) (Syntax.ttcons (Syntax.tcons y6· Syntax.tnil) Syntax.ttnil))))
 
 abbrev pub r10· : Row.Entry
-r10· = (10, Rows.any-gone y6·)
+r10· = (10, Rows.any-gone y7·)
 
 abbrev pub r11· : Row.Entry
 r11· = (11, Rows.any-gone Syntax.tyBool)
@@ -196,7 +198,7 @@ abbrev pub r : Kinds.RK 4
 r = Bool.rBool
 
 abbrev pub xs : List.List Syntax.Ty
-xs = Syntax.tyBool ∷ y0· ∷ (Syntax.tyEnum (114 ∷ 101 ∷ 108 ∷ 97 ∷ 120 ∷ 58 ∷ 58 ∷ 76 ∷ 97 ∷ 121 ∷ 111 ∷ 117 ∷ 116 ∷ 69 ∷ 118 ∷ 101 ∷ 110 ∷ 116 ∷ []) (Syntax.ttcons (Syntax.tcons y5· Syntax.tnil) (Syntax.ttcons (Syntax.tcons y1· (Syntax.tcons y1· (Syntax.tcons y1· Syntax.tnil))) Syntax.ttnil))) ∷ y6· ∷ Syntax.tyBool ∷ y1· ∷ Syntax.tyBool ∷ Syntax.tyPtr ∷ y0· ∷ y1· ∷ Syntax.tyBool ∷ Syntax.tyPtr ∷ []
+xs = Syntax.tyBool ∷ y0· ∷ (Syntax.tyEnum (114 ∷ 101 ∷ 108 ∷ 97 ∷ 120 ∷ 58 ∷ 58 ∷ 76 ∷ 97 ∷ 121 ∷ 111 ∷ 117 ∷ 116 ∷ 69 ∷ 118 ∷ 101 ∷ 110 ∷ 116 ∷ []) (Syntax.ttcons (Syntax.tcons y5· Syntax.tnil) (Syntax.ttcons (Syntax.tcons y6· Syntax.tnil) Syntax.ttnil))) ∷ y7· ∷ Syntax.tyBool ∷ y1· ∷ Syntax.tyBool ∷ Syntax.tyPtr ∷ y0· ∷ y1· ∷ Syntax.tyBool ∷ Syntax.tyPtr ∷ []
 
 abbrev pub m : Nat.ℕ
 m = 0
@@ -226,7 +228,7 @@ abbrev pub r·3 : Kinds.RK 1
 r·3 = Num.rNum Syntax.w32
 
 abbrev pub ps·4 : List.List (Kinds.PK 0)
-ps·4 = (Value.pVal record { ty = Declared.row LayoutEvent.the-type; one = Path'.refl; val = Laws''.val LayoutEvent.the-type Laws.the-laws; tells = Laws''.tells LayoutEvent.the-type Laws.the-laws; still = Laws''.still LayoutEvent.the-type Laws.the-copy Exit.yes; row = Rows.whole (Declared.row LayoutEvent.the-type); rd = λ x. x; mk = λ x. x } λ M 𝓤 H A W. record { copies = Laws''.copy LayoutEvent.the-type Laws.the-copy 𝓤 H A W; lawful = Laws''.lawful LayoutEvent.the-type Laws.the-laws 𝓤 H A W tt; makes = Laws''.makes LayoutEvent.the-type Laws.the-plain 𝓤 H A; in-mem = Local.mem-whole 𝓤 H A W (Declared.row LayoutEvent.the-type); of-mem = Local.whole-mem 𝓤 H A W (Declared.row LayoutEvent.the-type) }) ∷ Bool.pBool ∷ (Num.pNum Syntax.w32) ∷ (Num.pNum Syntax.w32) ∷ []
+ps·4 = (Value.pVal record { ty = Declared.row LayoutEvent.the-type; one = Path'.refl; val = Laws''.val LayoutEvent.the-type Laws.the-laws; tells = Laws''.tells LayoutEvent.the-type Laws.the-laws; still = Laws''.still LayoutEvent.the-type Laws.the-copy Exit.yes; row = Rows.whole (Declared.row LayoutEvent.the-type); rd = λ x. x; mk = λ x. x } λ M 𝓤 H A W. record { copies = Laws''.copy LayoutEvent.the-type Laws.the-copy 𝓤 H A W; lawful = Laws''.lawful LayoutEvent.the-type Laws.the-laws 𝓤 H A W tt; makes = Laws''.makes LayoutEvent.the-type Laws.the-plain 𝓤 H A; in-mem = Local.mem-whole 𝓤 H A W (Declared.row LayoutEvent.the-type); of-mem = Local.whole-mem 𝓤 H A W (Declared.row LayoutEvent.the-type) }) ∷ Bool.pBool ∷ (Value.pVal record { ty = Declared'.row Segment.the-type; one = Path'.refl; val = Laws'3.val Segment.the-type Laws'.the-laws; tells = Laws'3.tells Segment.the-type Laws'.the-laws; still = Laws'3.still Segment.the-type Laws'.the-copy Exit.yes; row = Rows.whole (Declared'.row Segment.the-type); rd = λ x. x; mk = λ x. x } λ M 𝓤 H A W. record { copies = Laws'3.copy Segment.the-type Laws'.the-copy 𝓤 H A W; lawful = Laws'3.lawful Segment.the-type Laws'.the-laws 𝓤 H A W; makes = Laws'3.makes Segment.the-type Laws'.the-plain 𝓤 H A; in-mem = Local.mem-whole 𝓤 H A W (Declared'.row Segment.the-type); of-mem = Local.whole-mem 𝓤 H A W (Declared'.row Segment.the-type) }) ∷ (Num.pNum Syntax.w32) ∷ []
 
 abbrev pub r·4 : Kinds.RK 0
 r·4 = Bool.rBool
@@ -277,7 +279,7 @@ abbrev b13 : Syntax.Body
 b13 = Syntax.call "layout::map" ((Syntax.copy (Syntax.place 3 List.[])) ∷ (Syntax.copy (Syntax.place 15 List.[])) ∷ (Syntax.copy (Syntax.place 16 List.[])) ∷ []) (Syntax.place 12 List.[])
 
 abbrev b14 : Syntax.Body
-b14 = Syntax.call "layout::is_far" ((Syntax.copy (Syntax.place 9 List.[])) ∷ (Syntax.copy (Syntax.place 11 List.[])) ∷ (Syntax.copy (Syntax.place 10 ((Syntax.field 3) ∷ []))) ∷ (Syntax.copy (Syntax.place 12 List.[])) ∷ []) (Syntax.place 17 List.[])
+b14 = Syntax.call "layout::is_far" ((Syntax.copy (Syntax.place 9 List.[])) ∷ (Syntax.copy (Syntax.place 11 List.[])) ∷ (Syntax.copy (Syntax.place 10 List.[])) ∷ (Syntax.copy (Syntax.place 12 List.[])) ∷ []) (Syntax.place 17 List.[])
 
 abbrev b15 : Syntax.Body
 b15 = Syntax.assign (Syntax.place 18 List.[]) (Syntax.op2 Syntax.offset (Syntax.copy (Syntax.place 4 ((Syntax.field 0) ∷ []))) (Syntax.copy (Syntax.place 8 List.[])))
@@ -608,10 +610,10 @@ MeasureT-loop = List.List (Referent.rtF (Referent.fInt Syntax.w8) .Denot) → Li
 
 module _ (claims· : Claims) where
   abbrev s0 : Typed.Gives T0 T2
-  s0 = Know.k-shs-known (Referent.fInt Syntax.w8) T0 1 0 y7· Row.off 0 λ x. x
+  s0 = Know.k-shs-known (Referent.fInt Syntax.w8) T0 1 0 y8· Row.off 0 λ x. x
 
   abbrev s1 : Typed.Gives T2 T3
-  s1 = Know.k-shs-known (Referent.fInt Syntax.w8) T2 2 1 y8· Row.off 0 λ x. x
+  s1 = Know.k-shs-known (Referent.fInt Syntax.w8) T2 2 1 y9· Row.off 0 λ x. x
 
   abbrev s2 : Typed.Gives T3 T4
   s2 = Know.k-sl-known Referent.fBool T3 4 3 y4· Row.off Bool'.false λ x. x
@@ -632,13 +634,13 @@ module _ (claims· : Claims) where
   s7 = Scalar.n-room T8 13 Syntax.tyBool
 
   abbrev s8 : Typed.Both T9 T12
-  s8 = Call.callB ps·0 r·0 (claims· .0) (claims· .1) T9 (record { pos = 1; ty = Syntax.tyRef (Syntax.named 0) Syntax.imm y2·; ref = λ x. x }, (Num.vAt 8 λ x. x, tt)) 9 (0 ∷ []) (Syntax.tyEnum (114 ∷ 101 ∷ 108 ∷ 97 ∷ 120 ∷ 58 ∷ 58 ∷ 76 ∷ 97 ∷ 121 ∷ 111 ∷ 117 ∷ 116 ∷ 69 ∷ 118 ∷ 101 ∷ 110 ∷ 116 ∷ []) (Syntax.ttcons (Syntax.tcons y5· Syntax.tnil) (Syntax.ttcons (Syntax.tcons y1· (Syntax.tcons y1· (Syntax.tcons y1· Syntax.tnil))) Syntax.ttnil)))
+  s8 = Call.callB ps·0 r·0 (claims· .0) (claims· .1) T9 (record { pos = 1; ty = Syntax.tyRef (Syntax.named 0) Syntax.imm y2·; ref = λ x. x }, (Num.vAt 8 λ x. x, tt)) 9 (0 ∷ []) (Syntax.tyEnum (114 ∷ 101 ∷ 108 ∷ 97 ∷ 120 ∷ 58 ∷ 58 ∷ 76 ∷ 97 ∷ 121 ∷ 111 ∷ 117 ∷ 116 ∷ 69 ∷ 118 ∷ 101 ∷ 110 ∷ 116 ∷ []) (Syntax.ttcons (Syntax.tcons y5· Syntax.tnil) (Syntax.ttcons (Syntax.tcons y6· Syntax.tnil) Syntax.ttnil)))
 
   abbrev s9 : Typed.Both T12 T13
-  s9 = Call.callB ps·1 r·1 (claims· .2) (claims· .3) T12 (record { pos = 3; ty = Syntax.tyRef (Syntax.named 2) Syntax.imm (MEM·.pointee (Segment.the-row .written)); ref = λ x. x }, (Num.vAt 8 λ x. x, tt)) 10 (2 ∷ []) y6·
+  s9 = Call.callB ps·1 r·1 (claims· .2) (claims· .3) T12 (record { pos = 3; ty = Syntax.tyRef (Syntax.named 2) Syntax.imm (MEM·.pointee (Segment.the-row .written)); ref = λ x. x }, (Num.vAt 8 λ x. x, tt)) 10 (2 ∷ []) y7·
 
   abbrev s10 : Typed.Asks T13 T14
-  s10 = Scalar.k-op2 T13 Syntax.offset (Scalar.oFld 4 ((Syntax.field 0) ∷ []) y4· 0 Reads'.ptrVal) (Scalar.oAt 8 y0· (Row.valS (Row.sInt Syntax.w64))) 14 (Rows.sc-here Row.sPtr) (Row.sPtr .of)
+  s10 = Scalar.k-op2 T13 Syntax.offset (Scalar.oFld 4 ((Syntax.field 0) ∷ []) y4· 0 Reads.ptrVal) (Scalar.oAt 8 y0· (Row.valS (Row.sInt Syntax.w64))) 14 (Rows.sc-here Row.sPtr) (Row.sPtr .of)
 
   abbrev s11 : Typed.Gives T14 T15
   s11 = Know.k-sl-known Referent.fBool T14 4 3 y4· Row.off Bool'.false λ x. x
@@ -671,13 +673,13 @@ module _ (claims· : Claims) where
   s20 = Scalar.n-room T23 16 y1·
 
   abbrev s21 : Typed.Both T24 T25
-  s21 = Call.callB ps·4 r·4 (claims· .8) (claims· .9) T24 (record { pos = 9; st = List.[]; d = 0; at = λ x. x }, (Bool.bAt 11 λ x. x, (Num.vFld 10 ((Syntax.field 3) ∷ []) 12 λ x. Segment.struct .as-values x .1 .1 .1 .0, (Num.vAt 12 λ x. x, tt)))) 17 List.[] Syntax.tyBool
+  s21 = Call.callB ps·4 r·4 (claims· .8) (claims· .9) T24 (record { pos = 9; st = List.[]; d = 0; at = λ x. x }, (Bool.bAt 11 λ x. x, (record { pos = 10; st = List.[]; d = 0; at = λ x. x }, (Num.vAt 12 λ x. x, tt)))) 17 List.[] Syntax.tyBool
 
   abbrev s22 : Typed.Mo T25 → Typed.Mo T27
-  s22 = Scalar.n-room T25 9 (Syntax.tyEnum (114 ∷ 101 ∷ 108 ∷ 97 ∷ 120 ∷ 58 ∷ 58 ∷ 76 ∷ 97 ∷ 121 ∷ 111 ∷ 117 ∷ 116 ∷ 69 ∷ 118 ∷ 101 ∷ 110 ∷ 116 ∷ []) (Syntax.ttcons (Syntax.tcons y5· Syntax.tnil) (Syntax.ttcons (Syntax.tcons y1· (Syntax.tcons y1· (Syntax.tcons y1· Syntax.tnil))) Syntax.ttnil)))
+  s22 = Scalar.n-room T25 9 (Syntax.tyEnum (114 ∷ 101 ∷ 108 ∷ 97 ∷ 120 ∷ 58 ∷ 58 ∷ 76 ∷ 97 ∷ 121 ∷ 111 ∷ 117 ∷ 116 ∷ 69 ∷ 118 ∷ 101 ∷ 110 ∷ 116 ∷ []) (Syntax.ttcons (Syntax.tcons y5· Syntax.tnil) (Syntax.ttcons (Syntax.tcons y6· Syntax.tnil) Syntax.ttnil)))
 
   abbrev s23 : Typed.Mo T27 → Typed.Mo T28
-  s23 = Scalar.n-room T27 10 y6·
+  s23 = Scalar.n-room T27 10 y7·
 
   abbrev s24 : Typed.Mo T28 → Typed.Mo T29
   s24 = Scalar.n-room T28 7 Syntax.tyBool
@@ -686,7 +688,7 @@ module _ (claims· : Claims) where
   s25 = Scalar.n-room T29 17 Syntax.tyBool
 
   abbrev s26 : Typed.Asks T30 T31
-  s26 = Scalar.k-op2 T30 Syntax.offset (Scalar.oFld 4 ((Syntax.field 0) ∷ []) y4· 0 Reads'.ptrVal) (Scalar.oAt 8 y0· (Row.valS (Row.sInt Syntax.w64))) 18 (Rows.sc-here Row.sPtr) (Row.sPtr .of)
+  s26 = Scalar.k-op2 T30 Syntax.offset (Scalar.oFld 4 ((Syntax.field 0) ∷ []) y4· 0 Reads.ptrVal) (Scalar.oAt 8 y0· (Row.valS (Row.sInt Syntax.w64))) 18 (Rows.sc-here Row.sPtr) (Row.sPtr .of)
 
   abbrev s27 : Typed.Asks T31 T32
   s27 = Mut.k-sl-write Referent.fBool T31 4 18 3 y4· Row.off Shared.byByte (λ x. x) (λ x. x) (λ u. u .1 .1 .1 .1 .1 .1 .1 .1 .0) (Scalar.oBool Bool'.true)
@@ -1070,16 +1072,16 @@ module _ (claims· : Claims) where
           d4 = Scalar.t-cond 𝓤 H A W E 𝓣 G8 13 (λ x. x) b3 b4 Δ4 at1 at3 (Scalar.reads-sc 𝓤 H A W Row.sBool) Path'.refl d1 d3
 
           d5 : Typed.Typed 𝓤 H A 𝓣 E G33 b17 Δ5 at5
-          d5 = Typed.s-typed 𝓤 H A W 𝓣 E G33 b17 Δ5 (Typed.pass T33 T34 s29) tt (Scalar.t-use 𝓤 H A W E 𝓣 G33 (Scalar.oBool Bool'.true) 7 (Rows.sc-here Row.sBool) Syntax.tyBool (Row.valS Row.sBool) (Row.sBool .of) tt (Reads'.room-gone 𝓤 H A Syntax.tyBool) (Scalar.holds-sc 𝓤 H A W Row.sBool) Path'.refl (λ u. Path'.refl) λ u. tt)
+          d5 = Typed.s-typed 𝓤 H A W 𝓣 E G33 b17 Δ5 (Typed.pass T33 T34 s29) tt (Scalar.t-use 𝓤 H A W E 𝓣 G33 (Scalar.oBool Bool'.true) 7 (Rows.sc-here Row.sBool) Syntax.tyBool (Row.valS Row.sBool) (Row.sBool .of) tt (Reads.room-gone 𝓤 H A Syntax.tyBool) (Scalar.holds-sc 𝓤 H A W Row.sBool) Path'.refl (λ u. Path'.refl) λ u. tt)
 
           d6 : Typed.Typed 𝓤 H A 𝓣 E G32 b17 Δ5 at6
           d6 = Typed.g-pre 𝓤 H A W 𝓣 E G32 G33 b17 Δ5 (Typed.pass T32 T33 s28) at5 (Scalar.g-room 𝓤 H A W E G32 18 Syntax.tyPtr (Scalar.room-sc 𝓤 H A W Row.sPtr)) d5
 
           d7 : Typed.Typed 𝓤 H A 𝓣 E G31 b18 Δ5 at7
-          d7 = Typed.s-seq 𝓤 H A W 𝓣 E G31 G32 b16 b17 Δ5 (Typed.ask s27) at6 (Mut.t-sl-write 𝓤 H A W E 𝓣 Referent.fBool G31 4 18 3 y4· k3· Shared.byByte (λ x. x) (λ x. x) (Scalar.oBool Bool'.true) (λ u. u .1 .1 .1 .1 .1 .1 .1 .1 .0) (λ i o. Elements.at-byte o i) (Reads'.as-is 𝓤 H A (Mut.mslice (Referent.rtF Referent.fBool) y4· 3)) (Reads'.as-is 𝓤 H A (Rows.sc-here Row.sPtr)) tt Path'.refl tt Path'.refl λ u. Path'.refl) d6
+          d7 = Typed.s-seq 𝓤 H A W 𝓣 E G31 G32 b16 b17 Δ5 (Typed.ask s27) at6 (Mut.t-sl-write 𝓤 H A W E 𝓣 Referent.fBool G31 4 18 3 y4· k3· Shared.byByte (λ x. x) (λ x. x) (Scalar.oBool Bool'.true) (λ u. u .1 .1 .1 .1 .1 .1 .1 .1 .0) (λ i o. Elements.at-byte o i) (Reads.as-is 𝓤 H A (Mut.mslice (Referent.rtF Referent.fBool) y4· 3)) (Reads.as-is 𝓤 H A (Rows.sc-here Row.sPtr)) tt Path'.refl tt Path'.refl λ u. Path'.refl) d6
 
           d8 : Typed.Typed 𝓤 H A 𝓣 E G30 b19 Δ5 at8
-          d8 = Typed.s-seq 𝓤 H A W 𝓣 E G30 G31 b15 b18 Δ5 (Typed.ask s26) at7 (Scalar.t-op2 𝓤 H A W E 𝓣 G30 Syntax.offset (Scalar.oFld 4 ((Syntax.field 0) ∷ []) y4· 0 Reads'.ptrVal) (Scalar.oAt 8 y0· (Row.valS (Row.sInt Syntax.w64))) 18 (Rows.sc-here Row.sPtr) Syntax.tyPtr (Row.valS Row.sPtr) (Row.sPtr .of) (Mut.reads-mslice-ptr 𝓤 H A W (Referent.rtF Referent.fBool) y4· 3 0 Path'.refl, Path'.refl) (Scalar.reads-sc 𝓤 H A W (Row.sInt Syntax.w64), Path'.refl) (Reads'.room-gone 𝓤 H A Syntax.tyPtr) (Scalar.holds-sc 𝓤 H A W Row.sPtr) Path'.refl (λ u. Path'.refl) λ u. tt) d7
+          d8 = Typed.s-seq 𝓤 H A W 𝓣 E G30 G31 b15 b18 Δ5 (Typed.ask s26) at7 (Scalar.t-op2 𝓤 H A W E 𝓣 G30 Syntax.offset (Scalar.oFld 4 ((Syntax.field 0) ∷ []) y4· 0 Reads.ptrVal) (Scalar.oAt 8 y0· (Row.valS (Row.sInt Syntax.w64))) 18 (Rows.sc-here Row.sPtr) Syntax.tyPtr (Row.valS Row.sPtr) (Row.sPtr .of) (Mut.reads-mslice-ptr 𝓤 H A W (Referent.rtF Referent.fBool) y4· 3 0 Path'.refl, Path'.refl) (Scalar.reads-sc 𝓤 H A W (Row.sInt Syntax.w64), Path'.refl) (Reads.room-gone 𝓤 H A Syntax.tyPtr) (Scalar.holds-sc 𝓤 H A W Row.sPtr) Path'.refl (λ u. Path'.refl) λ u. tt) d7
 
           d9 : Typed.Typed 𝓤 H A 𝓣 E G29 b19 Δ5 at9
           d9 = Typed.g-pre 𝓤 H A W 𝓣 E G29 G30 b19 Δ5 (Typed.pass T29 T30 s25) at8 (Scalar.g-room 𝓤 H A W E G29 17 Syntax.tyBool (Scalar.room-sc 𝓤 H A W Row.sBool)) d8
@@ -1097,10 +1099,10 @@ module _ (claims· : Claims) where
           d13 = Scalar.t-cond 𝓤 H A W E 𝓣 G28 17 (λ x. x) b19 b20 Δ5 at10 at12 (Scalar.reads-sc 𝓤 H A W Row.sBool) Path'.refl d10 d12
 
           d14 : Typed.Typed 𝓤 H A 𝓣 E G27 b21 Δ5 at14
-          d14 = Typed.g-pre 𝓤 H A W 𝓣 E G27 G28 b21 Δ5 (Typed.pass T27 T28 s23) at13 (Scalar.g-room 𝓤 H A W E G27 10 y6· (Local.room-whole 𝓤 H A W (Declared'.row Segment.the-type) y6· Path'.refl)) d13
+          d14 = Typed.g-pre 𝓤 H A W 𝓣 E G27 G28 b21 Δ5 (Typed.pass T27 T28 s23) at13 (Scalar.g-room 𝓤 H A W E G27 10 y7· (Local.room-whole 𝓤 H A W (Declared'.row Segment.the-type) y7· Path'.refl)) d13
 
           d15 : Typed.Typed 𝓤 H A 𝓣 E G25 b21 Δ5 at15
-          d15 = Typed.g-pre 𝓤 H A W 𝓣 E G25 G27 b21 Δ5 (Typed.pass T25 T27 s22) at14 (Scalar.g-room 𝓤 H A W E G25 9 (Syntax.tyEnum (114 ∷ 101 ∷ 108 ∷ 97 ∷ 120 ∷ 58 ∷ 58 ∷ 76 ∷ 97 ∷ 121 ∷ 111 ∷ 117 ∷ 116 ∷ 69 ∷ 118 ∷ 101 ∷ 110 ∷ 116 ∷ []) (Syntax.ttcons (Syntax.tcons y5· Syntax.tnil) (Syntax.ttcons (Syntax.tcons y1· (Syntax.tcons y1· (Syntax.tcons y1· Syntax.tnil))) Syntax.ttnil))) (Local.room-whole 𝓤 H A W (Declared.row LayoutEvent.the-type) (Syntax.tyEnum (114 ∷ 101 ∷ 108 ∷ 97 ∷ 120 ∷ 58 ∷ 58 ∷ 76 ∷ 97 ∷ 121 ∷ 111 ∷ 117 ∷ 116 ∷ 69 ∷ 118 ∷ 101 ∷ 110 ∷ 116 ∷ []) (Syntax.ttcons (Syntax.tcons y5· Syntax.tnil) (Syntax.ttcons (Syntax.tcons y1· (Syntax.tcons y1· (Syntax.tcons y1· Syntax.tnil))) Syntax.ttnil))) Path'.refl)) d14
+          d15 = Typed.g-pre 𝓤 H A W 𝓣 E G25 G27 b21 Δ5 (Typed.pass T25 T27 s22) at14 (Scalar.g-room 𝓤 H A W E G25 9 (Syntax.tyEnum (114 ∷ 101 ∷ 108 ∷ 97 ∷ 120 ∷ 58 ∷ 58 ∷ 76 ∷ 97 ∷ 121 ∷ 111 ∷ 117 ∷ 116 ∷ 69 ∷ 118 ∷ 101 ∷ 110 ∷ 116 ∷ []) (Syntax.ttcons (Syntax.tcons y5· Syntax.tnil) (Syntax.ttcons (Syntax.tcons y6· Syntax.tnil) Syntax.ttnil))) (Local.room-whole 𝓤 H A W (Declared.row LayoutEvent.the-type) (Syntax.tyEnum (114 ∷ 101 ∷ 108 ∷ 97 ∷ 120 ∷ 58 ∷ 58 ∷ 76 ∷ 97 ∷ 121 ∷ 111 ∷ 117 ∷ 116 ∷ 69 ∷ 118 ∷ 101 ∷ 110 ∷ 116 ∷ []) (Syntax.ttcons (Syntax.tcons y5· Syntax.tnil) (Syntax.ttcons (Syntax.tcons y6· Syntax.tnil) Syntax.ttnil))) Path'.refl)) d14
 
           d16 : Typed.Typed 𝓤 H A 𝓣 E G26 b22 Δ3 at16
           unfolding at16
@@ -1110,7 +1112,7 @@ module _ (claims· : Claims) where
           d17 = Typed.t-seq 𝓤 H A W 𝓣 E G25 G26 b21 b22 Δ3 at15 at16 d15 d16
 
           d18 : Typed.Typed 𝓤 H A 𝓣 E G24 b24 Δ3 at18
-          d18 = Typed.s-seq 𝓤 H A W 𝓣 E G24 G25 b14 b23 Δ3 (Typed.both s21) at17 (Plain.t-call-plain 𝓤 H A W 𝓣 0 ps·4 r·4 (claims· .8) (claims· .9) "layout::is_far" (known .4) E (λ pos β. β) G24 (record { pos = 9; st = List.[]; d = 0; at = λ x. x }, (Bool.bAt 11 λ x. x, (Num.vFld 10 ((Syntax.field 3) ∷ []) 12 λ x. Segment.struct .as-values x .1 .1 .1 .0, (Num.vAt 12 λ x. x, tt)))) 17 List.[] (Call.sub-id 𝓤 H A W (G24 .slots)) ((Yields.yields-copy 𝓤 H A W (λ ρ. Unit) (Declared.row LayoutEvent.the-type) Path'.refl (Copies.cEnum LayoutEvent.the-type Laws.the-laws Laws.the-copy .copy 𝓤 H A W) (Rows.whole (Declared.row LayoutEvent.the-type)) (λ x. x) (λ x. x) (λ ρ told. Local.mem-whole 𝓤 H A W (Declared.row LayoutEvent.the-type) ρ) λ ρ told. Local.whole-mem 𝓤 H A W (Declared.row LayoutEvent.the-type) ρ, Path'.refl), ((Scalar.reads-sc 𝓤 H A W Row.sBool, Path'.refl), ((Reads.reads-field 𝓤 H A W Segment.the-type Laws'.the-laws 3 y1· 12 Path'.refl, Path'.refl), ((Scalar.reads-sc 𝓤 H A W (Row.sInt Syntax.w32), Path'.refl), tt)))) (Reads'.room-gone 𝓤 H A Syntax.tyBool) tt Path'.refl) d17
+          d18 = Typed.s-seq 𝓤 H A W 𝓣 E G24 G25 b14 b23 Δ3 (Typed.both s21) at17 (Plain.t-call-plain 𝓤 H A W 𝓣 0 ps·4 r·4 (claims· .8) (claims· .9) "layout::is_far" (known .4) E (λ pos β. β) G24 (record { pos = 9; st = List.[]; d = 0; at = λ x. x }, (Bool.bAt 11 λ x. x, (record { pos = 10; st = List.[]; d = 0; at = λ x. x }, (Num.vAt 12 λ x. x, tt)))) 17 List.[] (Call.sub-id 𝓤 H A W (G24 .slots)) ((Yields.yields-copy 𝓤 H A W (λ ρ. Unit) (Declared.row LayoutEvent.the-type) Path'.refl (Copies.cEnum LayoutEvent.the-type Laws.the-laws Laws.the-copy .copy 𝓤 H A W) (Rows.whole (Declared.row LayoutEvent.the-type)) (λ x. x) (λ x. x) (λ ρ told. Local.mem-whole 𝓤 H A W (Declared.row LayoutEvent.the-type) ρ) λ ρ told. Local.whole-mem 𝓤 H A W (Declared.row LayoutEvent.the-type) ρ, Path'.refl), ((Scalar.reads-sc 𝓤 H A W Row.sBool, Path'.refl), ((Yields.yields-copy 𝓤 H A W (λ ρ. Unit) (Declared'.row Segment.the-type) Path'.refl (Copies.cStruct Segment.the-type Laws'.the-laws Laws'.the-copy .copy 𝓤 H A W) (Rows.whole (Declared'.row Segment.the-type)) (λ x. x) (λ x. x) (λ ρ told. Local.mem-whole 𝓤 H A W (Declared'.row Segment.the-type) ρ) λ ρ told. Local.whole-mem 𝓤 H A W (Declared'.row Segment.the-type) ρ, Path'.refl), ((Scalar.reads-sc 𝓤 H A W (Row.sInt Syntax.w32), Path'.refl), tt)))) (Reads.room-gone 𝓤 H A Syntax.tyBool) tt Path'.refl) d17
 
           d19 : Typed.Typed 𝓤 H A 𝓣 E G23 b24 Δ3 at19
           d19 = Typed.g-pre 𝓤 H A W 𝓣 E G23 G24 b24 Δ3 (Typed.pass T23 T24 s20) at18 (Scalar.g-room 𝓤 H A W E G23 16 y1· (Scalar.room-sc 𝓤 H A W (Row.sInt Syntax.w32))) d18
@@ -1119,43 +1121,43 @@ module _ (claims· : Claims) where
           d20 = Typed.g-pre 𝓤 H A W 𝓣 E G22 G23 b24 Δ3 (Typed.pass T22 T23 s19) at19 (Scalar.g-room 𝓤 H A W E G22 15 y0· (Scalar.room-sc 𝓤 H A W (Row.sInt Syntax.w64))) d19
 
           d21 : Typed.Typed 𝓤 H A 𝓣 E G21 b25 Δ3 at21
-          d21 = Typed.s-seq 𝓤 H A W 𝓣 E G21 G22 b13 b24 Δ3 (Typed.both s18) at20 (Plain.t-call-plain 𝓤 H A W 𝓣 1 ps·3 r·3 (claims· .6) (claims· .7) "layout::map" (known .3) E (λ pos β. β) G21 (record { pos = 3; ty = Syntax.tyRef (Syntax.named 2) Syntax.imm (MEM·.pointee (Segment.the-row .written)); ref = λ x. x }, (Num.vAt 15 λ x. x, (Num.vAt 16 λ x. x, tt))) 12 (2 ∷ []) (Call.sub-id 𝓤 H A W (G21 .slots)) (ShrSlice.spares-sslice 𝓤 H A W Segment.the-row y3· 2, Shared.reads-sslice 𝓤 H A W Segment.the-row y3· 2, Path'.refl, ((Scalar.reads-sc 𝓤 H A W (Row.sInt Syntax.w64), Path'.refl), ((Scalar.reads-sc 𝓤 H A W (Row.sInt Syntax.w32), Path'.refl), tt))) (Reads'.room-gone 𝓤 H A y1·) (tt, tt) Path'.refl) d20
+          d21 = Typed.s-seq 𝓤 H A W 𝓣 E G21 G22 b13 b24 Δ3 (Typed.both s18) at20 (Plain.t-call-plain 𝓤 H A W 𝓣 1 ps·3 r·3 (claims· .6) (claims· .7) "layout::map" (known .3) E (λ pos β. β) G21 (record { pos = 3; ty = Syntax.tyRef (Syntax.named 2) Syntax.imm (MEM·.pointee (Segment.the-row .written)); ref = λ x. x }, (Num.vAt 15 λ x. x, (Num.vAt 16 λ x. x, tt))) 12 (2 ∷ []) (Call.sub-id 𝓤 H A W (G21 .slots)) (ShrSlice.spares-sslice 𝓤 H A W Segment.the-row y3· 2, Shared.reads-sslice 𝓤 H A W Segment.the-row y3· 2, Path'.refl, ((Scalar.reads-sc 𝓤 H A W (Row.sInt Syntax.w64), Path'.refl), ((Scalar.reads-sc 𝓤 H A W (Row.sInt Syntax.w32), Path'.refl), tt))) (Reads.room-gone 𝓤 H A y1·) (tt, tt) Path'.refl) d20
 
           d22 : Typed.Typed 𝓤 H A 𝓣 E G20 b26 Δ3 at22
-          d22 = Typed.s-seq 𝓤 H A W 𝓣 E G20 G21 b12 b25 Δ3 (Typed.both s17) at21 (Plain.t-call-plain 𝓤 H A W 𝓣 1 ps·2 r·2 (claims· .4) (claims· .5) "layout::sought" (known .2) E (λ pos β. β) G20 (record { pos = 9; st = List.[]; d = 0; at = λ x. x }, (Bool.bAt 11 λ x. x, (record { pos = 2; ty = Syntax.tyRef (Syntax.named 1) Syntax.imm y2·; ref = λ x. x }, tt))) 16 (1 ∷ []) (Call.sub-id 𝓤 H A W (G20 .slots)) ((Yields.yields-copy 𝓤 H A W (λ ρ. Unit) (Declared.row LayoutEvent.the-type) Path'.refl (Copies.cEnum LayoutEvent.the-type Laws.the-laws Laws.the-copy .copy 𝓤 H A W) (Rows.whole (Declared.row LayoutEvent.the-type)) (λ x. x) (λ x. x) (λ ρ told. Local.mem-whole 𝓤 H A W (Declared.row LayoutEvent.the-type) ρ) λ ρ told. Local.whole-mem 𝓤 H A W (Declared.row LayoutEvent.the-type) ρ, Path'.refl), ((Scalar.reads-sc 𝓤 H A W Row.sBool, Path'.refl), (ShrSlice.spares-sslice 𝓤 H A W e0· y8· 1, Shared.reads-sslice 𝓤 H A W e0· y8· 1, Path'.refl, tt))) (Reads'.room-gone 𝓤 H A y1·) (tt, tt) Path'.refl) d21
+          d22 = Typed.s-seq 𝓤 H A W 𝓣 E G20 G21 b12 b25 Δ3 (Typed.both s17) at21 (Plain.t-call-plain 𝓤 H A W 𝓣 1 ps·2 r·2 (claims· .4) (claims· .5) "layout::sought" (known .2) E (λ pos β. β) G20 (record { pos = 9; st = List.[]; d = 0; at = λ x. x }, (Bool.bAt 11 λ x. x, (record { pos = 2; ty = Syntax.tyRef (Syntax.named 1) Syntax.imm y2·; ref = λ x. x }, tt))) 16 (1 ∷ []) (Call.sub-id 𝓤 H A W (G20 .slots)) ((Yields.yields-copy 𝓤 H A W (λ ρ. Unit) (Declared.row LayoutEvent.the-type) Path'.refl (Copies.cEnum LayoutEvent.the-type Laws.the-laws Laws.the-copy .copy 𝓤 H A W) (Rows.whole (Declared.row LayoutEvent.the-type)) (λ x. x) (λ x. x) (λ ρ told. Local.mem-whole 𝓤 H A W (Declared.row LayoutEvent.the-type) ρ) λ ρ told. Local.whole-mem 𝓤 H A W (Declared.row LayoutEvent.the-type) ρ, Path'.refl), ((Scalar.reads-sc 𝓤 H A W Row.sBool, Path'.refl), (ShrSlice.spares-sslice 𝓤 H A W e0· y9· 1, Shared.reads-sslice 𝓤 H A W e0· y9· 1, Path'.refl, tt))) (Reads.room-gone 𝓤 H A y1·) (tt, tt) Path'.refl) d21
 
           d23 : Typed.Typed 𝓤 H A 𝓣 E G19 b27 Δ3 at23
-          d23 = Typed.s-seq 𝓤 H A W 𝓣 E G19 G20 b11 b26 Δ3 (Typed.ask s16) at22 (Scalar.t-op2 𝓤 H A W E 𝓣 G19 (Syntax.add Syntax.unsigned) (Scalar.oAt 5 y0· (Row.valS (Row.sInt Syntax.w64))) (Scalar.oAt 6 y0· (Row.valS (Row.sInt Syntax.w64))) 15 (Rows.sc-here (Row.sInt Syntax.w64)) y0· (Row.valS (Row.sInt Syntax.w64)) (Row.sInt Syntax.w64 .of) (Scalar.reads-sc 𝓤 H A W (Row.sInt Syntax.w64), Path'.refl) (Scalar.reads-sc 𝓤 H A W (Row.sInt Syntax.w64), Path'.refl) (Reads'.room-gone 𝓤 H A y0·) (Scalar.holds-sc 𝓤 H A W (Row.sInt Syntax.w64)) Path'.refl (λ u. Path'.refl) λ u. tt) d22
+          d23 = Typed.s-seq 𝓤 H A W 𝓣 E G19 G20 b11 b26 Δ3 (Typed.ask s16) at22 (Scalar.t-op2 𝓤 H A W E 𝓣 G19 (Syntax.add Syntax.unsigned) (Scalar.oAt 5 y0· (Row.valS (Row.sInt Syntax.w64))) (Scalar.oAt 6 y0· (Row.valS (Row.sInt Syntax.w64))) 15 (Rows.sc-here (Row.sInt Syntax.w64)) y0· (Row.valS (Row.sInt Syntax.w64)) (Row.sInt Syntax.w64 .of) (Scalar.reads-sc 𝓤 H A W (Row.sInt Syntax.w64), Path'.refl) (Scalar.reads-sc 𝓤 H A W (Row.sInt Syntax.w64), Path'.refl) (Reads.room-gone 𝓤 H A y0·) (Scalar.holds-sc 𝓤 H A W (Row.sInt Syntax.w64)) Path'.refl (λ u. Path'.refl) λ u. tt) d22
 
           d24 : Typed.Typed 𝓤 H A 𝓣 E G18 b27 Δ3 at24
           d24 = Typed.g-pre 𝓤 H A W 𝓣 E G18 G19 b27 Δ3 (Typed.pass T18 T19 s15) at23 (Scalar.g-room 𝓤 H A W E G18 13 Syntax.tyBool (Scalar.room-sc 𝓤 H A W Row.sBool)) d23
 
           d25 : Typed.Typed 𝓤 H A 𝓣 E G17 b28 Δ3 at25
-          d25 = Typed.s-seq 𝓤 H A W 𝓣 E G17 G18 b10 b27 Δ3 (Typed.pass T17 T18 s14) at24 (Scalar.t-use 𝓤 H A W E 𝓣 G17 (Scalar.oAt 13 Syntax.tyBool (Row.valS Row.sBool)) 11 (Rows.sc-here Row.sBool) Syntax.tyBool (Row.valS Row.sBool) (Row.sBool .of) (Scalar.reads-sc 𝓤 H A W Row.sBool, Path'.refl) (Reads'.room-gone 𝓤 H A Syntax.tyBool) (Scalar.holds-sc 𝓤 H A W Row.sBool) Path'.refl (λ u. Path'.refl) λ u. tt) d24
+          d25 = Typed.s-seq 𝓤 H A W 𝓣 E G17 G18 b10 b27 Δ3 (Typed.pass T17 T18 s14) at24 (Scalar.t-use 𝓤 H A W E 𝓣 G17 (Scalar.oAt 13 Syntax.tyBool (Row.valS Row.sBool)) 11 (Rows.sc-here Row.sBool) Syntax.tyBool (Row.valS Row.sBool) (Row.sBool .of) (Scalar.reads-sc 𝓤 H A W Row.sBool, Path'.refl) (Reads.room-gone 𝓤 H A Syntax.tyBool) (Scalar.holds-sc 𝓤 H A W Row.sBool) Path'.refl (λ u. Path'.refl) λ u. tt) d24
 
           d26 : Typed.Typed 𝓤 H A 𝓣 E G16 b28 Δ3 at26
           d26 = Typed.g-pre 𝓤 H A W 𝓣 E G16 G17 b28 Δ3 (Typed.pass T16 T17 s13) at25 (Scalar.g-room 𝓤 H A W E G16 14 Syntax.tyPtr (Scalar.room-sc 𝓤 H A W Row.sPtr)) d25
 
           d27 : Typed.Typed 𝓤 H A 𝓣 E G15 b29 Δ3 at27
-          d27 = Typed.s-seq 𝓤 H A W 𝓣 E G15 G16 b9 b28 Δ3 (Typed.ask s12) at26 (Mut.t-sl-read 𝓤 H A W E 𝓣 Referent.fBool G15 4 14 13 3 y4· k3· (Rows.sc-here Row.sBool) Shared.byByte Bool'.false (λ x. x) (λ x. x) (Row.valS Row.sBool) (Row.sBool .of) (λ u. u .1 .1 .1 .1 .1 .1 .1 .1 .0) (λ i o. Elements.at-byte o i) (Reads'.as-is 𝓤 H A (Mut.mslice (Referent.rtF Referent.fBool) y4· 3)) (Reads'.as-is 𝓤 H A (Rows.sc-here Row.sPtr)) (Reads'.room-gone 𝓤 H A Syntax.tyBool) (Scalar.holds-sc 𝓤 H A W Row.sBool) (λ u. Path'.refl) Path'.refl tt Path'.refl Path'.refl) d26
+          d27 = Typed.s-seq 𝓤 H A W 𝓣 E G15 G16 b9 b28 Δ3 (Typed.ask s12) at26 (Mut.t-sl-read 𝓤 H A W E 𝓣 Referent.fBool G15 4 14 13 3 y4· k3· (Rows.sc-here Row.sBool) Shared.byByte Bool'.false (λ x. x) (λ x. x) (Row.valS Row.sBool) (Row.sBool .of) (λ u. u .1 .1 .1 .1 .1 .1 .1 .1 .0) (λ i o. Elements.at-byte o i) (Reads.as-is 𝓤 H A (Mut.mslice (Referent.rtF Referent.fBool) y4· 3)) (Reads.as-is 𝓤 H A (Rows.sc-here Row.sPtr)) (Reads.room-gone 𝓤 H A Syntax.tyBool) (Scalar.holds-sc 𝓤 H A W Row.sBool) (λ u. Path'.refl) Path'.refl tt Path'.refl Path'.refl) d26
 
           d28 : Typed.Typed 𝓤 H A 𝓣 E G14 b29 Δ3 at28
-          d28 = Typed.g-pre 𝓤 H A W 𝓣 E G14 G15 b29 Δ3 (Typed.give s11) at27 (Know.g-sl-known 𝓤 H A W Referent.fBool E G14 4 3 y4· k3· Bool'.false (λ x. x) tt (Reads'.as-is 𝓤 H A (Mut.mslice (Referent.rtF Referent.fBool) y4· 3)) Path'.refl tt) d27
+          d28 = Typed.g-pre 𝓤 H A W 𝓣 E G14 G15 b29 Δ3 (Typed.give s11) at27 (Know.g-sl-known 𝓤 H A W Referent.fBool E G14 4 3 y4· k3· Bool'.false (λ x. x) tt (Reads.as-is 𝓤 H A (Mut.mslice (Referent.rtF Referent.fBool) y4· 3)) Path'.refl tt) d27
 
           d29 : Typed.Typed 𝓤 H A 𝓣 E G13 b30 Δ3 at29
-          d29 = Typed.s-seq 𝓤 H A W 𝓣 E G13 G14 b8 b29 Δ3 (Typed.ask s10) at28 (Scalar.t-op2 𝓤 H A W E 𝓣 G13 Syntax.offset (Scalar.oFld 4 ((Syntax.field 0) ∷ []) y4· 0 Reads'.ptrVal) (Scalar.oAt 8 y0· (Row.valS (Row.sInt Syntax.w64))) 14 (Rows.sc-here Row.sPtr) Syntax.tyPtr (Row.valS Row.sPtr) (Row.sPtr .of) (Mut.reads-mslice-ptr 𝓤 H A W (Referent.rtF Referent.fBool) y4· 3 0 Path'.refl, Path'.refl) (Scalar.reads-sc 𝓤 H A W (Row.sInt Syntax.w64), Path'.refl) (Reads'.room-gone 𝓤 H A Syntax.tyPtr) (Scalar.holds-sc 𝓤 H A W Row.sPtr) Path'.refl (λ u. Path'.refl) λ u. tt) d28
+          d29 = Typed.s-seq 𝓤 H A W 𝓣 E G13 G14 b8 b29 Δ3 (Typed.ask s10) at28 (Scalar.t-op2 𝓤 H A W E 𝓣 G13 Syntax.offset (Scalar.oFld 4 ((Syntax.field 0) ∷ []) y4· 0 Reads.ptrVal) (Scalar.oAt 8 y0· (Row.valS (Row.sInt Syntax.w64))) 14 (Rows.sc-here Row.sPtr) Syntax.tyPtr (Row.valS Row.sPtr) (Row.sPtr .of) (Mut.reads-mslice-ptr 𝓤 H A W (Referent.rtF Referent.fBool) y4· 3 0 Path'.refl, Path'.refl) (Scalar.reads-sc 𝓤 H A W (Row.sInt Syntax.w64), Path'.refl) (Reads.room-gone 𝓤 H A Syntax.tyPtr) (Scalar.holds-sc 𝓤 H A W Row.sPtr) Path'.refl (λ u. Path'.refl) λ u. tt) d28
 
           d30 : Typed.Typed 𝓤 H A 𝓣 E G12 b31 Δ3 at30
-          d30 = Typed.s-seq 𝓤 H A W 𝓣 E G12 G13 b7 b30 Δ3 (Typed.both s9) at29 (Plain.t-call-plain 𝓤 H A W 𝓣 1 ps·1 r·1 (claims· .2) (claims· .3) "layout::segment_at" (known .1) E (λ pos β. β) G12 (record { pos = 3; ty = Syntax.tyRef (Syntax.named 2) Syntax.imm (MEM·.pointee (Segment.the-row .written)); ref = λ x. x }, (Num.vAt 8 λ x. x, tt)) 10 (2 ∷ []) (Call.sub-id 𝓤 H A W (G12 .slots)) (ShrSlice.spares-sslice 𝓤 H A W Segment.the-row y3· 2, Shared.reads-sslice 𝓤 H A W Segment.the-row y3· 2, Path'.refl, ((Scalar.reads-sc 𝓤 H A W (Row.sInt Syntax.w64), Path'.refl), tt)) (Reads'.room-gone 𝓤 H A y6·) (tt, tt) Path'.refl) d29
+          d30 = Typed.s-seq 𝓤 H A W 𝓣 E G12 G13 b7 b30 Δ3 (Typed.both s9) at29 (Plain.t-call-plain 𝓤 H A W 𝓣 1 ps·1 r·1 (claims· .2) (claims· .3) "layout::segment_at" (known .1) E (λ pos β. β) G12 (record { pos = 3; ty = Syntax.tyRef (Syntax.named 2) Syntax.imm (MEM·.pointee (Segment.the-row .written)); ref = λ x. x }, (Num.vAt 8 λ x. x, tt)) 10 (2 ∷ []) (Call.sub-id 𝓤 H A W (G12 .slots)) (ShrSlice.spares-sslice 𝓤 H A W Segment.the-row y3· 2, Shared.reads-sslice 𝓤 H A W Segment.the-row y3· 2, Path'.refl, ((Scalar.reads-sc 𝓤 H A W (Row.sInt Syntax.w64), Path'.refl), tt)) (Reads.room-gone 𝓤 H A y7·) (tt, tt) Path'.refl) d29
 
           d31 : Typed.Typed 𝓤 H A 𝓣 E G9 b32 Δ3 at31
-          d31 = Typed.s-seq 𝓤 H A W 𝓣 E G9 G12 b6 b31 Δ3 (Typed.both s8) at30 (Plain.t-call-plain 𝓤 H A W 𝓣 1 ps·0 r·0 (claims· .0) (claims· .1) "relax::event_at" (known .0) E (λ pos β. β) G9 (record { pos = 1; ty = Syntax.tyRef (Syntax.named 0) Syntax.imm y2·; ref = λ x. x }, (Num.vAt 8 λ x. x, tt)) 9 (0 ∷ []) (Call.sub-id 𝓤 H A W (G9 .slots)) (ShrSlice.spares-sslice 𝓤 H A W e0· y7· 0, Shared.reads-sslice 𝓤 H A W e0· y7· 0, Path'.refl, ((Scalar.reads-sc 𝓤 H A W (Row.sInt Syntax.w64), Path'.refl), tt)) (Reads'.room-gone 𝓤 H A (Syntax.tyEnum (114 ∷ 101 ∷ 108 ∷ 97 ∷ 120 ∷ 58 ∷ 58 ∷ 76 ∷ 97 ∷ 121 ∷ 111 ∷ 117 ∷ 116 ∷ 69 ∷ 118 ∷ 101 ∷ 110 ∷ 116 ∷ []) (Syntax.ttcons (Syntax.tcons y5· Syntax.tnil) (Syntax.ttcons (Syntax.tcons y1· (Syntax.tcons y1· (Syntax.tcons y1· Syntax.tnil))) Syntax.ttnil)))) (tt, tt) Path'.refl) d30
+          d31 = Typed.s-seq 𝓤 H A W 𝓣 E G9 G12 b6 b31 Δ3 (Typed.both s8) at30 (Plain.t-call-plain 𝓤 H A W 𝓣 1 ps·0 r·0 (claims· .0) (claims· .1) "relax::event_at" (known .0) E (λ pos β. β) G9 (record { pos = 1; ty = Syntax.tyRef (Syntax.named 0) Syntax.imm y2·; ref = λ x. x }, (Num.vAt 8 λ x. x, tt)) 9 (0 ∷ []) (Call.sub-id 𝓤 H A W (G9 .slots)) (ShrSlice.spares-sslice 𝓤 H A W e0· y8· 0, Shared.reads-sslice 𝓤 H A W e0· y8· 0, Path'.refl, ((Scalar.reads-sc 𝓤 H A W (Row.sInt Syntax.w64), Path'.refl), tt)) (Reads.room-gone 𝓤 H A (Syntax.tyEnum (114 ∷ 101 ∷ 108 ∷ 97 ∷ 120 ∷ 58 ∷ 58 ∷ 76 ∷ 97 ∷ 121 ∷ 111 ∷ 117 ∷ 116 ∷ 69 ∷ 118 ∷ 101 ∷ 110 ∷ 116 ∷ []) (Syntax.ttcons (Syntax.tcons y5· Syntax.tnil) (Syntax.ttcons (Syntax.tcons y6· Syntax.tnil) Syntax.ttnil)))) (tt, tt) Path'.refl) d30
 
           d32 : Typed.Typed 𝓤 H A 𝓣 E G8 b33 Δ3 at32
           d32 = Typed.t-seq 𝓤 H A W 𝓣 E G8 G9 b5 b32 Δ3 at4 at31 d4 d31
 
           d33 : Typed.Typed 𝓤 H A 𝓣 E G6 b34 Δ3 at33
-          d33 = Typed.s-seq 𝓤 H A W 𝓣 E G6 G8 b2 b33 Δ3 (Typed.ask s5) at32 (Scalar.t-op2 𝓤 H A W E 𝓣 G6 (Syntax.lt Syntax.unsigned) (Scalar.oAt 8 y0· (Row.valS (Row.sInt Syntax.w64))) (Scalar.oAt 5 y0· (Row.valS (Row.sInt Syntax.w64))) 13 (Rows.sc-here Row.sBool) Syntax.tyBool (Row.valS Row.sBool) (Row.sBool .of) (Scalar.reads-sc 𝓤 H A W (Row.sInt Syntax.w64), Path'.refl) (Scalar.reads-sc 𝓤 H A W (Row.sInt Syntax.w64), Path'.refl) (Reads'.room-gone 𝓤 H A Syntax.tyBool) (Scalar.holds-sc 𝓤 H A W Row.sBool) Path'.refl (λ u. Path'.refl) λ u. tt) d32
+          d33 = Typed.s-seq 𝓤 H A W 𝓣 E G6 G8 b2 b33 Δ3 (Typed.ask s5) at32 (Scalar.t-op2 𝓤 H A W E 𝓣 G6 (Syntax.lt Syntax.unsigned) (Scalar.oAt 8 y0· (Row.valS (Row.sInt Syntax.w64))) (Scalar.oAt 5 y0· (Row.valS (Row.sInt Syntax.w64))) 13 (Rows.sc-here Row.sBool) Syntax.tyBool (Row.valS Row.sBool) (Row.sBool .of) (Scalar.reads-sc 𝓤 H A W (Row.sInt Syntax.w64), Path'.refl) (Scalar.reads-sc 𝓤 H A W (Row.sInt Syntax.w64), Path'.refl) (Reads.room-gone 𝓤 H A Syntax.tyBool) (Scalar.holds-sc 𝓤 H A W Row.sBool) Path'.refl (λ u. Path'.refl) λ u. tt) d32
 
           d34 : Typed.Typed 𝓤 H A 𝓣 E G6 b35 Δ2 at34
           d34 = Typed.t-loop-by 𝓤 H A W 𝓣 E G6 b34 Δ2 put0 (λ u vs. Inv·0 (Row.get 1 (T6 .locals) u .now) (Row.get 2 (T6 .locals) u .now) (Row.get 3 (T6 .locals) u .now) (Row.get 4 (T6 .locals) u .now) (Row.get 5 (T6 .locals) u) (Row.get 6 (T6 .locals) u) (Row.get 7 (T6 .locals) u) (Row.get 8 (T6 .locals) u) (vs .0) (vs .1) (vs .2)) (λ u vs. μ·0 (Row.get 1 (T6 .locals) u .now) (Row.get 2 (T6 .locals) u .now) (Row.get 3 (T6 .locals) u .now) (Row.get 4 (T6 .locals) u .now) (Row.get 5 (T6 .locals) u) (Row.get 6 (T6 .locals) u) (Row.get 7 (T6 .locals) u) (Row.get 8 (T6 .locals) u) (vs .0) (vs .1) (vs .2)) at33 d33
@@ -1179,25 +1181,25 @@ module _ (claims· : Claims) where
           d40 = Typed.g-pre 𝓤 H A W 𝓣 E G39 G40 b38 Δ0 (Typed.pass T39 T40 s35) at39 (Scalar.g-room 𝓤 H A W E G39 7 Syntax.tyBool (Scalar.room-sc 𝓤 H A W Row.sBool)) d39
 
           d41 : Typed.Typed 𝓤 H A 𝓣 E G7 b39 Δ0 at41
-          d41 = Typed.s-seq 𝓤 H A W 𝓣 E G7 G39 b37 b38 Δ0 (Typed.pass T7 T39 s34) at40 (Scalar.t-use 𝓤 H A W E 𝓣 G7 (Scalar.oAt 7 Syntax.tyBool (Row.valS Row.sBool)) 0 (Rows.sc-here Row.sBool) Syntax.tyBool (Row.valS Row.sBool) (Row.sBool .of) (Scalar.reads-sc 𝓤 H A W Row.sBool, Path'.refl) (Reads'.room-gone 𝓤 H A Syntax.tyBool) (Scalar.holds-sc 𝓤 H A W Row.sBool) Path'.refl (λ u. Path'.refl) λ u. tt) d40
+          d41 = Typed.s-seq 𝓤 H A W 𝓣 E G7 G39 b37 b38 Δ0 (Typed.pass T7 T39 s34) at40 (Scalar.t-use 𝓤 H A W E 𝓣 G7 (Scalar.oAt 7 Syntax.tyBool (Row.valS Row.sBool)) 0 (Rows.sc-here Row.sBool) Syntax.tyBool (Row.valS Row.sBool) (Row.sBool .of) (Scalar.reads-sc 𝓤 H A W Row.sBool, Path'.refl) (Reads.room-gone 𝓤 H A Syntax.tyBool) (Scalar.holds-sc 𝓤 H A W Row.sBool) Path'.refl (λ u. Path'.refl) λ u. tt) d40
 
           d42 : Typed.Typed 𝓤 H A 𝓣 E G6 b40 Δ0 at42
           d42 = Typed.t-seq 𝓤 H A W 𝓣 E G6 G7 b36 b39 Δ0 at35 at41 d35 d41
 
           d43 : Typed.Typed 𝓤 H A 𝓣 E G5 b41 Δ0 at43
-          d43 = Typed.s-seq 𝓤 H A W 𝓣 E G5 G6 b1 b40 Δ0 (Typed.pass T5 T6 s4) at42 (Scalar.t-use 𝓤 H A W E 𝓣 G5 (Scalar.oInt Syntax.w64 0) 8 (Rows.sc-here (Row.sInt Syntax.w64)) y0· (Row.valS (Row.sInt Syntax.w64)) (Row.sInt Syntax.w64 .of) tt (Reads'.room-gone 𝓤 H A y0·) (Scalar.holds-sc 𝓤 H A W (Row.sInt Syntax.w64)) Path'.refl (λ u. Path'.refl) λ u. tt) d42
+          d43 = Typed.s-seq 𝓤 H A W 𝓣 E G5 G6 b1 b40 Δ0 (Typed.pass T5 T6 s4) at42 (Scalar.t-use 𝓤 H A W E 𝓣 G5 (Scalar.oInt Syntax.w64 0) 8 (Rows.sc-here (Row.sInt Syntax.w64)) y0· (Row.valS (Row.sInt Syntax.w64)) (Row.sInt Syntax.w64 .of) tt (Reads.room-gone 𝓤 H A y0·) (Scalar.holds-sc 𝓤 H A W (Row.sInt Syntax.w64)) Path'.refl (λ u. Path'.refl) λ u. tt) d42
 
           d44 : Typed.Typed 𝓤 H A 𝓣 E G4 b42 Δ0 at44
-          d44 = Typed.s-seq 𝓤 H A W 𝓣 E G4 G5 b0 b41 Δ0 (Typed.pass T4 T5 s3) at43 (Scalar.t-use 𝓤 H A W E 𝓣 G4 (Scalar.oBool Bool'.false) 7 (Rows.sc-here Row.sBool) Syntax.tyBool (Row.valS Row.sBool) (Row.sBool .of) tt (Reads'.room-gone 𝓤 H A Syntax.tyBool) (Scalar.holds-sc 𝓤 H A W Row.sBool) Path'.refl (λ u. Path'.refl) λ u. tt) d43
+          d44 = Typed.s-seq 𝓤 H A W 𝓣 E G4 G5 b0 b41 Δ0 (Typed.pass T4 T5 s3) at43 (Scalar.t-use 𝓤 H A W E 𝓣 G4 (Scalar.oBool Bool'.false) 7 (Rows.sc-here Row.sBool) Syntax.tyBool (Row.valS Row.sBool) (Row.sBool .of) tt (Reads.room-gone 𝓤 H A Syntax.tyBool) (Scalar.holds-sc 𝓤 H A W Row.sBool) Path'.refl (λ u. Path'.refl) λ u. tt) d43
 
           d45 : Typed.Typed 𝓤 H A 𝓣 E G3 b42 Δ0 at45
-          d45 = Typed.g-pre 𝓤 H A W 𝓣 E G3 G4 b42 Δ0 (Typed.give s2) at44 (Know.g-sl-known 𝓤 H A W Referent.fBool E G3 4 3 y4· k3· Bool'.false (λ x. x) tt (Reads'.as-is 𝓤 H A (Mut.mslice (Referent.rtF Referent.fBool) y4· 3)) Path'.refl tt) d44
+          d45 = Typed.g-pre 𝓤 H A W 𝓣 E G3 G4 b42 Δ0 (Typed.give s2) at44 (Know.g-sl-known 𝓤 H A W Referent.fBool E G3 4 3 y4· k3· Bool'.false (λ x. x) tt (Reads.as-is 𝓤 H A (Mut.mslice (Referent.rtF Referent.fBool) y4· 3)) Path'.refl tt) d44
 
           d46 : Typed.Typed 𝓤 H A 𝓣 E G2 b42 Δ0 at46
-          d46 = Typed.g-pre 𝓤 H A W 𝓣 E G2 G3 b42 Δ0 (Typed.give s1) at45 (Know.g-shs-known 𝓤 H A W (Referent.fInt Syntax.w8) E G2 2 1 y8· k1· 0 (λ x. x) record { fits = Dec'.lit< tt } (Reads'.as-is 𝓤 H A (Rows.sslice e0· y8· 1)) Path'.refl tt) d45
+          d46 = Typed.g-pre 𝓤 H A W 𝓣 E G2 G3 b42 Δ0 (Typed.give s1) at45 (Know.g-shs-known 𝓤 H A W (Referent.fInt Syntax.w8) E G2 2 1 y9· k1· 0 (λ x. x) record { fits = Dec'.lit< tt } (Reads.as-is 𝓤 H A (Rows.sslice e0· y9· 1)) Path'.refl tt) d45
 
           d47 : Typed.Typed 𝓤 H A 𝓣 E G0 b42 Δ0 at47
-          d47 = Typed.g-pre 𝓤 H A W 𝓣 E G0 G2 b42 Δ0 (Typed.give s0) at46 (Know.g-shs-known 𝓤 H A W (Referent.fInt Syntax.w8) E G0 1 0 y7· k0· 0 (λ x. x) record { fits = Dec'.lit< tt } (Reads'.as-is 𝓤 H A (Rows.sslice e0· y7· 0)) Path'.refl tt) d46
+          d47 = Typed.g-pre 𝓤 H A W 𝓣 E G0 G2 b42 Δ0 (Typed.give s0) at46 (Know.g-shs-known 𝓤 H A W (Referent.fInt Syntax.w8) E G0 1 0 y8· k0· 0 (λ x. x) record { fits = Dec'.lit< tt } (Reads.as-is 𝓤 H A (Rows.sslice e0· y8· 0)) Path'.refl tt) d46
 
           pub typed : Typed.Typed 𝓤 H A 𝓣 E (Function.Γin 4 ps r xs m κs qs) b42 (Function.Δret 4 ps r xs m κs qs) Φ
           typed = d47
@@ -1442,14 +1444,14 @@ module _ (claims· : Claims) where
 
       module _ (before· : After-map) where
         abbrev pub After-is-far·own : Type 0
-        After-is-far·own = Called.Called ps·4 r·4 (claims· .9) T24 (record { pos = 9; st = List.[]; d = 0; at = λ x. x }, (Bool.bAt 11 λ x. x, (Num.vFld 10 ((Syntax.field 3) ∷ []) 12 λ x. Segment.struct .as-values x .1 .1 .1 .0, (Num.vAt 12 λ x. x, tt)))) (m22 (before· .before) (After-map·gave before·))
+        After-is-far·own = Called.Called ps·4 r·4 (claims· .9) T24 (record { pos = 9; st = List.[]; d = 0; at = λ x. x }, (Bool.bAt 11 λ x. x, (record { pos = 10; st = List.[]; d = 0; at = λ x. x }, (Num.vAt 12 λ x. x, tt)))) (m22 (before· .before) (After-map·gave before·))
 
       pub record After-is-far : Type 0 where
         pub before : After-map
         pub is-far : After-is-far·own before
 
       abbrev pub After-is-far·gave : (c : After-is-far) → s21 .gives (m22 (c .before .before) (After-map·gave (c .before)))
-      After-is-far·gave = λ c. Called.given ps·4 r·4 (claims· .9) T24 (record { pos = 9; st = List.[]; d = 0; at = λ x. x }, (Bool.bAt 11 λ x. x, (Num.vFld 10 ((Syntax.field 3) ∷ []) 12 λ x. Segment.struct .as-values x .1 .1 .1 .0, (Num.vAt 12 λ x. x, tt)))) (m22 (c .before .before) (After-map·gave (c .before))) (c .is-far)
+      After-is-far·gave = λ c. Called.given ps·4 r·4 (claims· .9) T24 (record { pos = 9; st = List.[]; d = 0; at = λ x. x }, (Bool.bAt 11 λ x. x, (record { pos = 10; st = List.[]; d = 0; at = λ x. x }, (Num.vAt 12 λ x. x, tt)))) (m22 (c .before .before) (After-map·gave (c .before))) (c .is-far)
 
       abbrev W5 : (before : After-map) → (given : s21 .gives (m22 (before .before) (After-map·gave before))) → Typed.Want O5
       W5 = λ before given. Typed.wantNext T26 O3 (at16 (W3 (before .before .before .before .before .before .before .before) (before .before .before .before .before .before .before .loop .long) (before .before .before .before .before .before .before .loop .grew) (before .before .before .before .before .before .before .loop .i))) (W3 (before .before .before .before .before .before .before .before) (before .before .before .before .before .before .before .loop .long) (before .before .before .before .before .before .before .loop .grew) (before .before .before .before .before .before .before .loop .i))
@@ -1564,7 +1566,7 @@ module _ (claims· : Claims) where
         lay8 = λ c. (λ taken. (tt, ((Path'.refl, Path'.refl, slice-write-long record { before = record { before = c .before; is-far = c .is-far }; if1 = record { taken = taken } }), lay9 record { before = record { before = c .before; is-far = c .is-far }; if1 = record { long = Row.get 4 (T26 .locals) (m31 record { before = c .before; is-far = c .is-far }) .now; grew = Row.get 7 (T26 .locals) (m31 record { before = c .before; is-far = c .is-far }); came = Logic.inl (record { taken = taken }, Path'.refl {a = Row.get 4 (T26 .locals) (m31 record { before = c .before; is-far = c .is-far }) .now}, Path'.refl {a = Row.get 7 (T26 .locals) (m31 record { before = c .before; is-far = c .is-far })}) } })), λ left. lay9 record { before = record { before = c .before; is-far = c .is-far }; if1 = record { long = Row.get 4 (T26 .locals) (m32 record { before = c .before; is-far = c .is-far }) .now; grew = Row.get 7 (T26 .locals) (m32 record { before = c .before; is-far = c .is-far }); came = Logic.inr (record { left = left }, Path'.refl {a = Row.get 4 (T26 .locals) (m32 record { before = c .before; is-far = c .is-far }) .now}, Path'.refl {a = Row.get 7 (T26 .locals) (m32 record { before = c .before; is-far = c .is-far })}) } })
 
         lay7 : (c : After-map) → at20 (W3 (c .before .before .before .before .before .before .before) (c .before .before .before .before .before .before .loop .long) (c .before .before .before .before .before .before .loop .grew) (c .before .before .before .before .before .before .loop .i)) (m20 (c .before) (After-map·gave c))
-        lay7 = λ c. (is-far-requires record { before = c .before; map = c .map }, λ g. lay8 record { before = record { before = c .before; map = c .map }; is-far = Called.called ps·4 r·4 (claims· .9) T24 (record { pos = 9; st = List.[]; d = 0; at = λ x. x }, (Bool.bAt 11 λ x. x, (Num.vFld 10 ((Syntax.field 3) ∷ []) 12 λ x. Segment.struct .as-values x .1 .1 .1 .0, (Num.vAt 12 λ x. x, tt)))) (m22 (c .before) (After-map·gave c)) g })
+        lay7 = λ c. (is-far-requires record { before = c .before; map = c .map }, λ g. lay8 record { before = record { before = c .before; map = c .map }; is-far = Called.called ps·4 r·4 (claims· .9) T24 (record { pos = 9; st = List.[]; d = 0; at = λ x. x }, (Bool.bAt 11 λ x. x, (record { pos = 10; st = List.[]; d = 0; at = λ x. x }, (Num.vAt 12 λ x. x, tt)))) (m22 (c .before) (After-map·gave c)) g })
 
         lay6 : (c : After-sought) → at21 (W3 (c .before .before .before .before .before .before) (c .before .before .before .before .before .loop .long) (c .before .before .before .before .before .loop .grew) (c .before .before .before .before .before .loop .i)) (m19 (c .before) (After-sought·gave c))
         lay6 = λ c. (map-requires record { before = c .before; sought = c .sought }, λ g. lay7 record { before = record { before = c .before; sought = c .sought }; map = Called.called ps·3 r·3 (claims· .7) T21 (record { pos = 3; ty = Syntax.tyRef (Syntax.named 2) Syntax.imm (MEM·.pointee (Segment.the-row .written)); ref = λ x. x }, (Num.vAt 15 λ x. x, (Num.vAt 16 λ x. x, tt))) (m19 (c .before) (After-sought·gave c)) g })

@@ -54,8 +54,17 @@ After-shared-slice-known6 = Lts.After-shared-slice-known6 (Reads.Asked, Reads.Le
 abbrev pub After-shared-slice-known7 : Type 0
 After-shared-slice-known7 = Lts.After-shared-slice-known7 (Reads.Asked, Reads.Learnt, Reads'4.Asked, Reads'4.Learnt, Reads'5.Asked, Reads'5.Learnt, Reads''.Asked, Reads''.Learnt, Reads'.Asked, Reads'.Learnt, Reads'6.Asked, Reads'6.Learnt) Reads'3.Pre Reads'3.Post
 
+abbrev pub After-struct-known : Type 0
+After-struct-known = Lts.After-struct-known (Reads.Asked, Reads.Learnt, Reads'4.Asked, Reads'4.Learnt, Reads'5.Asked, Reads'5.Learnt, Reads''.Asked, Reads''.Learnt, Reads'.Asked, Reads'.Learnt, Reads'6.Asked, Reads'6.Learnt) Reads'3.Pre Reads'3.Post
+
+abbrev pub After-struct-known2 : Type 0
+After-struct-known2 = Lts.After-struct-known2 (Reads.Asked, Reads.Learnt, Reads'4.Asked, Reads'4.Learnt, Reads'5.Asked, Reads'5.Learnt, Reads''.Asked, Reads''.Learnt, Reads'.Asked, Reads'.Learnt, Reads'6.Asked, Reads'6.Learnt) Reads'3.Pre Reads'3.Post
+
 abbrev pub After-emit-events-arg : Type 0
 After-emit-events-arg = Lts.After-emit-events-arg (Reads.Asked, Reads.Learnt, Reads'4.Asked, Reads'4.Learnt, Reads'5.Asked, Reads'5.Learnt, Reads''.Asked, Reads''.Learnt, Reads'.Asked, Reads'.Learnt, Reads'6.Asked, Reads'6.Learnt) Reads'3.Pre Reads'3.Post
+
+abbrev pub After-struct-known3 : Type 0
+After-struct-known3 = Lts.After-struct-known3 (Reads.Asked, Reads.Learnt, Reads'4.Asked, Reads'4.Learnt, Reads'5.Asked, Reads'5.Learnt, Reads''.Asked, Reads''.Learnt, Reads'.Asked, Reads'.Learnt, Reads'6.Asked, Reads'6.Learnt) Reads'3.Pre Reads'3.Post
 
 abbrev pub After-emit-events : Type 0
 After-emit-events = Lts.After-emit-events (Reads.Asked, Reads.Learnt, Reads'4.Asked, Reads'4.Learnt, Reads'5.Asked, Reads'5.Learnt, Reads''.Asked, Reads''.Learnt, Reads'.Asked, Reads'.Learnt, Reads'6.Asked, Reads'6.Learnt) Reads'3.Pre Reads'3.Post
@@ -83,6 +92,9 @@ After-slice-known3 = Lts.After-slice-known3 (Reads.Asked, Reads.Learnt, Reads'4.
 
 abbrev pub After-patch-refs-arg : Type 0
 After-patch-refs-arg = Lts.After-patch-refs-arg (Reads.Asked, Reads.Learnt, Reads'4.Asked, Reads'4.Learnt, Reads'5.Asked, Reads'5.Learnt, Reads''.Asked, Reads''.Learnt, Reads'.Asked, Reads'.Learnt, Reads'6.Asked, Reads'6.Learnt) Reads'3.Pre Reads'3.Post
+
+abbrev pub After-struct-known4 : Type 0
+After-struct-known4 = Lts.After-struct-known4 (Reads.Asked, Reads.Learnt, Reads'4.Asked, Reads'4.Learnt, Reads'5.Asked, Reads'5.Learnt, Reads''.Asked, Reads''.Learnt, Reads'.Asked, Reads'.Learnt, Reads'6.Asked, Reads'6.Learnt) Reads'3.Pre Reads'3.Post
 
 abbrev pub After-patch-refs : Type 0
 After-patch-refs = Lts.After-patch-refs (Reads.Asked, Reads.Learnt, Reads'4.Asked, Reads'4.Learnt, Reads'5.Asked, Reads'5.Learnt, Reads''.Asked, Reads''.Learnt, Reads'.Asked, Reads'.Learnt, Reads'6.Asked, Reads'6.Learnt) Reads'3.Pre Reads'3.Post
@@ -117,6 +129,15 @@ After-output5 = Lts.After-output5 (Reads.Asked, Reads.Learnt, Reads'4.Asked, Rea
 abbrev pub After-slice-known6 : Type 0
 After-slice-known6 = Lts.After-slice-known6 (Reads.Asked, Reads.Learnt, Reads'4.Asked, Reads'4.Learnt, Reads'5.Asked, Reads'5.Learnt, Reads''.Asked, Reads''.Learnt, Reads'.Asked, Reads'.Learnt, Reads'6.Asked, Reads'6.Learnt) Reads'3.Pre Reads'3.Post
 
+abbrev pub Need-cast-recorded : Type 0
+Need-cast-recorded = Lts.Need-cast-recorded (Reads.Asked, Reads.Learnt, Reads'4.Asked, Reads'4.Learnt, Reads'5.Asked, Reads'5.Learnt, Reads''.Asked, Reads''.Learnt, Reads'.Asked, Reads'.Learnt, Reads'6.Asked, Reads'6.Learnt) Reads'3.Pre Reads'3.Post
+
+abbrev pub Need-cast-pooled : Type 0
+Need-cast-pooled = Lts.Need-cast-pooled (Reads.Asked, Reads.Learnt, Reads'4.Asked, Reads'4.Learnt, Reads'5.Asked, Reads'5.Learnt, Reads''.Asked, Reads''.Learnt, Reads'.Asked, Reads'.Learnt, Reads'6.Asked, Reads'6.Learnt) Reads'3.Pre Reads'3.Post
+
+abbrev pub Need-cast-emit-events : Type 0
+Need-cast-emit-events = Lts.Need-cast-emit-events (Reads.Asked, Reads.Learnt, Reads'4.Asked, Reads'4.Learnt, Reads'5.Asked, Reads'5.Learnt, Reads''.Asked, Reads''.Learnt, Reads'.Asked, Reads'.Learnt, Reads'6.Asked, Reads'6.Learnt) Reads'3.Pre Reads'3.Post
+
 abbrev pub Need-emit-events-requires : Type 0
 Need-emit-events-requires = Lts.Need-emit-events-requires (Reads.Asked, Reads.Learnt, Reads'4.Asked, Reads'4.Learnt, Reads'5.Asked, Reads'5.Learnt, Reads''.Asked, Reads''.Learnt, Reads'.Asked, Reads'.Learnt, Reads'6.Asked, Reads'6.Learnt) Reads'3.Pre Reads'3.Post
 
@@ -125,6 +146,9 @@ Need-map-requires = Lts.Need-map-requires (Reads.Asked, Reads.Learnt, Reads'4.As
 
 abbrev pub Need-emit-requires : Type 0
 Need-emit-requires = Lts.Need-emit-requires (Reads.Asked, Reads.Learnt, Reads'4.Asked, Reads'4.Learnt, Reads'5.Asked, Reads'5.Learnt, Reads''.Asked, Reads''.Learnt, Reads'.Asked, Reads'.Learnt, Reads'6.Asked, Reads'6.Learnt) Reads'3.Pre Reads'3.Post
+
+abbrev pub Need-cast-patch-refs : Type 0
+Need-cast-patch-refs = Lts.Need-cast-patch-refs (Reads.Asked, Reads.Learnt, Reads'4.Asked, Reads'4.Learnt, Reads'5.Asked, Reads'5.Learnt, Reads''.Asked, Reads''.Learnt, Reads'.Asked, Reads'.Learnt, Reads'6.Asked, Reads'6.Learnt) Reads'3.Pre Reads'3.Post
 
 abbrev pub Need-add-patch-refs : Type 0
 Need-add-patch-refs = Lts.Need-add-patch-refs (Reads.Asked, Reads.Learnt, Reads'4.Asked, Reads'4.Learnt, Reads'5.Asked, Reads'5.Learnt, Reads''.Asked, Reads''.Learnt, Reads'.Asked, Reads'.Learnt, Reads'6.Asked, Reads'6.Learnt) Reads'3.Pre Reads'3.Post
@@ -145,8 +169,8 @@ abbrev pub Need-returns : Type 0
 Need-returns = Lts.Need-returns (Reads.Asked, Reads.Learnt, Reads'4.Asked, Reads'4.Learnt, Reads'5.Asked, Reads'5.Learnt, Reads''.Asked, Reads''.Learnt, Reads'.Asked, Reads'.Learnt, Reads'6.Asked, Reads'6.Learnt) Reads'3.Pre Reads'3.Post
 
 module _ {M : Type 1} where
-  pub spec : (answer : Need-emit-events-requires) → (answer : Need-map-requires) → (answer : Need-emit-requires) → (answer : Need-add-patch-refs) → (answer : Need-patch-refs-requires) → (answer : Need-patch-jumps-requires) → (answer : Need-write-requires) → (answer : Need-same-length) → (answer : Need-returns) → Lts.Closed (Reads.Asked, Reads.Learnt, Reads'4.Asked, Reads'4.Learnt, Reads'5.Asked, Reads'5.Learnt, Reads''.Asked, Reads''.Learnt, Reads'.Asked, Reads'.Learnt, Reads'6.Asked, Reads'6.Learnt) Reads'3.Pre Reads'3.Post M
-  spec = λ answer answer' answer'' answer'3 answer'4 answer'5 answer'6 answer'7 answer'8. Lts.spec (Reads.Asked, Reads.Learnt, Reads'4.Asked, Reads'4.Learnt, Reads'5.Asked, Reads'5.Learnt, Reads''.Asked, Reads''.Learnt, Reads'.Asked, Reads'.Learnt, Reads'6.Asked, Reads'6.Learnt) Reads'3.Pre Reads'3.Post answer answer' answer'' answer'3 answer'4 answer'5 answer'6 answer'7 answer'8
+  pub spec : (answer : Need-cast-recorded) → (answer : Need-cast-pooled) → (answer : Need-cast-emit-events) → (answer : Need-emit-events-requires) → (answer : Need-map-requires) → (answer : Need-emit-requires) → (answer : Need-cast-patch-refs) → (answer : Need-add-patch-refs) → (answer : Need-patch-refs-requires) → (answer : Need-patch-jumps-requires) → (answer : Need-write-requires) → (answer : Need-same-length) → (answer : Need-returns) → Lts.Closed (Reads.Asked, Reads.Learnt, Reads'4.Asked, Reads'4.Learnt, Reads'5.Asked, Reads'5.Learnt, Reads''.Asked, Reads''.Learnt, Reads'.Asked, Reads'.Learnt, Reads'6.Asked, Reads'6.Learnt) Reads'3.Pre Reads'3.Post M
+  spec = λ answer answer' answer'' answer'3 answer'4 answer'5 answer'6 answer'7 answer'8 answer'9 answer'10 answer'11 answer'12. Lts.spec (Reads.Asked, Reads.Learnt, Reads'4.Asked, Reads'4.Learnt, Reads'5.Asked, Reads'5.Learnt, Reads''.Asked, Reads''.Learnt, Reads'.Asked, Reads'.Learnt, Reads'6.Asked, Reads'6.Learnt) Reads'3.Pre Reads'3.Post answer answer' answer'' answer'3 answer'4 answer'5 answer'6 answer'7 answer'8 answer'9 answer'10 answer'11 answer'12
 
   pub close : Lts.Closed (Reads.Asked, Reads.Learnt, Reads'4.Asked, Reads'4.Learnt, Reads'5.Asked, Reads'5.Learnt, Reads''.Asked, Reads''.Learnt, Reads'.Asked, Reads'.Learnt, Reads'6.Asked, Reads'6.Learnt) Reads'3.Pre Reads'3.Post M → Statement.statement M
   unfolding Code.routine Running.tablesOf
