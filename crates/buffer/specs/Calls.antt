@@ -15,6 +15,8 @@ use Rattle.buffer.specs.declared.Recorded.{Recorded}
 use Rattle.buffer.specs.declared.Made.{Made}
 use Rattle.buffer.specs.State.{
   none,
+  keepsEvents,
+  zeroPadded,
   withCode,
   withLabels,
   withEvents,
@@ -99,12 +101,12 @@ bindLabel b labels label =
 
 -- "x86 pads with NOPs, AArch64 with zeros."
 abbrev pub padding : ℕ → ℕ → List ℕ
-padding arch n = cond (eqb arch 6) (replicate n 0) (nops n)
+padding arch n = cond (zeroPadded arch) (replicate n 0) (nops n)
 
 -- "On X64 each alignment records an event, length 0 too."
 unfoldable pub alignedEvents : CodeBuffer → List ℕ → ℕ → CodeBuffer × List ℕ
 alignedEvents b events multiple =
-    pick (eqb (b .arch) 2)
+    pick (keepsEvents (b .arch))
     (withEvents b (b .events + 1), setEvent events (b .events) 2 (b .code) (paddingLength (b .code) multiple) multiple 0)
     (b, events)
 
@@ -131,7 +133,7 @@ recordRef b refs offset label code addend =
     let why = whyRef b (length refs / 16) label code in
     let k = b .refs * 4 in
     pick (eqb why 0)
-    (pick (eqb (b .arch) 2)
+    (pick (keepsEvents (b .arch))
     (accepted (withRefs b (b .refs + 1)), setWord (setWord (setWord (setWord refs k offset) (k + 1) label) (k + 2) code) (k + 3) addend)
     (accepted b, refs))
     (turnedDown b why, refs)
@@ -141,7 +143,7 @@ unfoldable pub recordJump : CodeBuffer → List ℕ → List ℕ → ℕ → ℕ
 recordJump b labels events start len label cc =
     let why = whyJump b labels events start len label cc in
     pick (eqb why 0)
-    (pick (eqb (b .arch) 2) (accepted (withEvents b (b .events + 1)), setEvent events (b .events) 1 start len label cc) (accepted b, events))
+    (pick (keepsEvents (b .arch)) (accepted (withEvents b (b .events + 1)), setEvent events (b .events) 1 start len label cc) (accepted b, events))
     (turnedDown b why, events)
 
 -- an entry is its size, its label, and 64 bytes, of which those past its size are not touched

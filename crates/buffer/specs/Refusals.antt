@@ -10,14 +10,14 @@ use Rattle.words.specs.Words.{wordAt}
 use Rattle.encoder.specs.Padding.{paddingLength}
 use Rattle.fields.specs.declared.Decoded.{Decoded}
 use Rattle.fields.specs.declared.Decoded.the-variants.{Use, Unsupported, Unknown}
-use Rattle.fields.specs.Kinds.{decoded, supportsArch}
+use Rattle.fields.specs.Kinds.{archX86, archX64, archA64, isArch, decoded, supportsArch}
 use Rattle.relax.specs.Events.{eventAt, endOf}
 use Rattle.buffer.specs.declared.CodeBuffer.{CodeBuffer}
-use Rattle.buffer.specs.State.{none, mostEntries, mostCode}
+use Rattle.buffer.specs.State.{none, mostEntries, mostCode, labelTarget, keepsEvents}
 
--- X86 1, X64 2, AArch64 6
+-- the architectures that a recording may be of
 abbrev pub archOccurs : ℕ → Bool
-archOccurs arch = eqb arch 1 || eqb arch 2 || eqb arch 6
+archOccurs arch = eqb arch archX86 || eqb arch archX64 || eqb arch archA64
 
 -- the refusals that a recording records: 6, 7, 8, 10, 11, 12; 0 is none
 abbrev pub refusalOccurs : ℕ → Bool
@@ -68,7 +68,7 @@ whyAlign b lent room multiple =
     orElse (standing b (leb (b .code) lent && leb (b .events) room) (leb lent mostCode && leb room mostEntries))
     (first (
     (not (isAlignment multiple), 5)
-    ∷ (eqb (b .arch) 2 && leb room (b .events), 11)
+    ∷ (keepsEvents (b .arch) && leb room (b .events), 11)
     ∷ (ltb (lent - b .code) (paddingLength (b .code) multiple), 12)
     ∷ []
     ))
@@ -95,7 +95,7 @@ whyUse b room label code =
 unfoldable pub whyRef : CodeBuffer → ℕ → ℕ → ℕ → ℕ
 whyRef b room label code =
     orElse (standing b (leb (b .refs) room && leb code 16) (leb room mostEntries))
-    (pick (eqb (b .arch) 2)
+    (pick (keepsEvents (b .arch))
     (first (
     (foreign (decoded code) (b .arch), 7)
     ∷ (leb (b .labels) label, 8)
@@ -129,7 +129,7 @@ whyJump b labels events start len label cc =
     (standing b
     (leb (b .labels) (length labels / 4) && leb (b .events) (length events / 20))
     (leb (length labels / 4) mostEntries && leb (length events / 20) mostEntries))
-    (pick (eqb (b .arch) 2)
+    (pick (keepsEvents (b .arch))
     (first (
     (leb (b .labels) label, 8)
     ∷ (jumpUnfit b labels events start len cc, 10)
@@ -166,12 +166,12 @@ relocArchs =
 unfoldable pub foreignReloc : ℕ → ℕ → Bool
 foreignReloc kind arch =
     pick (eqb (getD relocArchs kind 3) 0) false
-    (pick (eqb (getD relocArchs kind 3) 1) (not (eqb arch 1 || eqb arch 2))
-    (pick (eqb (getD relocArchs kind 3) 2) (not (eqb arch 6)) true))
+    (pick (eqb (getD relocArchs kind 3) 1) (not (isArch true arch))
+    (pick (eqb (getD relocArchs kind 3) 2) (not (isArch false arch)) true))
 
 -- a relocation's target is a symbol below the count given at start, or a known label + 2^31
 unfoldable pub targetKnown : CodeBuffer → ℕ → Bool
-targetKnown b target = pick (ltb target 2147483648) (ltb target (b .symbols)) (ltb (target - 2147483648) (b .labels))
+targetKnown b target = pick (ltb target labelTarget) (ltb target (b .symbols)) (ltb (target - labelTarget) (b .labels))
 
 -- a relocation. 1: kind above 27; 7: a kind foreign to the architecture; 8: the target is unknown; 10: the offset exceeds 16,777,215; 11: the table is
 -- full.

@@ -1,7 +1,9 @@
 -- A recording's counts: document 01, "Recording counts and first refusal form a struct".
+use mathlib.Core.Bool.{Bool}
 use Prim.Native.Nat.{ℕ}
-use lib.Dec.{ltb}
+use lib.Dec.{eqb, ltb}
 use Rattle.seqs.specs.Pick.{pick}
+use Rattle.fields.specs.Kinds.{archX64, archA64}
 use Rattle.buffer.specs.declared.CodeBuffer.{CodeBuffer}
 use Rattle.buffer.specs.declared.Recorded.{Recorded}
 use Rattle.buffer.specs.declared.Made.{Made}
@@ -16,6 +18,18 @@ mostEntries = 65536
 
 abbrev pub mostCode : ℕ
 mostCode = 16777216
+
+-- a relocation's target from here on is a label's: its number, and this
+abbrev pub labelTarget : ℕ
+labelTarget = 2147483648
+
+-- the architectures that keep events and refs: "On X64 each alignment records an event, length 0 too, and jumps and refs are kept"
+abbrev pub keepsEvents : ℕ → Bool
+keepsEvents arch = eqb arch archX64
+
+-- "x86 pads with NOPs, AArch64 with zeros."
+abbrev pub zeroPadded : ℕ → Bool
+zeroPadded arch = eqb arch archA64
 
 -- the recording with one count, or the first refusal, anew
 abbrev pub withRefusal : CodeBuffer → ℕ → CodeBuffer

@@ -5,6 +5,8 @@ ghost use lib.ListN.{length, replicate};
 ghost use Rattle.buffer.specs.Refusals.{whyBytes, isAlignment, whyAlign};
 ghost use Rattle.buffer.specs.Calls.{putBytes, padding, alignedEvents, alignTo};
 use crate::CodeBuffer;
+use crate::MOST_CODE;
+use crate::MOST_ENTRIES;
 use crate::Recorded;
 use crate::both;
 
@@ -32,7 +34,7 @@ pub fn clear(part: &mut [u8])
 pub fn pad(arch: u32, part: &mut [u8])
     ensures { λ _. ⌜ now (part .exit) ≡ padding arch (length (now (part .entry))) ⌝ }
 {
-    if arch == 6 {
+    if arch == fields::AARCH64 {
         clear(part);
         return;
     }
@@ -44,7 +46,7 @@ impl CodeBuffer {
         ensures { λ r. ⌜ r ≡ whyBytes self lent n ⌝ }
     {
         let at = self.code as usize;
-        let why = self.standing(at <= lent, lent <= 16777216);
+        let why = self.standing(at <= lent, lent <= MOST_CODE);
         if why != 0 {
             return why;
         }
@@ -79,7 +81,7 @@ impl CodeBuffer {
         let n = self.events as usize;
         let why = self.standing(
             both(at <= lent, n <= room),
-            both(lent <= 16777216, room <= 65536),
+            both(lent <= MOST_CODE, room <= MOST_ENTRIES),
         );
         if why != 0 {
             return why;
@@ -87,7 +89,7 @@ impl CodeBuffer {
         if !is_alignment(multiple) {
             return 5;
         }
-        if both(self.arch == 2, room <= n) {
+        if both(self.arch == fields::X64, room <= n) {
             return 11;
         }
         if lent - at < encoder::padding_len(self.code, multiple) as usize {
@@ -101,7 +103,7 @@ impl CodeBuffer {
         requires { ⌜ (self .arch ≡ 2 → (self .events * 20 + 20 ≤ length (now events)) × (self .events < 65536)) ⌝ }
         ensures { λ r. ⌜ (r, now (events .exit)) ≡ alignedEvents self (now (events .entry)) multiple ⌝ }
     {
-        if self.arch != 2 {
+        if self.arch != fields::X64 {
             return self;
         }
         let n = self.events;

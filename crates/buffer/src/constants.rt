@@ -8,6 +8,7 @@ ghost use Rattle.buffer.specs.State.{none};
 ghost use Rattle.buffer.specs.Refusals.{whyConstant, whyConstantLabel};
 ghost use Rattle.buffer.specs.Calls.{addConstant, askedFirst, constantLabel};
 use crate::CodeBuffer;
+use crate::MOST_ENTRIES;
 use crate::Made;
 use crate::NONE;
 use crate::both;
@@ -28,7 +29,7 @@ impl CodeBuffer {
         ensures { λ r. ⌜ r ≡ whyConstant self room n ⌝ }
     {
         let count = self.constants as usize;
-        let why = self.standing(count <= room, room <= 65536);
+        let why = self.standing(count <= room, room <= MOST_ENTRIES);
         if why != 0 {
             return why;
         }
@@ -72,7 +73,10 @@ impl CodeBuffer {
             self.constants as usize <= constants,
             both(self.asked as usize <= asked, self.labels as usize <= labels),
         );
-        let within = both(constants <= 65536, both(asked <= 65536, labels <= 65536));
+        let within = both(
+            constants <= MOST_ENTRIES,
+            both(asked <= MOST_ENTRIES, labels <= MOST_ENTRIES),
+        );
         let why = self.standing(fit, within);
         if why != 0 {
             return why;

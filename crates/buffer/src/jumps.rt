@@ -5,6 +5,7 @@ ghost use lib.ListN.{length};
 ghost use Rattle.buffer.specs.Refusals.{lastEnd, labelInside, jumpMalformed, jumpUnfit, whyJump};
 ghost use Rattle.buffer.specs.Calls.{recordJump};
 use crate::CodeBuffer;
+use crate::MOST_ENTRIES;
 use crate::Recorded;
 use crate::both;
 use crate::either;
@@ -80,12 +81,12 @@ impl CodeBuffer {
         let room = events.len() / 20;
         let why = self.standing(
             both(self.labels as usize <= known, self.events as usize <= room),
-            both(known <= 65536, room <= 65536),
+            both(known <= MOST_ENTRIES, room <= MOST_ENTRIES),
         );
         if why != 0 {
             return why;
         }
-        if self.arch != 2 {
+        if self.arch != fields::X64 {
             return 0;
         }
         if self.labels <= label {
@@ -116,7 +117,7 @@ impl CodeBuffer {
         if why != 0 {
             return self.turn_down(why);
         }
-        if self.arch != 2 {
+        if self.arch != fields::X64 {
             return Recorded {
                 buffer: self,
                 refusal: 0,

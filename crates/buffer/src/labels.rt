@@ -3,6 +3,7 @@ ghost use mathlib.Core.Path.{_≡_};
 ghost use Rattle.buffer.specs.Refusals.{whyLabel, whyBind};
 ghost use Rattle.buffer.specs.Calls.{getLabel, bindLabel};
 use crate::CodeBuffer;
+use crate::MOST_ENTRIES;
 use crate::Made;
 use crate::NONE;
 use crate::Recorded;
@@ -12,7 +13,7 @@ impl CodeBuffer {
         ensures { λ r. ⌜ r ≡ whyLabel self room ⌝ }
     {
         let n = self.labels as usize;
-        let why = self.standing(n <= room, room <= 65536);
+        let why = self.standing(n <= room, room <= MOST_ENTRIES);
         if why != 0 {
             return why;
         }
@@ -44,7 +45,7 @@ impl CodeBuffer {
         ensures { λ r. ⌜ r ≡ whyBind self (now (labels .entry)) label ⌝ }
     {
         let room = labels.len() / 4;
-        let why = self.standing(self.labels as usize <= room, room <= 65536);
+        let why = self.standing(self.labels as usize <= room, room <= MOST_ENTRIES);
         if why != 0 {
             return why;
         }

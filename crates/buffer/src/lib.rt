@@ -16,6 +16,14 @@ pub mod uses;
 // The offset of a label that is not bound, the label of a constant that has none, and what a refused call for either gives.
 pub const NONE: u32 = 0xffffffff;
 
+// The limits: entries of a table, bytes of code.
+pub const MOST_ENTRIES: usize = 65536;
+
+pub const MOST_CODE: usize = 16777216;
+
+// A relocation's target from here on is a label's: its number, and this.
+pub const LABEL_TARGET: u32 = 1 << 31;
+
 pub struct CodeBuffer {
     // 1 X86, 2 X64, 6 AArch64.
     pub arch: u32,
@@ -70,13 +78,13 @@ pub fn either(a: bool, b: bool) -> bool
 fn arch_occurs(arch: u32) -> bool
     ensures { λ r. ⌜ r ≡ archOccurs arch ⌝ }
 {
-    if arch == 1 {
+    if arch == fields::X86 {
         return true;
     }
-    if arch == 2 {
+    if arch == fields::X64 {
         return true;
     }
-    arch == 6
+    arch == fields::AARCH64
 }
 
 fn refusal_occurs(n: u32) -> bool

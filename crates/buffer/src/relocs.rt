@@ -6,6 +6,8 @@ ghost use Rattle.words.specs.Words.{setWord};
 ghost use Rattle.buffer.specs.Refusals.{relocArchs, foreignReloc, targetKnown, whyReloc};
 ghost use Rattle.buffer.specs.Calls.{addReloc};
 use crate::CodeBuffer;
+use crate::LABEL_TARGET;
+use crate::MOST_ENTRIES;
 use crate::Recorded;
 use crate::both;
 
@@ -59,13 +61,13 @@ pub fn is_foreign_kind(kind: u32, arch: u32) -> bool
         return false;
     }
     if which == 1 {
-        if arch == 1 {
+        if arch == fields::X86 {
             return false;
         }
-        return arch != 2;
+        return arch != fields::X64;
     }
     if which == 2 {
-        return arch != 6;
+        return arch != fields::AARCH64;
     }
     true
 }
@@ -88,17 +90,17 @@ impl CodeBuffer {
     pub fn is_known(self, target: u32) -> bool
         ensures { λ r. ⌜ r ≡ targetKnown self target ⌝ }
     {
-        if target < 2147483648 {
+        if target < LABEL_TARGET {
             return target < self.symbols;
         }
-        target - 2147483648 < self.labels
+        target - LABEL_TARGET < self.labels
     }
 
     fn why_no_reloc(self, room: usize, offset: u32, kind: u32, target: u32) -> u32
         ensures { λ r. ⌜ r ≡ whyReloc self room offset kind target ⌝ }
     {
         let n = self.relocs as usize;
-        let why = self.standing(both(n <= room, kind <= 27), room <= 65536);
+        let why = self.standing(both(n <= room, kind <= 27), room <= MOST_ENTRIES);
         if why != 0 {
             return why;
         }

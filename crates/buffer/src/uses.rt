@@ -7,6 +7,7 @@ ghost use Rattle.fields.specs.Kinds.{decoded};
 ghost use Rattle.buffer.specs.Refusals.{foreign, whyUse, whyRef};
 ghost use Rattle.buffer.specs.Calls.{useLabel, recordRef};
 use crate::CodeBuffer;
+use crate::MOST_ENTRIES;
 use crate::Recorded;
 use crate::both;
 
@@ -47,7 +48,7 @@ impl CodeBuffer {
         ensures { λ r. ⌜ r ≡ whyUse self room label code ⌝ }
     {
         let n = self.uses as usize;
-        let why = self.standing(both(n <= room, code <= 16), room <= 65536);
+        let why = self.standing(both(n <= room, code <= 16), room <= MOST_ENTRIES);
         if why != 0 {
             return why;
         }
@@ -93,11 +94,11 @@ impl CodeBuffer {
         ensures { λ r. ⌜ r ≡ whyRef self room label code ⌝ }
     {
         let n = self.refs as usize;
-        let why = self.standing(both(n <= room, code <= 16), room <= 65536);
+        let why = self.standing(both(n <= room, code <= 16), room <= MOST_ENTRIES);
         if why != 0 {
             return why;
         }
-        if self.arch != 2 {
+        if self.arch != fields::X64 {
             return 0;
         }
         if is_foreign(code, self.arch) {
@@ -127,7 +128,7 @@ impl CodeBuffer {
         if why != 0 {
             return self.turn_down(why);
         }
-        if self.arch != 2 {
+        if self.arch != fields::X64 {
             return Recorded {
                 buffer: self,
                 refusal: 0,

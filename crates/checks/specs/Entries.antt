@@ -8,7 +8,7 @@ use Rattle.words.specs.Words.{wordAt}
 use Rattle.encoder.specs.Padding.{paddingLength}
 use Rattle.fields.specs.Kinds.{decoded}
 use Rattle.buffer.specs.declared.CodeBuffer.{CodeBuffer}
-use Rattle.buffer.specs.State.{none}
+use Rattle.buffer.specs.State.{none, keepsEvents}
 use Rattle.buffer.specs.Refusals.{isAlignment, foreign, foreignReloc, targetKnown, lastEnd}
 use Rattle.recording.specs.Calls.{Recording}
 use Rattle.recording.specs.Sound.{startAt, endAt, labelOf}
@@ -32,7 +32,7 @@ eventFits events labels code j =
 
 -- only X64 keeps events and refs
 unfoldable pub keptOnly : ℕ → ℕ → Bool
-keptOnly arch n = eqb arch 2 || eqb n 0
+keptOnly arch n = keepsEvents arch || eqb n 0
 
 unfoldable pub eventsFit : ℕ → List ℕ → ℕ → ℕ → ℕ → Bool
 eventsFit arch events n labels code = keptOnly arch n && all (eventFits events labels code) n

@@ -10,7 +10,7 @@ use Rattle.fields.specs.declared.Decoded.{Decoded}
 use Rattle.fields.specs.declared.Decoded.the-variants.{Use, Unsupported, Unknown}
 use Rattle.fields.specs.Kinds.{decoded, patchSize}
 use Rattle.fields.specs.Reach.{reachRefusal}
-use Rattle.buffer.specs.State.{none}
+use Rattle.buffer.specs.State.{none, labelTarget}
 use Rattle.recording.specs.Sound.{startAt, endAt}
 use Rattle.pool.specs.Pool.{poolStart, poolOffset}
 use Rattle.checks.specs.Entries.{all}
@@ -32,7 +32,7 @@ jumpsBound events n labels = all (λ (i : ℕ). not (eqb (wordAt events (i * 5))
 -- a target from 2^31 on is a label's
 unfoldable pub relocsBound : List ℕ → ℕ → List ℕ → Bool
 relocsBound relocs n labels =
-    all (λ (i : ℕ). ltb (wordAt relocs (i * 6 + 2)) 2147483648 || isBound labels (wordAt relocs (i * 6 + 2) - 2147483648)) n
+    all (λ (i : ℕ). ltb (wordAt relocs (i * 6 + 2)) labelTarget || isBound labels (wordAt relocs (i * 6 + 2) - labelTarget)) n
 
 -- a field's size, by its code
 abbrev pub sizeOf : Decoded → ℕ

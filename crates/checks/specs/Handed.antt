@@ -8,7 +8,7 @@ use lib.Dec.{eqb, ltb}
 use lib.ListN.{length, getD}
 use Rattle.words.specs.Words.{wordAt}
 use Rattle.buffer.specs.declared.CodeBuffer.{CodeBuffer}
-use Rattle.buffer.specs.State.{none}
+use Rattle.buffer.specs.State.{none, mostEntries, labelTarget}
 use Rattle.recording.specs.Calls.{Recording}
 use Rattle.recording.specs.Sound.{labelOf}
 use Rattle.checks.specs.Entries.{all, askedFits, askedOnce}
@@ -17,12 +17,12 @@ use Rattle.checks.specs.Fields.{isBound}
 -- the counts of a recording, but that of its code, fit its tables; those of labels and constants are within the limit
 pub record CountsFit (b : CodeBuffer) (labels events uses refs constants asked relocs : List ℕ) : Type 0 where
   pub labels-room : b .labels * 4 ≤ length labels
-  pub labels-limit : b .labels ≤ 65536
+  pub labels-limit : b .labels ≤ mostEntries
   pub events-room : b .events * 20 ≤ length events
   pub uses-room : b .uses * 12 ≤ length uses
   pub refs-room : b .refs * 16 ≤ length refs
   pub constants-room : b .constants * 72 ≤ length constants
-  pub constants-limit : b .constants ≤ 65536
+  pub constants-limit : b .constants ≤ mostEntries
   pub asked-room : b .asked * 4 ≤ length asked
   pub relocs-room : b .relocs * 24 ≤ length relocs
 
@@ -44,7 +44,7 @@ jumpBound events labels i = not (eqb (wordAt events (i * 5)) 1) || isBound label
 
 -- relocation i names a symbol, or a label that is bound
 abbrev pub targetBound : List ℕ → List ℕ → ℕ → Bool
-targetBound relocs labels i = ltb (wordAt relocs (i * 6 + 2)) 2147483648 || isBound labels (wordAt relocs (i * 6 + 2) - 2147483648)
+targetBound relocs labels i = ltb (wordAt relocs (i * 6 + 2)) labelTarget || isBound labels (wordAt relocs (i * 6 + 2) - labelTarget)
 
 -- the labels that the first n entries name lie in the table of labels
 pub record Named (label : ℕ → ℕ) (n : ℕ) (labels : List ℕ) : Type 0 where
@@ -56,13 +56,13 @@ pub record JumpsNamed (events : List ℕ) (n : ℕ) (labels : List ℕ) : Type 0
 
 -- those of the targets among the first n relocations
 pub record TargetsNamed (relocs : List ℕ) (n : ℕ) (labels : List ℕ) : Type 0 where
-  pub known : (i : ℕ) → i < n → 2147483648 ≤ wordAt relocs (i * 6 + 2) → (wordAt relocs (i * 6 + 2) - 2147483648) * 4 + 4 ≤ length labels
+  pub known : (i : ℕ) → i < n → labelTarget ≤ wordAt relocs (i * 6 + 2) → (wordAt relocs (i * 6 + 2) - labelTarget) * 4 + 4 ≤ length labels
 
 -- the first n constants lie in the table, and have labels below 65,536, or none
 pub record Labelled (constants : List ℕ) (n : ℕ) : Type 0 where
   pub room : n * 72 ≤ length constants
-  pub limit : n ≤ 65536
-  pub label : (i : ℕ) → i < n → labelOf constants i ≢ none → labelOf constants i < 65536
+  pub limit : n ≤ mostEntries
+  pub label : (i : ℕ) → i < n → labelOf constants i ≢ none → labelOf constants i < mostEntries
 
 -- the label of the constant that was asked for as number i
 abbrev pub askedLabel : List ℕ → List ℕ → ℕ → ℕ
@@ -74,8 +74,8 @@ occurs f n k = not (all (λ (i : ℕ). not (eqb (f i) k)) n)
 
 -- marks for 65,536 numbers: those that occur are marked
 pub record Marks (marks : List Bool) (f : ℕ → ℕ) (n : ℕ) : Type 0 where
-  pub size : length marks ≡ 65536
-  pub marked : (k : ℕ) → k < 65536 → getD marks k false ≡ occurs f n k
+  pub size : length marks ≡ mostEntries
+  pub marked : (k : ℕ) → k < mostEntries → getD marks k false ≡ occurs f n k
 
 -- entry i of the order of asking is fit and new
 abbrev pub newAt : List ℕ → List ℕ → ℕ → ℕ → Bool

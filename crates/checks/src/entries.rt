@@ -79,7 +79,7 @@ fn each_event_fits(events: &[u8], n: usize, labels: u32, code: u32) -> bool
 fn is_kept(arch: u32, n: usize) -> bool
     ensures { λ r. ⌜ r ≡ keptOnly arch n ⌝ }
 {
-    buffer::either(arch == 2, n == 0)
+    buffer::either(arch == fields::X64, n == 0)
 }
 
 pub fn events_fit(arch: u32, events: &[u8], n: usize, labels: u32, code: u32) -> bool

@@ -5,6 +5,7 @@ ghost use lib.ListN.{length};
 ghost use Rattle.words.specs.Words.{wordAt};
 ghost use Rattle.fields.specs.Kinds.{decoded};
 ghost use Rattle.relax.specs.Events.{eventAt};
+ghost use Rattle.buffer.specs.State.{labelTarget};
 ghost use Rattle.recording.specs.View.{entries};
 ghost use Rattle.recording.specs.Sound.{startAt, endAt};
 ghost use Rattle.fresh.specs.Forms.{isMoving, moves};
@@ -78,14 +79,14 @@ pub fn jumps_bound(events: &[u8], n: usize, labels: &[u8]) -> bool
 
 // A target from 2^31 on is a label's.
 fn target_bound(relocs: &[u8], labels: &[u8], i: usize) -> bool
-    requires { ⌜ i * 24 + 24 ≤ length (now relocs) ⌝ ∗ ⌜ (2147483648 ≤ wordAt (now relocs) (i * 6 + 2) → (wordAt (now relocs) (i * 6 + 2) - 2147483648) * 4 + 4 ≤ length (now labels)) ⌝ }
+    requires { ⌜ i * 24 + 24 ≤ length (now relocs) ⌝ ∗ ⌜ (labelTarget ≤ wordAt (now relocs) (i * 6 + 2) → (wordAt (now relocs) (i * 6 + 2) - labelTarget) * 4 + 4 ≤ length (now labels)) ⌝ }
     ensures { λ r. ⌜ r ≡ targetBound (now (relocs .entry)) (now (labels .entry)) i ⌝ }
 {
     let target = words::word_at(relocs, i * 6 + 2);
-    if target < 2147483648 {
+    if target < buffer::LABEL_TARGET {
         return true;
     }
-    is_bound(labels, target - 2147483648)
+    is_bound(labels, target - buffer::LABEL_TARGET)
 }
 
 pub fn relocs_bound(relocs: &[u8], n: usize, labels: &[u8]) -> bool

@@ -64,22 +64,25 @@ fn within_limits(
     ensures { λ r. ⌜ r ≡ (leb code 16777216 && (leb (labels / 4) 65536 && (leb (events / 20) 65536 && (leb (uses / 12) 65536 && (leb (refs / 16) 65536 && (leb (constants / 72) 65536 && (leb (asked / 4) 65536 && (leb (relocs / 24) 65536 && (leb segments 65536 && leb output 16777216))))))))) ⌝ }
 {
     buffer::both(
-        code <= 16777216,
+        code <= buffer::MOST_CODE,
         buffer::both(
-            labels / 4 <= 65536,
+            labels / 4 <= buffer::MOST_ENTRIES,
             buffer::both(
-                events / 20 <= 65536,
+                events / 20 <= buffer::MOST_ENTRIES,
                 buffer::both(
-                    uses / 12 <= 65536,
+                    uses / 12 <= buffer::MOST_ENTRIES,
                     buffer::both(
-                        refs / 16 <= 65536,
+                        refs / 16 <= buffer::MOST_ENTRIES,
                         buffer::both(
-                            constants / 72 <= 65536,
+                            constants / 72 <= buffer::MOST_ENTRIES,
                             buffer::both(
-                                asked / 4 <= 65536,
+                                asked / 4 <= buffer::MOST_ENTRIES,
                                 buffer::both(
-                                    relocs / 24 <= 65536,
-                                    buffer::both(segments <= 65536, output <= 16777216),
+                                    relocs / 24 <= buffer::MOST_ENTRIES,
+                                    buffer::both(
+                                        segments <= buffer::MOST_ENTRIES,
+                                        output <= buffer::MOST_CODE,
+                                    ),
                                 ),
                             ),
                         ),

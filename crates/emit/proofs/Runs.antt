@@ -85,7 +85,7 @@ after-old es o n len c zero h = ordered-le o len es h
 after-old [] o n len c (suc i) h = h
 after-old (e ∷ es) o n len c (suc i) h = after-old es (endOf e) ((segment o n e (isLong c)) .«new_end») len (others c) i (h .1)
 
-module _ (output code events : List ℕ) (long : List Bool) (ss : List Segment) (n len arch : ℕ) (emits : Emits output code events long ss n len arch) where
+module _ {output code events : List ℕ} {long : List Bool} {ss : List Segment} {n len arch : ℕ} (emits : Emits output code events long ss n len arch) where
   abbrev es : List LayoutEvent
   es = entries (eventAt events) n
 

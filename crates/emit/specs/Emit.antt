@@ -24,6 +24,7 @@ use Rattle.fresh.specs.Forms.{shortForm, longForm, Branch, fieldOf, branches, r
 use Rattle.fresh.specs.Segments.{segments, mapOffset}
 use Rattle.fresh.specs.Fill.{fillField, fillUse, fillJump}
 use Rattle.fresh.proofs.Shape.{Ordered, runs}
+use Rattle.pool.specs.Pool.{offsetBound}
 use Rattle.layout.specs.Layout.{zeroSegment}
 
 -- a jump's form, short or long, displacement 0
@@ -49,7 +50,7 @@ Within Unknown offset room = Unit {0}
 
 -- an offset that was recorded, or none
 abbrev pub Recorded : ℕ → Type 0
-Recorded offset = offset ≢ none → offset ≤ 300000000
+Recorded offset = offset ≢ none → offset ≤ offsetBound
 
 -- the events and the runs between them are written: the table of segments is the layout of a choice of long jumps
 pub record Emits (output code events : List ℕ) (long : List Bool) (ss : List Segment) (n len arch : ℕ) : Type 0 where
@@ -141,7 +142,7 @@ pub record JumpFits (room : ℕ) (events labels : List ℕ) (long : Bool) (start
   pub entry : i * 20 + 20 ≤ length events
   pub known : (b : Branch) → roleOf (eventAt events i) ≡ branches b → b .label * 4 + 4 ≤ length labels
   pub within : (b : Branch) → roleOf (eventAt events i) ≡ branches b → start + fieldOf b long .place + patchSize (fieldOf b long .kind) ≤ room
-  pub small : start ≤ 300000000
+  pub small : start ≤ offsetBound
 
 pub record JumpsFit (room : ℕ) (events labels : List ℕ) (long : List Bool) (ss : List Segment) (n : ℕ) : Type 0 where
   pub chosen : n ≤ length long

@@ -16,6 +16,7 @@ ghost use Rattle.fresh.specs.Forms.{shortForm, longForm, form, width, fieldOf, 
 ghost use Rattle.fresh.specs.Fill.{part, fillField, fillJump};
 ghost use Rattle.fresh.specs.Segments.{mapOffset};
 ghost use Rattle.fresh.proofs.Shape.{formAt, runs};
+ghost use Rattle.pool.specs.Pool.{offsetBound};
 ghost use Rattle.layout.specs.Layout.{Rising};
 ghost use Rattle.emit.specs.Emit.{jumpForm, Encodes, Writes, Emits, useFilled, usesFilled, UseFits, UsesFit, refFilled, refsFilled, RefFits, RefsFit, fieldReaches, refsReach, RefsKnown, jumpsFilled, JumpFits, JumpsFit, mappedWords, WordsFit};
 use fields::Decoded;
@@ -311,7 +312,7 @@ pub fn refs_reach(refs: &[u8], labels: &[u8], segments: &[Segment], count: usize
 
 // A jump's displacement is a field: its last byte where it is short, else its last four. `start` is the jump's.
 fn patch_displacement(output: &mut [u8], jump: RelaxableJump, long: bool, start: u32, label: u32)
-    requires { ⌜ start + fieldOf (branchOf jump) long .place + patchSize (fieldOf (branchOf jump) long .kind) ≤ length (now output) ⌝ ∗ ⌜ start ≤ 300000000 ⌝ }
+    requires { ⌜ start + fieldOf (branchOf jump) long .place + patchSize (fieldOf (branchOf jump) long .kind) ≤ length (now output) ⌝ ∗ ⌜ start ≤ offsetBound ⌝ }
     ensures { λ _. ⌜ now (output .exit) ≡ fillField (Use (fieldOf (branchOf jump) long .kind)) (start + fieldOf (branchOf jump) long .place) label 0 (now (output .entry)) ⌝ }
 {
     if long {

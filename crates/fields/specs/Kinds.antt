@@ -42,10 +42,20 @@ codeOf k = info k .code
 abbrev pub patchSize : LabelUse → ℕ
 patchSize k = info k .size
 
--- X86 is 1, X64 is 2, AArch64 is 6
+-- the architectures, by document 01's numbers
+abbrev pub archX86 : ℕ
+archX86 = 1
+
+abbrev pub archX64 : ℕ
+archX64 = 2
+
+abbrev pub archA64 : ℕ
+archA64 = 6
+
+-- of X86 and X64, or of AArch64
 abbrev pub isArch : Bool → ℕ → Bool
-isArch true arch = eqb arch 1 || eqb arch 2
-isArch false arch = eqb arch 6
+isArch true arch = eqb arch archX86 || eqb arch archX64
+isArch false arch = eqb arch archA64
 
 abbrev pub supportsArch : LabelUse → ℕ → Bool
 supportsArch k arch = isArch (info k .x86) arch

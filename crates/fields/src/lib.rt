@@ -9,6 +9,13 @@ ghost use Rattle.fields.specs.Kinds.{info, codeOf, decoded, patchSize, i
 ghost use Rattle.fields.specs.Reach.{multiple, canReachDelta, canReach, pagesReach, reachRefusal};
 ghost use Rattle.fields.specs.Patch.{insertAdr, patchedWord, patched, heldAddend, patchedUse};
 
+// Document 01's numbers of the architectures.
+pub const X86: u32 = 1;
+
+pub const X64: u32 = 2;
+
+pub const AARCH64: u32 = 6;
+
 pub enum LabelUse {
     // 32-bit displacement, counted from the end of the field.
     X86JmpRel32,
@@ -107,12 +114,12 @@ fn is_arch(x86: bool, arch: u32) -> bool
     ensures { λ r. ⌜ r ≡ isArch x86 arch ⌝ }
 {
     if x86 {
-        if arch == 1 {
+        if arch == X86 {
             return true;
         }
-        return arch == 2;
+        return arch == X64;
     }
-    arch == 6
+    arch == AARCH64
 }
 
 // `v`, a 32-bit two's complement word, as a 64-bit one.

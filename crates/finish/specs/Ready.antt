@@ -9,6 +9,8 @@ use lib.ListN.{length, take}
 use Rattle.seqs.specs.Pick.{pick, first}
 use Rattle.seqs.specs.Over.{over}
 use Rattle.words.specs.Words.{wordAt}
+use Rattle.fields.specs.Kinds.{archX64}
+use Rattle.buffer.specs.State.{mostEntries, mostCode}
 use Rattle.recording.specs.Sound.{startAt, endAt, CodeSound, LabelSound, EventsSound, UsesSound, RefsSound, RelocsSound}
 use Rattle.relax.specs.declared.Segment.{Segment}
 use Rattle.relax.specs.Events.{eventAt}
@@ -43,7 +45,7 @@ pub record Ready (code labels events constants asked : List ℕ) (arch len count
   pub owned : (j : ℕ) → j < m → labelAt constants asked j < count
   pub stands : (j : ℕ) → j < m → wordAt labels (labelAt constants asked j) ≡ poolOffset len constants asked j
   pub room : count * 4 ≤ length labels
-  pub limit : count ≤ 65536
+  pub limit : count ≤ mostEntries
   pub landed : (l : ℕ) → l < count → Landed events n len constants asked m (wordAt labels l)
 
 -- the tables that name labels, with their entries checked
@@ -58,33 +60,33 @@ pub record Entered (labels events uses refs relocs : List ℕ) (arch symbols len
 pub record Clearing (refs events labels constants asked : List ℕ) (f n m code end : ℕ) : Type 0 where
   pub refs-room : f * 16 ≤ length refs
   pub events-room : n * 20 ≤ length events
-  pub few : n ≤ 65536
-  pub pool-few : m ≤ 65536
+  pub few : n ≤ mostEntries
+  pub pool-few : m ≤ mostEntries
   pub ends : end ≡ poolStart code constants asked m
   pub ordered : search.Ordered (startAt events) (endAt events) n
   pub placed : search.Placed labels constants asked code m
 
 -- where the recorded code ends in the output
 abbrev pub endOfRuns : List ℕ → List ℕ → List Bool → ℕ → ℕ → ℕ
-endOfRuns code events long len n = length (runs 2 0 0 (take len code) (entries (eventAt events) n) long)
+endOfRuns code events long len n = length (runs archX64 0 0 (take len code) (entries (eventAt events) n) long)
 
 -- the output once all is written, in the order of the calls
 abbrev pub codeWritten : List ℕ → List ℕ → List ℕ → List ℕ → List ℕ → List ℕ → List ℕ → List Bool → List Segment → ℕ → ℕ → ℕ → ℕ → List ℕ
 codeWritten output code labels events refs constants asked long ss len n m f =
     let to = endOfRuns code events long len n in
-    let placed = over output 0 (runs 2 0 0 (take len code) (entries (eventAt events) n) long) in
-    let laid = over placed to (poolBytes 2 to constants asked m) in
+    let placed = over output 0 (runs archX64 0 0 (take len code) (entries (eventAt events) n) long) in
+    let laid = over placed to (poolBytes archX64 to constants asked m) in
     poolWritten (jumpsFilled (refsFilled laid refs labels ss (n + m) f) events labels long ss n) labels constants asked m
 
 -- what the code is written from: a layout of a choice of long jumps in the table, labels at their new offsets, and an output that has room. `to` is where
 -- the recorded code ends in the output.
 pub record Writing (output code labels events refs constants asked : List ℕ) (long : List Bool) (ss : List Segment) (len n m f to : ℕ) : Type 0 where
-  pub small : len ≤ 16777216
+  pub small : len ≤ mostCode
   pub rising : Rising ss n
   pub rising-all : Rising ss (n + m)
-  pub emits : Emits output code events long ss n len 2
+  pub emits : Emits output code events long ss n len archX64
   pub ends : mapOffset (take n ss) len ≡ to
-  pub near : to ≤ 16777216
+  pub near : to ≤ mostCode
   pub pool : PoolFits constants asked m
   pub pooled : poolStart to constants asked m ≤ length output
   pub filled : RefsFit (length output) refs labels ss (n + m) f
@@ -101,7 +103,7 @@ codeCopied output code labels uses constants asked arch len u m =
 -- what it is copied from, into an output that has room
 pub record Copying (output code labels uses constants asked : List ℕ) (len u m : ℕ) : Type 0 where
   pub coded : len ≤ length code
-  pub small : len ≤ 16777216
+  pub small : len ≤ mostCode
   pub pool : PoolFits constants asked m
   pub pooled : poolStart len constants asked m ≤ length output
   pub room : len ≤ length output
@@ -111,12 +113,12 @@ pub record Copying (output code labels uses constants asked : List ℕ) (len u m
 
 -- what a finish with a jump is handed
 pub record Relaxable (code labels events refs constants asked relocs output : List ℕ) (segments len count n m f l : ℕ) : Type 0 where
-  pub ready : Ready code labels events constants asked 2 len count n m
-  pub referred : RefsSound refs f 2 count
+  pub ready : Ready code labels events constants asked archX64 len count n m
+  pub referred : RefsSound refs f archX64 count
   pub moved : WordsFit relocs 6 l
-  pub few : n ≤ 65536
-  pub segments-limit : segments ≤ 65536
-  pub output-limit : length output ≤ 16777216
+  pub few : n ≤ mostEntries
+  pub segments-limit : segments ≤ mostEntries
+  pub output-limit : length output ≤ mostCode
 
 -- what a layout is handed: nothing refused it
 pub record Layable (code labels events refs constants asked relocs output : List ℕ) (segments len count n m f l : ℕ) : Type 0 where
@@ -143,9 +145,9 @@ kept p output =
 pub record Placeable (b : CodeBuffer) (code labels events uses refs constants asked relocs output : List ℕ) (segments : ℕ) : Type 0 where
   pub ready : Ready code labels events constants asked (b .arch) (b .code) (b .labels) (b .events) (b .asked)
   pub entered : Entered labels events uses refs relocs (b .arch) (b .symbols) (b .code) (b .labels) (b .events) (b .uses) (b .refs) (b .relocs)
-  pub few : b .events ≤ 65536
-  pub segments-limit : segments ≤ 65536
-  pub output-limit : length output ≤ 16777216
+  pub few : b .events ≤ mostEntries
+  pub segments-limit : segments ≤ mostEntries
+  pub output-limit : length output ≤ mostCode
 
 -- the pooled recording of what is lent
 abbrev pub pooledOf : CodeBuffer → List ℕ → List ℕ → List ℕ → List ℕ → List ℕ → List ℕ → List ℕ → Pooled
@@ -166,7 +168,7 @@ pub record Starts (b : CodeBuffer) (code labels events uses refs constants asked
   pub relaxable : Relaxable code labels events refs constants asked relocs output segments (b .code) (b .labels) (b .events) (b .asked) (b .refs) (b .relocs)
   pub laid : 0 ≡ first ((ltb segments (b .events + b .asked), 16) ∷ (not (refsClear refs (b .refs) events (b .events) (b .code) constants asked (b .asked)), 17) ∷ [])
   pub placed : (ss : List Segment) (x : Outcome × Left)
-      → ((us : List Use) → x ≡ relaxed (tablesPooled 2 (b .code) (take (b .code) code) (entries (wordAt labels) (b .labels)) (entries (eventAt events) (b .events)) us (entries (refAt refs) (b .refs)) constants asked (b .asked)) (b .relocs) labels relocs ss output)
+      → ((us : List Use) → x ≡ relaxed (tablesPooled archX64 (b .code) (take (b .code) code) (entries (wordAt labels) (b .labels)) (entries (eventAt events) (b .events)) us (entries (refAt refs) (b .refs)) constants asked (b .asked)) (b .relocs) labels relocs ss output)
       → x ≡ placedAs (pooledOf b code labels events uses refs constants asked) b labels relocs ss output
 
 -- the answer and the labels once a recording is placed: one that is refused gets the pool's labels back
@@ -180,5 +182,5 @@ pub record Begins (r : Recording) (labels output left : List ℕ) (segments : �
   pub relaxable : Relaxable (r .code) labels (r .events) (r .refs) (r .constants) (r .asked) (r .relocs) output segments (r .buffer .code) (r .buffer .labels) (r .buffer .events) (r .buffer .asked) (r .buffer .refs) (r .buffer .relocs)
   pub laid : 0 ≡ first ((ltb segments (r .buffer .events + r .buffer .asked), 16) ∷ (not (refsClear (r .refs) (r .buffer .refs) (r .events) (r .buffer .events) (r .buffer .code) (r .constants) (r .asked) (r .buffer .asked)), 17) ∷ [])
   pub concludes : (ss : List Segment) → length ss ≡ segments → (placed : Outcome) (x : Left)
-      → ((us : List Use) → (placed, x) ≡ relaxed (tablesPooled 2 (r .buffer .code) (take (r .buffer .code) (r .code)) (entries (wordAt labels) (r .buffer .labels)) (entries (eventAt (r .events)) (r .buffer .events)) us (entries (refAt (r .refs)) (r .buffer .refs)) (r .constants) (r .asked) (r .buffer .asked)) (r .buffer .relocs) labels (r .relocs) ss output)
+      → ((us : List Use) → (placed, x) ≡ relaxed (tablesPooled archX64 (r .buffer .code) (take (r .buffer .code) (r .code)) (entries (wordAt labels) (r .buffer .labels)) (entries (eventAt (r .events)) (r .buffer .events)) us (entries (refAt (r .refs)) (r .buffer .refs)) (r .constants) (r .asked) (r .buffer .asked)) (r .buffer .relocs) labels (r .relocs) ss output)
       → (f : Finished) (back : List ℕ) → (f, back) ≡ concluded (r .buffer) (r .constants) (r .asked) placed (x .0) → (f, (back, x .1)) ≡ finish r ss output

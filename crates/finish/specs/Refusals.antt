@@ -13,7 +13,7 @@ use Rattle.fields.specs.Kinds.{decoded}
 use Rattle.fields.specs.Reach.{canReachDelta}
 use Rattle.relax.specs.declared.LayoutEvent.{LayoutEvent}
 use Rattle.relax.specs.Events.{endOf, startOf}
-use Rattle.buffer.specs.State.{none, mostCode}
+use Rattle.buffer.specs.State.{none, mostCode, labelTarget}
 use Rattle.buffer.specs.Refusals.{standing}
 use Rattle.recording.specs.Calls.{Recording}
 use Rattle.recording.specs.View as tables
@@ -48,7 +48,7 @@ abbrev pub jumpBound : List ℕ → LayoutEvent → Bool
 jumpBound labels e = boundBy labels (roleOf e)
 
 unfoldable pub relocBound : List ℕ → tables.Relocation → Bool
-relocBound labels l = ltb (l .target) 2147483648 || isBound labels (l .target - 2147483648)
+relocBound labels l = ltb (l .target) labelTarget || isBound labels (l .target - labelTarget)
 
 unfoldable pub allBound : Pooled → List tables.Relocation → Bool
 allBound p relocs =

@@ -3,8 +3,8 @@
 use mathlib.Core.Bool.{cond}
 use mathlib.Core.List.{List, [], _++_}
 use Prim.Native.Nat.{ℕ}
-use lib.Dec.{eqb}
 use Rattle.relax.specs.declared.LayoutEvent.{LayoutEvent}
+use Rattle.buffer.specs.State.{keepsEvents}
 use Rattle.recording.specs.View.{entries, Use, Ref}
 use Rattle.fresh.specs.Pooled.{Placed, Pooled}
 use Rattle.pool.specs.Pool.{bytesAt, poolOffset, poolEvent, poolBytes}
@@ -17,7 +17,7 @@ tablesPooled arch from code labels events uses refs constants asked m =
     record {
       arch = arch;
       code = code ++ poolBytes arch from constants asked m;
-      events = events ++ cond (eqb arch 2) (entries (poolEvent from constants asked) m) [];
+      events = events ++ cond (keepsEvents arch) (entries (poolEvent from constants asked) m) [];
       labels = labels;
       uses = uses;
       refs = refs;

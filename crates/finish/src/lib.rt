@@ -94,7 +94,7 @@ fn why_unfit(
     if pool::is_bound(labels, constants, asked, m) {
         return 13;
     }
-    if 16777216 < pool::pool_end(b.code, constants, asked, m) {
+    if buffer::MOST_CODE < pool::pool_end(b.code, constants, asked, m) as usize {
         return 14;
     }
     0

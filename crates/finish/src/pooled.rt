@@ -7,6 +7,7 @@ ghost use lib.Dec.{ltb};
 ghost use lib.ListN.{length, take, replicate};
 ghost use Rattle.seqs.specs.Pick.{first, orElse};
 ghost use Rattle.words.specs.Words.{wordAt};
+ghost use Rattle.fields.specs.Kinds.{archX64};
 ghost use Rattle.relax.specs.declared.LayoutEvent.{LayoutEvent};
 ghost use Rattle.relax.specs.declared.Segment.{Segment};
 ghost use Rattle.relax.specs.Events.{eventAt};
@@ -125,10 +126,10 @@ pub(crate) fn write_relaxed(
         segments,
         recorded,
         b.code as usize,
-        2,
+        fields::X64,
     );
     let to = layout::map(segments, recorded, b.code);
-    pool::emit(output, 2, to, constants, asked, pooled);
+    pool::emit(output, fields::X64, to, constants, asked, pooled);
     emit::patch_refs(
         output,
         refs,
@@ -156,7 +157,7 @@ pub(crate) fn relax_and_write(
     long: &mut [bool],
 ) -> Outcome
     requires { ⌜ Layable (now code) (now labels) (now events) (now refs) (now constants) (now asked) (now relocs) (now output) (length (now segments)) (b .code) (b .labels) (b .events) (b .asked) (b .refs) (b .relocs) ⌝ ∗ ⌜ now long ≡ replicate (b .events + b .asked) false ⌝ }
-    ensures { λ r. ⌜ ((us : List tables.Use) → (r, (now (labels .exit), (now (relocs .exit), (now (segments .exit), now (output .exit))))) ≡ relaxed (tablesPooled 2 (b .code) (take (b .code) (now (code .entry))) (tables.entries (wordAt (now (labels .entry))) (b .labels)) (tables.entries (eventAt (now (events .entry))) (b .events)) us (tables.entries (tables.refAt (now (refs .entry))) (b .refs)) (now (constants .entry)) (now (asked .entry)) (b .asked)) (b .relocs) (now (labels .entry)) (now (relocs .entry)) (now (segments .entry)) (now (output .entry))) ⌝ }
+    ensures { λ r. ⌜ ((us : List tables.Use) → (r, (now (labels .exit), (now (relocs .exit), (now (segments .exit), now (output .exit))))) ≡ relaxed (tablesPooled archX64 (b .code) (take (b .code) (now (code .entry))) (tables.entries (wordAt (now (labels .entry))) (b .labels)) (tables.entries (eventAt (now (events .entry))) (b .events)) us (tables.entries (tables.refAt (now (refs .entry))) (b .refs)) (now (constants .entry)) (now (asked .entry)) (b .asked)) (b .relocs) (now (labels .entry)) (now (relocs .entry)) (now (segments .entry)) (now (output .entry))) ⌝ }
 {
     let recorded = b.events as usize;
     let pooled = b.asked as usize;
@@ -212,7 +213,7 @@ pub(crate) fn relaxed(
     output: &mut [u8],
 ) -> Outcome
     requires { ⌜ Layable (now code) (now labels) (now events) (now refs) (now constants) (now asked) (now relocs) (now output) (length (now segments)) (b .code) (b .labels) (b .events) (b .asked) (b .refs) (b .relocs) ⌝ }
-    ensures { λ r. ⌜ ((us : List tables.Use) → (r, (now (labels .exit), (now (relocs .exit), (now (segments .exit), now (output .exit))))) ≡ relaxed (tablesPooled 2 (b .code) (take (b .code) (now (code .entry))) (tables.entries (wordAt (now (labels .entry))) (b .labels)) (tables.entries (eventAt (now (events .entry))) (b .events)) us (tables.entries (tables.refAt (now (refs .entry))) (b .refs)) (now (constants .entry)) (now (asked .entry)) (b .asked)) (b .relocs) (now (labels .entry)) (now (relocs .entry)) (now (segments .entry)) (now (output .entry))) ⌝ }
+    ensures { λ r. ⌜ ((us : List tables.Use) → (r, (now (labels .exit), (now (relocs .exit), (now (segments .exit), now (output .exit))))) ≡ relaxed (tablesPooled archX64 (b .code) (take (b .code) (now (code .entry))) (tables.entries (wordAt (now (labels .entry))) (b .labels)) (tables.entries (eventAt (now (events .entry))) (b .events)) us (tables.entries (tables.refAt (now (refs .entry))) (b .refs)) (now (constants .entry)) (now (asked .entry)) (b .asked)) (b .relocs) (now (labels .entry)) (now (relocs .entry)) (now (segments .entry)) (now (output .entry))) ⌝ }
 {
     let all = b.events as usize + b.asked as usize;
     let mut long = [false; 65536];

@@ -2,12 +2,12 @@
 use mathlib.Core.Bool.{cond}
 use mathlib.Core.List.{List, [], _∷_, _++_}
 use Prim.Native.Nat.{ℕ, zero, suc, _+_}
-use lib.Dec.{eqb, leb}
+use lib.Dec.{leb}
 use lib.ListN.{length, getD, set, replicate}
 use Rattle.encoder.specs.Padding.{paddingLength}
 use Rattle.relax.specs.declared.LayoutEvent.{LayoutEvent}
 use Rattle.relax.specs.declared.LayoutEvent.the-variants.{Align}
-use Rattle.buffer.specs.State.{none}
+use Rattle.buffer.specs.State.{none, keepsEvents}
 use Rattle.buffer.specs.Calls.{padding}
 use Rattle.recording.specs.View.{Use, Ref, Constant, View}
 
@@ -39,7 +39,7 @@ pooledOne p k =
     record {
       arch = p .arch;
       code = p .code ++ (padding (p .arch) len ++ replicate (length (k .bytes)) 0);
-      events = p .events ++ cond (eqb (p .arch) 2) (Align (record { start = start; len = len; align = multiple }) ∷ []) [];
+      events = p .events ++ cond (keepsEvents (p .arch)) (Align (record { start = start; len = len; align = multiple }) ∷ []) [];
       labels = set (p .labels) (k .label) (start + len);
       uses = p .uses;
       refs = p .refs;

@@ -23,6 +23,7 @@ use Rattle.fresh.proofs.Shape.{newStarts}
 use Rattle.fresh.proofs.Tests.{by-role}
 use Rattle.fresh.proofs.Choices.{farOf-getD, length-farOf, length-join, join-getD, any-suc, pads-near, branch-far, long-near}
 use Rattle.fresh.specs.Forms.{Branch, branches, roleOf}
+use Rattle.pool.specs.Pool.{offsetBound}
 use Rattle.layout.specs.Layout.{zeroSegment, Known, soughtBy, farIn}
 use Rattle.recording.proofs.Views.{length-entries, getD-entries}
 
@@ -74,14 +75,14 @@ far-sought g at e false start t h = by-role e
 
 -- and it can be mapped.
 pub sought-small : (e : LayoutEvent) (long : Bool) (labels : List ℕ) → Known e labels → soughtBy e long (wordAt labels) ≢ none
-    → soughtBy e long (wordAt labels) ≤ 300000000
+    → soughtBy e long (wordAt labels) ≤ offsetBound
 unfolding soughtBy
 sought-small e long labels known bound = by-role e
     (λ r. absurd (bound (rw (r, soughtBy) refl)))
     (λ b r. rw (sought-label e b long (wordAt labels) r) (small b r long (rw (sought-label e b long (wordAt labels) r) at bound)))
   where
     small : (b : Branch) → roleOf e ≡ branches b → (long : Bool) → cond long none (wordAt labels (b .label)) ≢ none
-        → cond long none (wordAt labels (b .label)) ≤ 300000000
+        → cond long none (wordAt labels (b .label)) ≤ offsetBound
     small b r true q = absurd (q refl)
     small b r false q = known .small b r q
 

@@ -17,6 +17,7 @@ use Rattle.fresh.proofs.Shape.{Ordered, Small, Modest, Cursor, after}
 use Rattle.fresh.proofs.Events.{ordered-le}
 use Rattle.fresh.proofs.Choices.{isLong-getD, others-getD}
 use Rattle.fresh.proofs.Loops.{length-segments, segments-snoc, after-le}
+use Rattle.pool.specs.Pool.{offsetBound}
 use Rattle.layout.specs.Layout.{Follows, Recorded, Laid}
 use Rattle.recording.proofs.Views.{length-entries}
 use Rattle.layout.proofs.Entries.{entries-split}
@@ -115,7 +116,7 @@ recorded-more events n code rec = record {
 
 -- What follows the recorded events stands at a small new offset.
 pub events-end : (before ss : List Segment) (events : List ℕ) (n code : ℕ) (c : Choice) (old new : ℕ) → Recorded events n code → n ≤ 65536
-    → Laid before ss (entries (eventAt events) n) c old new → (old ≤ code) × (new + (code - old) ≤ 300000000)
+    → Laid before ss (entries (eventAt events) n) c old new → (old ≤ code) × (new + (code - old) ≤ offsetBound)
 events-end before ss events n code c old new rec few laid =
     let es = entries (eventAt events) n in
     omega (

@@ -10,14 +10,14 @@ use Rattle.words.specs.Words.{wordAt}
 use Rattle.relax.specs.declared.LayoutEvent.{LayoutEvent}
 use Rattle.relax.specs.declared.Segment.{Segment}
 use Rattle.relax.specs.Events.{eventAt, endOf, startOf}
-use Rattle.buffer.specs.State.{none}
+use Rattle.buffer.specs.State.{none, mostCode}
 use Rattle.recording.specs.View.{entries}
 use Rattle.fresh.specs.Forms.{Branch, pads, branches, roleOf}
 use Rattle.fresh.specs.Fresh.{Choice}
 use Rattle.fresh.specs.Rounds.{Settled, allShort, jumps, farOf, any, join}
 use Rattle.fresh.specs.Segments.{segments, mapOffset}
 use Rattle.fresh.proofs.Shape.{Ordered, Small, Modest, newStarts, after}
-use Rattle.pool.specs.Pool.{poolEvent}
+use Rattle.pool.specs.Pool.{poolEvent, offsetBound}
 
 -- all zeros: the segment before the first, and what a table has past its end
 abbrev pub zeroSegment : Segment
@@ -31,7 +31,7 @@ startAt ss i = (getD ss i zeroSegment) .«old_start»
 pub record Rising (ss : List Segment) (n : ℕ) : Type 0 where
   pub fits : n ≤ length ss
   pub rises : (i j : ℕ) → i ≤ j → j < n → startAt ss i ≤ startAt ss j
-  pub small : (i : ℕ) → i < n → ((getD ss i zeroSegment) .«new_start» ≤ 300000000) × ((getD ss i zeroSegment) .«new_end» ≤ 300000000)
+  pub small : (i : ℕ) → i < n → ((getD ss i zeroSegment) .«new_start» ≤ offsetBound) × ((getD ss i zeroSegment) .«new_end» ≤ offsetBound)
 
 -- of the first n segments those before lo start at or before an offset, those from hi on after it
 pub record Between (ss : List Segment) (n offset lo hi : ℕ) : Type 0 where
@@ -44,15 +44,15 @@ pub record Between (ss : List Segment) (n offset lo hi : ℕ) : Type 0 where
 pub record Follows (event : LayoutEvent) (old new : ℕ) : Type 0 where
   pub order : old ≤ startOf event
   pub modest : Small event
-  pub ends : endOf event ≤ 300000000
-  pub small : new + (startOf event - old) ≤ 300000000
+  pub ends : endOf event ≤ offsetBound
+  pub small : new + (startOf event - old) ≤ offsetBound
 
 -- what a layout is handed for the recorded events: n entries that lie in their table, follow one another in `code` bytes, and are modest
 pub record Recorded (events : List ℕ) (n code : ℕ) : Type 0 where
   pub room : n * 20 ≤ length events
   pub ordered : Ordered 0 code (entries (eventAt events) n)
   pub modest : Modest (entries (eventAt events) n)
-  pub small : code ≤ 16777216
+  pub small : code ≤ mostCode
 
 -- the recorded events, and after them the alignments of the pool that starts where the code ends
 abbrev pub allEvents : List ℕ → ℕ → ℕ → List ℕ → List ℕ → ℕ → List LayoutEvent
@@ -74,7 +74,7 @@ pub record Laid (before ss : List Segment) (es : List LayoutEvent) (c : Choice) 
 -- the label that an event names lies in its table, and is unbound or small
 pub record Known (event : LayoutEvent) (labels : List ℕ) : Type 0 where
   pub room : (b : Branch) → roleOf event ≡ branches b → b .label * 4 + 4 ≤ length labels
-  pub small : (b : Branch) → roleOf event ≡ branches b → wordAt labels (b .label) ≢ none → wordAt labels (b .label) ≤ 300000000
+  pub small : (b : Branch) → roleOf event ≡ branches b → wordAt labels (b .label) ≢ none → wordAt labels (b .label) ≤ offsetBound
 
 -- so for each of the first n events
 pub record Labelled (events labels : List ℕ) (n : ℕ) : Type 0 where

@@ -16,7 +16,7 @@ ghost use Rattle.fresh.specs.Forms.{width};
 ghost use Rattle.fresh.specs.Rounds.{isFar, any, join};
 ghost use Rattle.fresh.specs.Segments.{segment, image, mapOffset};
 ghost use Rattle.fresh.specs.Segments as fresh;
-ghost use Rattle.pool.specs.Pool.{poolStart, poolEvent, PoolFits};
+ghost use Rattle.pool.specs.Pool.{poolStart, poolEvent, PoolFits, offsetBound};
 ghost use Rattle.layout.specs.Layout.{zeroSegment, Rising, Between, Follows, Recorded, allEvents, endFrom, finishedLength, Laid, Known, soughtBy, Labelled, farIn, Relaxed};
 use relax::LayoutEvent;
 use relax::Segment;
@@ -64,7 +64,7 @@ fn find(segments: &[Segment], n: usize, offset: u32) -> usize
 
 // Where a segment takes an offset at or past its start.
 fn place(segment: Segment, offset: u32) -> u32
-    requires { ⌜ (segment .«old_start» ≤ offset) × (offset ≤ 300000000) × (segment .«new_start» ≤ 300000000) × (segment .«new_end» ≤ 300000000) ⌝ }
+    requires { ⌜ (segment .«old_start» ≤ offset) × (offset ≤ offsetBound) × (segment .«new_start» ≤ offsetBound) × (segment .«new_end» ≤ offsetBound) ⌝ }
     ensures { λ r. ⌜ r ≡ image segment offset ⌝ }
 {
     if offset < segment.old_end {
@@ -75,7 +75,7 @@ fn place(segment: Segment, offset: u32) -> u32
 
 // The new offset of what was recorded at an offset.
 pub fn map(segments: &[Segment], n: usize, offset: u32) -> u32
-    requires { ⌜ Rising (now segments) n ⌝ ∗ ⌜ (offset ≢ none → offset ≤ 300000000) ⌝ }
+    requires { ⌜ Rising (now segments) n ⌝ ∗ ⌜ (offset ≢ none → offset ≤ offsetBound) ⌝ }
     ensures { λ r. ⌜ r ≡ mapOffset (take n (now (segments .entry))) offset ⌝ }
 {
     if offset == buffer::NONE {
@@ -150,7 +150,7 @@ fn layout_pool(
     old: u32,
     new: u32,
 ) -> u32
-    requires { ⌜ PoolFits (now constants) (now asked) m ⌝ ∗ ⌜ (n ≤ 65536) × (n + m ≤ length (now segments)) × (old ≤ 300000000) × (new ≤ 300000000) ⌝ }
+    requires { ⌜ PoolFits (now constants) (now asked) m ⌝ ∗ ⌜ (n ≤ 65536) × (n + m ≤ length (now segments)) × (old ≤ offsetBound) × (new ≤ offsetBound) ⌝ }
     ensures { λ r. ⌜ now (segments .exit) ≡ over (now (segments .entry)) n (fresh.segments old new (entries (poolEvent old (now (constants .entry)) (now (asked .entry))) m) []) ⌝ }
     ensures { λ r. ⌜ r ≡ endFrom old new (entries (poolEvent old (now (constants .entry)) (now (asked .entry))) m) [] (poolStart old (now (constants .entry)) (now (asked .entry)) m) ⌝ }
 {

@@ -10,9 +10,14 @@ use Rattle.words.specs.Words.{wordAt, setWord}
 use Rattle.encoder.specs.Padding.{paddingLength}
 use Rattle.relax.specs.declared.LayoutEvent.{LayoutEvent}
 use Rattle.relax.specs.declared.LayoutEvent.the-variants.{Align}
-use Rattle.buffer.specs.State.{none}
+use Rattle.buffer.specs.State.{none, mostEntries}
 use Rattle.buffer.specs.Calls.{padding}
 use Rattle.fresh.specs.Pooled.{constantAlignment}
+
+-- No offset in a recording, in its pool or in their layout is greater: code has at most 16,777,216 bytes, a pooled constant takes at most 79, and of
+-- at most 65,536 events each takes at most 4,096.
+abbrev pub offsetBound : ℕ
+offsetBound = 300000000
 
 -- the size, the label and the bytes of the constant that was asked for as number j
 abbrev pub sizeAt : List ℕ → List ℕ → ℕ → ℕ
@@ -77,7 +82,7 @@ poolIsBound labels constants asked (suc j) =
 
 -- what the functions of the pool are handed: entries that lie in their tables
 pub record PoolFits (constants asked : List ℕ) (n : ℕ) : Type 0 where
-  pub few : n ≤ 65536
+  pub few : n ≤ mostEntries
   pub room : n * 4 ≤ length asked
   pub listed : (j : ℕ) → j < n → wordAt asked j * 72 + 72 ≤ length constants
   pub sized : (j : ℕ) → j < n → sizeAt constants asked j ≤ 64

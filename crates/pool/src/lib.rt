@@ -6,7 +6,7 @@ ghost use lib.ListN.{length};
 ghost use Rattle.seqs.specs.Over.{over};
 ghost use Rattle.words.specs.Words.{wordAt};
 ghost use Rattle.fresh.specs.Pooled.{constantAlignment};
-ghost use Rattle.pool.specs.Pool.{sizeAt, labelAt, poolStart, poolBytes, poolBound, poolUnbound, poolWritten, poolIsBound, PoolFits, PoolLabels, PoolRoom};
+ghost use Rattle.pool.specs.Pool.{sizeAt, labelAt, poolStart, poolBytes, poolBound, poolUnbound, poolWritten, poolIsBound, PoolFits, PoolLabels, PoolRoom, offsetBound};
 
 // What a constant of `size` bytes is aligned on.
 pub fn constant_alignment(size: u32) -> u32
@@ -36,7 +36,7 @@ pub fn label_at(constants: &[u8], asked: &[u8], j: usize) -> u32
 
 // Where the pool ends, if it starts at `from`.
 pub fn pool_end(from: u32, constants: &[u8], asked: &[u8], n: usize) -> u32
-    requires { ⌜ PoolFits (now constants) (now asked) n ⌝ ∗ ⌜ from ≤ 300000000 ⌝ }
+    requires { ⌜ PoolFits (now constants) (now asked) n ⌝ ∗ ⌜ from ≤ offsetBound ⌝ }
     ensures { λ r. ⌜ (r ≡ poolStart from (now (constants .entry)) (now (asked .entry)) n) × (r ≤ from + n * 79) ⌝ }
 {
     let mut at = from;
@@ -67,7 +67,7 @@ pub fn is_bound(labels: &[u8], constants: &[u8], asked: &[u8], n: usize) -> bool
 
 // Binds the constants' labels where the constants will stand.
 pub fn bind(from: u32, labels: &mut [u8], constants: &[u8], asked: &[u8], n: usize)
-    requires { ⌜ PoolFits (now constants) (now asked) n ⌝ ∗ ⌜ PoolLabels (now labels) (now constants) (now asked) n ⌝ ∗ ⌜ from ≤ 300000000 ⌝ }
+    requires { ⌜ PoolFits (now constants) (now asked) n ⌝ ∗ ⌜ PoolLabels (now labels) (now constants) (now asked) n ⌝ ∗ ⌜ from ≤ offsetBound ⌝ }
     ensures { λ _. ⌜ now (labels .exit) ≡ poolBound from (now (labels .entry)) (now (constants .entry)) (now (asked .entry)) n ⌝ }
 {
     let mut at = from;
@@ -97,7 +97,7 @@ pub fn unbind(labels: &mut [u8], constants: &[u8], asked: &[u8], n: usize)
 
 // Writes the pool's padding, and zeros where the constants will stand.
 pub fn emit(output: &mut [u8], arch: u32, from: u32, constants: &[u8], asked: &[u8], n: usize)
-    requires { ⌜ PoolFits (now constants) (now asked) n ⌝ ∗ ⌜ from ≤ 300000000 ⌝ ∗ ⌜ poolStart from (now constants) (now asked) n ≤ length (now output) ⌝ }
+    requires { ⌜ PoolFits (now constants) (now asked) n ⌝ ∗ ⌜ from ≤ offsetBound ⌝ ∗ ⌜ poolStart from (now constants) (now asked) n ≤ length (now output) ⌝ }
     ensures { λ _. ⌜ now (output .exit) ≡ over (now (output .entry)) from (poolBytes arch from (now (constants .entry)) (now (asked .entry)) n) ⌝ }
 {
     let mut at = from;

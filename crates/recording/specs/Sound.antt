@@ -7,15 +7,15 @@ use Prim.Native.Nat.{ℕ, _+_, _*_, _/_, _≤_, _<_}
 use lib.ListN.{length}
 use Rattle.words.specs.Words.{wordAt}
 use Rattle.encoder.specs.Padding.{paddingLength}
-use Rattle.fields.specs.Kinds.{decoded}
-use Rattle.buffer.specs.State.{none}
+use Rattle.fields.specs.Kinds.{decoded, archX64}
+use Rattle.buffer.specs.State.{none, mostCode, mostEntries, labelTarget}
 use Rattle.buffer.specs.Refusals.{foreign, foreignReloc, isAlignment}
 use Rattle.recording.specs.Calls.{Recording}
 
 -- the bytes of code lie within what is lent, and within the limit
 pub record CodeSound (code : List ℕ) (count : ℕ) : Type 0 where
   pub room : count ≤ length code
-  pub limit : count ≤ 16777216
+  pub limit : count ≤ mostCode
 
 -- an event's start and end, in the table
 abbrev pub startAt : List ℕ → ℕ → ℕ
@@ -30,7 +30,7 @@ LabelSound events count code offset = (offset ≡ none) ⊎ ((offset ≤ code) �
 
 pub record LabelsSound (labels : List ℕ) (count : ℕ) (events : List ℕ) (eventCount code : ℕ) : Type 0 where
   pub room : count ≤ length labels / 4
-  pub limit : count ≤ 65536
+  pub limit : count ≤ mostEntries
   pub entry : (i : ℕ) → i < count → LabelSound events eventCount code (wordAt labels i)
 
 -- The columns of an event. A jump: length 2..15, a known label, a condition up to 16. An alignment: a power of two up to 4,096, and the least length
@@ -53,7 +53,7 @@ pub record EventSound (events : List ℕ) (labels code j : ℕ) : Type 0 where
 -- only X64 keeps events
 pub record EventsSound (events : List ℕ) (count labels code arch : ℕ) : Type 0 where
   pub room : count ≤ length events / 20
-  pub tracked : (arch ≡ 2) ⊎ (count ≡ 0)
+  pub tracked : (arch ≡ archX64) ⊎ (count ≡ 0)
   pub entry : (j : ℕ) → j < count → EventSound events labels code j
 
 -- A use: a code of the architecture other than 15, a known label.
@@ -74,12 +74,12 @@ pub record RefSound (refs : List ℕ) (arch labels i : ℕ) : Type 0 where
 -- only X64 keeps refs
 pub record RefsSound (refs : List ℕ) (count arch labels : ℕ) : Type 0 where
   pub room : count ≤ length refs / 16
-  pub tracked : (arch ≡ 2) ⊎ (count ≡ 0)
+  pub tracked : (arch ≡ archX64) ⊎ (count ≡ 0)
   pub entry : (i : ℕ) → i < count → RefSound refs arch labels i
 
 -- a symbol below the count, or a known label + 2^31
 abbrev pub Target : ℕ → ℕ → ℕ → Type 0
-Target symbols labels target = ((target < 2147483648) × (target < symbols)) ⊎ ((2147483648 ≤ target) × (target < 2147483648 + labels))
+Target symbols labels target = ((target < labelTarget) × (target < symbols)) ⊎ ((labelTarget ≤ target) × (target < labelTarget + labels))
 
 pub record RelocSound (relocs : List ℕ) (arch symbols labels i : ℕ) : Type 0 where
   pub offset : wordAt relocs (i * 6) ≤ 16777215
@@ -98,7 +98,7 @@ pub record ConstantSound (constants : List ℕ) (labels i : ℕ) : Type 0 where
 
 pub record ConstantsSound (constants : List ℕ) (count labels : ℕ) : Type 0 where
   pub room : count ≤ length constants / 72
-  pub limit : count ≤ 65536
+  pub limit : count ≤ mostEntries
   pub entry : (i : ℕ) → i < count → ConstantSound constants labels i
 
 abbrev pub labelOf : List ℕ → ℕ → ℕ

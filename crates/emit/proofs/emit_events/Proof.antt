@@ -27,7 +27,7 @@ loop-holds c = (omega arith, refl, refl, sym (over-nil _ 0))
 segment-at-requires : tie.Need-segment-at-requires Inv-loop μ-loop
 segment-at-requires c κs =
     let start : tie.Start Inv-loop μ-loop = search in
-    omega (arith, segments-size _ _ _ _ _ _ _ _ (start .pre))
+    omega (arith, segments-size (start .pre))
 
 shared-slice-read-emit-segment : tie.Need-shared-slice-read-emit-segment Inv-loop μ-loop
 shared-slice-read-emit-segment c =
@@ -41,15 +41,15 @@ emit-segment-requires c κs =
     let at-loop : tie.At-loop Inv-loop μ-loop = search in
     let start : tie.Start Inv-loop μ-loop = search in
     let p = start .pre in
-    let begins = begins _ _ _ _ _ _ _ _ (start .pre) _ _ _ (at-loop .loop .inv .1) (in-loop .loop-test .taken) _ (after-segment-at .segment-at .ensures) in
-    let ends = ends _ _ _ _ _ _ _ _ (start .pre) _ _ _ (at-loop .loop .inv .1) (in-loop .loop-test .taken) _ (after-segment-at .segment-at .ensures) in
-    let inside = inside _ _ _ _ _ _ _ _ (start .pre) _ _ _ (at-loop .loop .inv .1) (in-loop .loop-test .taken) _ (after-segment-at .segment-at .ensures) in
-    let starts = starts _ _ _ _ _ _ _ _ (start .pre) _ _ _ (at-loop .loop .inv .1) (in-loop .loop-test .taken) _ (after-segment-at .segment-at .ensures) in
+    let begins = begins (start .pre) _ _ _ (at-loop .loop .inv .1) (in-loop .loop-test .taken) _ (after-segment-at .segment-at .ensures) in
+    let ends = ends (start .pre) _ _ _ (at-loop .loop .inv .1) (in-loop .loop-test .taken) _ (after-segment-at .segment-at .ensures) in
+    let inside = inside (start .pre) _ _ _ (at-loop .loop .inv .1) (in-loop .loop-test .taken) _ (after-segment-at .segment-at .ensures) in
+    let starts = starts (start .pre) _ _ _ (at-loop .loop .inv .1) (in-loop .loop-test .taken) _ (after-segment-at .segment-at .ensures) in
     let kept = at-loop .loop .inv .2 in (
       (omega (arith, p .recorded), p .writes _ (in-loop .loop-test .taken)),
       (
         (
-          order _ _ _ _ _ _ _ _ (start .pre) _ _ _ (at-loop .loop .inv .1) (in-loop .loop-test .taken) _ (after-segment-at .segment-at .ensures),
+          order (start .pre) _ _ _ (at-loop .loop .inv .1) (in-loop .loop-test .taken) _ (after-segment-at .segment-at .ensures),
           omega (arith, starts, p .coded),
           omega (arith, begins, ends, inside, kept),
         ),
@@ -78,9 +78,9 @@ loop-again c =
     let l = at-loop .loop in
     let kept = ap length (after-emit-segment .emit-segment .ensures) ∙ (length-over _ _ _ ∙ length-over _ _ _) in (
       omega arith,
-      arrived _ _ _ _ _ _ _ _ (start .pre) _ _ _ (at-loop .loop .inv .1) (in-loop .loop-test .taken) _ (after-segment-at .segment-at .ensures),
+      arrived (start .pre) _ _ _ (at-loop .loop .inv .1) (in-loop .loop-test .taken) _ (after-segment-at .segment-at .ensures),
       omega (arith, kept, l .inv .2),
-      turn _ _ _ _ _ _ _ _ (start .pre) _ _ _ (at-loop .loop .inv .1) (in-loop .loop-test .taken) _ (after-segment-at .segment-at .ensures) _ _ _ (l .inv .3) refl (after-emit-segment .emit-segment .ensures),
+      turn (start .pre) _ _ _ (at-loop .loop .inv .1) (in-loop .loop-test .taken) _ (after-segment-at .segment-at .ensures) _ _ _ (l .inv .3) refl (after-emit-segment .emit-segment .ensures),
     )
 
 copy-run-requires : tie.Need-copy-run-requires Inv-loop μ-loop
@@ -90,7 +90,7 @@ copy-run-requires c κs =
     let l = at-loop .loop in
     let p = start .pre in
     let all : l .i ≡ start .args .n = omega arith in
-    (last-old _ _ _ _ _ _ _ _ p _ _ _ (l .inv .1) all, p .coded, omega (arith, last-room _ _ _ _ _ _ _ _ p _ _ _ (l .inv .1) all, l .inv .2))
+    (last-old p _ _ _ (l .inv .1) all, p .coded, omega (arith, last-room p _ _ _ (l .inv .1) all, l .inv .2))
 
 returns : tie.Need-returns Inv-loop μ-loop
 returns c =
@@ -99,7 +99,7 @@ returns c =
     let start : tie.Start Inv-loop μ-loop = search in
     let l = at-loop .loop in
     let all : l .i ≡ start .args .n = omega arith in
-    finished _ _ _ _ _ _ _ _ (start .pre) _ _ _ (l .inv .1) all _ _ (l .inv .3) (after-copy-run .copy-run .ensures)
+    finished (start .pre) _ _ _ (l .inv .1) all _ _ (l .inv .3) (after-copy-run .copy-run .ensures)
 
 pub emit-events-spec : {M : Type 1} → statement M
 emit-events-spec =

@@ -101,5 +101,6 @@ why-unfit-spec =
     is-bound-requires
     returns-3
     pool-end-requires
+    (λ c. search needs)
     returns-4
     returns-5)
