@@ -55,9 +55,9 @@ pub record PoolLaid (before ss : List Segment) (constants asked : List ℕ) (n f
   pub near : old ≤ from + 79 * j
   pub small : new ≤ to + 79 * j
 
-pub pool-none : (before : List Segment) (constants asked : List ℕ) (n from to : ℕ) → PoolLaid before before constants asked n from to 0 from to
+pub pool-none : {before : List Segment} {constants asked : List ℕ} {n from to : ℕ} → PoolLaid before before constants asked n from to 0 from to
 unfolding after segments poolStart
-pool-none before constants asked n from to = record {
+pool-none {before} {n = n} = record {
   table = sym (over-nil before n);
   start = refl;
   sum = omega arith;
@@ -65,8 +65,8 @@ pool-none before constants asked n from to = record {
   small = omega arith;
 }
 
-module _ (before ss : List Segment) (constants asked : List ℕ) (n from to j old new m : ℕ) (laid : PoolLaid before ss constants asked n from to j old new)
-    (fits : PoolFits constants asked m) (more : j < m) (sz a b : ℕ) (s : sz ≡ sizeAt constants asked j)
+module _ {before ss : List Segment} {constants asked : List ℕ} {n from to j old new m : ℕ} (laid : PoolLaid before ss constants asked n from to j old new)
+    (fits : PoolFits constants asked m) (more : j < m) {sz a b : ℕ} (s : sz ≡ sizeAt constants asked j)
     (p : a ≡ paddingLength old (constantAlignment sz)) (q : b ≡ paddingLength new (constantAlignment sz)) where
   es : List LayoutEvent
   es = entries (poolEvent from constants asked) j

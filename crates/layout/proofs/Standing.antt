@@ -135,11 +135,11 @@ standing-none es at before c size =
       past = λ ys k. refl;
     }
 
-module _ (es : List LayoutEvent) (at : ℕ → ℕ) (first : Choice) (before ss : List Segment) (c : Choice) (layouts : ℕ) (q : Standing es at first before ss c layouts) where
+module _ {es : List LayoutEvent} {at : ℕ → ℕ} {first : Choice} {before ss : List Segment} {c : Choice} {layouts : ℕ} (q : Standing es at first before ss c layouts) where
   pub layouts-few : layouts ≤ length es
   layouts-few = omega (arith, q .few, jumps-le es)
 
-  module _ (ss′ : List Segment) (c′ : Choice) (grew : Bool) (laid : ss′ ≡ over ss 0 (segments 0 0 es c))
+  module _ {ss′ : List Segment} {c′ : Choice} {grew : Bool} (laid : ss′ ≡ over ss 0 (segments 0 0 es c))
       (round : (c′ ≡ join c (farBy es at c)) × (grew ≡ any (farBy es at c))) where
     far-count : length (farBy es at c) ≡ length es
     far-count = length-farOf _ es c _
@@ -180,9 +180,9 @@ module _ (es : List LayoutEvent) (at : ℕ → ℕ) (first : Choice) (before ss 
         }
 
 -- A round as the program makes it: all events are laid out, and the recorded ones are scanned.
-module _ (events : List ℕ) (n code : ℕ) (constants asked : List ℕ) (m : ℕ) (at : ℕ → ℕ) (first : Choice) (before ss : List Segment) (c : Choice) (layouts : ℕ)
-    (q : Standing (allEvents events n code constants asked m) at first before ss c layouts) (room : n + m ≤ length ss) (ss′ : List Segment) (c′ : Choice)
-    (grew : Bool) (laid : ss′ ≡ over ss 0 (segments 0 0 (allEvents events n code constants asked m) c))
+module _ (events : List ℕ) (n code : ℕ) (constants asked : List ℕ) (m : ℕ) {at : ℕ → ℕ} {first : Choice} {before ss : List Segment} {c : Choice} {layouts : ℕ}
+    (q : Standing (allEvents events n code constants asked m) at first before ss c layouts) (room : n + m ≤ length ss) {ss′ : List Segment} {c′ : Choice}
+    {grew : Bool} (laid : ss′ ≡ over ss 0 (segments 0 0 (allEvents events n code constants asked m) c))
     (next : c′ ≡ over c 0 (join c (farIn (take (n + m) ss′) at (entries (eventAt events) n) c)))
     (says : grew ≡ any (farIn (take (n + m) ss′) at (entries (eventAt events) n) c)) where
   round : (c′ ≡ join c (farBy (allEvents events n code constants asked m) at c)) × (grew ≡ any (farBy (allEvents events n code constants asked m) at c))
@@ -190,14 +190,14 @@ module _ (events : List ℕ) (n code : ℕ) (constants asked : List ℕ) (m : �
       round-is events n code constants asked m at c c′ grew ss ss′ (q .sized ∙ length-all events n code constants asked m) room laid next says
 
   pub round-less : grew ≡ true → layouts < jumps (allEvents events n code constants asked m)
-  round-less = standing-less (allEvents events n code constants asked m) at first before ss c layouts q ss′ c′ grew laid round
+  round-less = standing-less q laid round
 
   pub round-more : grew ≡ true → Standing (allEvents events n code constants asked m) at first before ss′ c′ (layouts + 1)
-  round-more = standing-more (allEvents events n code constants asked m) at first before ss c layouts q ss′ c′ grew laid round
+  round-more = standing-more q laid round
 
   pub round-done : grew ≡ false → (total len : ℕ) → len ≡ finishedLength (allEvents events n code constants asked m) c total
       → Relaxed (allEvents events n code constants asked m) at first total before ss′ c′ (layouts + 1) len
-  round-done = standing-done (allEvents events n code constants asked m) at first before ss c layouts q ss′ c′ grew laid round
+  round-done = standing-done q laid round
 
 -- The table of a layout is as the scan wants it.
 pub rising-all : (events : List ℕ) (n code : ℕ) (constants asked : List ℕ) (m : ℕ) (c : Choice) (ss ss′ : List Segment) → Recorded events n code

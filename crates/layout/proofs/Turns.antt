@@ -85,7 +85,7 @@ unfolding after segments
 laid-none before c = record { table = sym (over-nil before 0); here = refl }
 
 -- The recorded events.
-module _ (before ss : List Segment) (events : List ℕ) (n code : ℕ) (c : Choice) (old new i : ℕ) (rec : Recorded events n code) (few : n ≤ 65536)
+module _ {before ss : List Segment} {events : List ℕ} {n code : ℕ} {c : Choice} {old new i : ℕ} (rec : Recorded events n code) (few : n ≤ 65536)
     (laid : Laid before ss (entries (eventAt events) i) c old new) (more : i < n) where
   rest : entries (eventAt events) n ≡ entries (eventAt events) (suc i) ++ entries (λ (j : ℕ). eventAt events (suc i + j)) (n - suc i)
   rest = let e : n ≡ suc i + (n - suc i) = omega arith in ap (λ (k : ℕ). entries (eventAt events) k) e ∙ entries-split (eventAt events) (suc i) (n - suc i)
@@ -115,9 +115,9 @@ recorded-more events n code rec = record {
 }
 
 -- What follows the recorded events stands at a small new offset.
-pub events-end : (before ss : List Segment) (events : List ℕ) (n code : ℕ) (c : Choice) (old new : ℕ) → Recorded events n code → n ≤ 65536
+pub events-end : {before ss : List Segment} {events : List ℕ} {n code : ℕ} {c : Choice} {old new : ℕ} → Recorded events n code → n ≤ 65536
     → Laid before ss (entries (eventAt events) n) c old new → (old ≤ code) × (new + (code - old) ≤ offsetBound)
-events-end before ss events n code c old new rec few laid =
+events-end {events = events} {n} {code} {c} rec few laid =
     let es = entries (eventAt events) n in
     omega (
       arith,

@@ -182,13 +182,13 @@ emit-turn output arch from constants asked j at now size multiple pad first seco
     ∙ rw one (bytes-turn output arch from constants asked j at now e f pad a size (rw (p, t, s, f)) refl s)
 
 -- the constant's bytes lie in the output
-pub room-turn : (output labels constants asked : List ℕ) (n j label offset size : ℕ) → PoolRoom output labels constants asked n → j < n
+pub room-turn : {output labels constants asked : List ℕ} {n j label offset size : ℕ} → PoolRoom output labels constants asked n → j < n
     → label ≡ labelAt constants asked j → offset ≡ wordAt labels label → size ≡ sizeAt constants asked j → offset + size ≤ length output
-room-turn output labels constants asked n j label offset size room h l o s = rw (o, l, s) (room .within j h)
+room-turn {j = j} room h l o s = rw (o, l, s) (room .within j h)
 
-pub from-turn : (constants asked : List ℕ) (n j number size : ℕ) → PoolFits constants asked n → j < n
+pub from-turn : {constants asked : List ℕ} {n j number size : ℕ} → PoolFits constants asked n → j < n
     → number ≡ wordAt asked j → size ≡ sizeAt constants asked j → number * 72 + 8 + size ≤ length constants
-from-turn constants asked n j number size fits h e s = omega (arith, fits .listed j h, fits .sized j h)
+from-turn {j = j} fits h e s = omega (arith, fits .listed j h, fits .sized j h)
 
 -- a turn of the loop that writes the constants' bytes
 pub written-turn : (output labels constants asked : List ℕ) (j : ℕ) (now : List ℕ) (size label offset number : ℕ) (part : List ℕ)

@@ -8,7 +8,7 @@ returns : tie.Need-returns
 returns c =
     let after-copy : tie.After-copy = search in
     let start : tie.Start = search in
-    run-copied _ _ _ _ _ _ (start .pre .0) (start .pre .1) (start .pre .2) (after-copy .copy .ensures)
+    search (run-copied, start .pre .0, start .pre .1, start .pre .2, after-copy .copy .ensures)
 
 pub copy-run-spec : {M : Type 1} → statement M
 copy-run-spec =

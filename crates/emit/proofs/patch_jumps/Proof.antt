@@ -45,7 +45,7 @@ loop-again c =
     let after-segment-at : tie.After-segment-at Inv-loop μ-loop = search in
     let at-loop : tie.At-loop Inv-loop μ-loop = search in
     let filled = rw (after-segment-at .segment-at .ensures) at (after-patch-jump .patch-jump .ensures) in
-    (omega arith, rw filled (length-fillJump _ _ _ _ _ ∙ at-loop .loop .inv .1), jumps-turn _ _ _ _ _ _ _ _ (at-loop .loop .inv .2) filled)
+    (omega arith, rw filled (length-fillJump _ _ _ _ _ ∙ at-loop .loop .inv .1), search (jumps-turn, at-loop .loop .inv .2, filled))
 
 returns : tie.Need-returns Inv-loop μ-loop
 returns c =

@@ -53,7 +53,7 @@ loop-again c =
     let after-word-at : tie.After-word-at Inv-loop μ-loop = search in
     let at-loop : tie.At-loop Inv-loop μ-loop = search in
     let filled = rw (after-map .map .ensures, after-word-at .word-at .ensures) at (after-patch-ref .patch-ref .ensures) in
-    (omega arith, rw filled (length-fillField _ _ _ _ _ ∙ at-loop .loop .inv .1), refs-turn _ _ _ _ _ _ _ _ (at-loop .loop .inv .2) filled)
+    (omega arith, rw filled (length-fillField _ _ _ _ _ ∙ at-loop .loop .inv .1), search (refs-turn, at-loop .loop .inv .2, filled))
 
 returns : tie.Need-returns Inv-loop μ-loop
 returns c =

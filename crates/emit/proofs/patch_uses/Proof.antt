@@ -31,7 +31,7 @@ loop-again : tie.Need-loop-again Inv-loop μ-loop
 loop-again c =
     let after-patch-use : tie.After-patch-use Inv-loop μ-loop = search in
     let at-loop : tie.At-loop Inv-loop μ-loop = search in
-    (omega arith, rw (after-patch-use .patch-use .ensures) (length-fillUse _ _ _ _ ∙ at-loop .loop .inv .1), uses-turn _ _ _ _ _ _ (at-loop .loop .inv .2) (after-patch-use .patch-use .ensures))
+    (omega arith, rw (after-patch-use .patch-use .ensures) (length-fillUse _ _ _ _ ∙ at-loop .loop .inv .1), search (uses-turn, at-loop .loop .inv .2, after-patch-use .patch-use .ensures))
 
 returns : tie.Need-returns Inv-loop μ-loop
 returns c =

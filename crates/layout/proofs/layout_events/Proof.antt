@@ -35,7 +35,7 @@ next-segment-requires c κs =
     let at-loop : tie.At-loop Inv-loop μ-loop = search in
     let start : tie.Start Inv-loop μ-loop = search in
     let p = start .pre in
-    rw (after-event-at .event-at .ensures) (event-follows _ _ _ _ _ _ _ _ _ (p .0) (p .1 .0) (at-loop .loop .inv .2) (in-loop .loop-test .taken))
+    rw (after-event-at .event-at .ensures) (event-follows (p .0) (p .1 .0) (at-loop .loop .inv .2) (in-loop .loop-test .taken))
 
 loop-again : tie.Need-loop-again Inv-loop μ-loop
 loop-again c =
@@ -48,7 +48,7 @@ loop-again c =
     let p = start .pre in
     let l = at-loop .loop in
     let s = rw (after-event-at .event-at .ensures) at (after-next-segment .next-segment .ensures) in
-    let next = event-laid _ _ _ _ _ _ _ _ _ (p .0) (p .1 .0) (l .inv .2) (in-loop .loop-test .taken) _ s in
+    let next = event-laid (p .0) (p .1 .0) (l .inv .2) (in-loop .loop-test .taken) _ s in
     (omega arith, after-put-segment .put-segment .kept .0 ∙ l .inv .1, rw (add-one (l .i), after-put-segment .put-segment .ensures) next)
 
 returns : tie.Need-returns Inv-loop μ-loop

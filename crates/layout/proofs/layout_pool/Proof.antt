@@ -18,7 +18,7 @@ abbrev μ-loop : tie.MeasureT-loop
 μ-loop segments₀ constants asked n m old new from₀ to₀ j₀ segments from to j = m - j
 
 loop-holds : tie.Need-loop-holds Inv-loop μ-loop
-loop-holds c = (omega arith, refl, pool-none _ _ _ _ _ _)
+loop-holds c = (omega arith, refl, pool-none)
 
 size-at-requires : tie.Need-size-at-requires Inv-loop μ-loop
 size-at-requires c κs =
@@ -93,7 +93,7 @@ loop-again c =
     let multiple = after-constant-alignment .constant-alignment .ensures in
     let one = rw multiple at (after-padding-len .padding-len .ensures) in
     let two = rw multiple at (after-padding-len2 .padding-len2 .ensures) in
-    let next = pool-more _ _ _ _ _ _ _ _ _ _ _ (l .inv .2) (start' .pre .0) (in-loop .loop-test .taken) _ _ _ (after-size-at .size-at .ensures) one two in
+    let next = pool-more (l .inv .2) (start' .pre .0) (in-loop .loop-test .taken) (after-size-at .size-at .ensures) one two in
     (omega arith, after-put-segment .put-segment .kept .0 ∙ l .inv .1, rw (add-one (l .j), after-put-segment .put-segment .ensures) next)
 
 returns : tie.Need-returns Inv-loop μ-loop

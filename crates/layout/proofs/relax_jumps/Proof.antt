@@ -44,7 +44,7 @@ add-layouts c =
     let start : tie.Start Inv-loop μ-loop = search in
     let a = start .args in
     let size = length-all (a .events .now) (a .n) (a .code) (a .constants .now) (a .asked .now) (a .m) in
-    omega (arith, layouts-few _ _ _ _ _ _ _ (at-loop .loop .inv .2), size)
+    omega (arith, layouts-few (at-loop .loop .inv .2), size)
 
 lengthen-requires : tie.Need-lengthen-requires Inv-loop μ-loop
 lengthen-requires c κs =
@@ -70,7 +70,7 @@ loop-less c =
     let l = at-loop .loop in
     let scan = after-lengthen .lengthen .ensures in
     let less =
-    round-less (a .events .now) (a .n) (a .code) (a .constants .now) (a .asked .now) (a .m) _ _ _ _ _ _ (l .inv .2) (omega (arith, l .inv .0)) _ _ _
+    round-less (a .events .now) (a .n) (a .code) (a .constants .now) (a .asked .now) (a .m) (l .inv .2) (omega (arith, l .inv .0))
     (after-layout .layout .ensures .0) (scan .0) (scan .1) (not-false _ (c .if1 .left)) in
     omega (arith, less)
 
@@ -84,7 +84,7 @@ loop-again c =
     let l = at-loop .loop in
     let scan = after-lengthen .lengthen .ensures in
     let next =
-    round-more (a .events .now) (a .n) (a .code) (a .constants .now) (a .asked .now) (a .m) _ _ _ _ _ _ (l .inv .2) (omega (arith, l .inv .0)) _ _ _
+    round-more (a .events .now) (a .n) (a .code) (a .constants .now) (a .asked .now) (a .m) (l .inv .2) (omega (arith, l .inv .0))
     (after-layout .layout .ensures .0) (scan .0) (scan .1) (not-false _ (c .if1 .left)) in
     (after-layout .layout .kept .0 ∙ l .inv .0, after-lengthen .lengthen .kept .1 .1 .1 .0 ∙ l .inv .1, next)
 
@@ -97,7 +97,7 @@ returns c =
     let a = start .args in
     let l = at-loop .loop in
     let scan = after-lengthen .lengthen .ensures in
-    round-done (a .events .now) (a .n) (a .code) (a .constants .now) (a .asked .now) (a .m) _ _ _ _ _ _ (l .inv .2) (omega (arith, l .inv .0)) _ _ _
+    round-done (a .events .now) (a .n) (a .code) (a .constants .now) (a .asked .now) (a .m) (l .inv .2) (omega (arith, l .inv .0))
     (after-layout .layout .ensures .0) (scan .0) (scan .1) (not-true _ (c .if1 .taken)) _ _ (after-layout .layout .ensures .1)
 
 pub relax-jumps-spec : {M : Type 1} → statement M

@@ -47,7 +47,7 @@ part-copy-end c =
     let after-size-at : tie.After-size-at Inv-loop μ-loop = search in
     let in-loop : tie.In-loop Inv-loop μ-loop = search in
     let start : tie.Start Inv-loop μ-loop = search in
-    omega (arith, from-turn _ _ _ _ _ _ (start .pre .0) (in-loop .loop-test .taken) (c .word-at2 .ensures) (after-size-at .size-at .ensures))
+    omega (arith, from-turn (start .pre .0) (in-loop .loop-test .taken) (c .word-at2 .ensures) (after-size-at .size-at .ensures))
 
 part-copy-end-2 : tie.Need-part-copy-end-2 Inv-loop μ-loop
 part-copy-end-2 c =
@@ -56,7 +56,7 @@ part-copy-end-2 c =
     let after-size-at : tie.After-size-at Inv-loop μ-loop = search in
     let in-loop : tie.In-loop Inv-loop μ-loop = search in
     let start : tie.Start Inv-loop μ-loop = search in
-    omega (arith, room-turn _ _ _ _ _ _ _ _ _ (start .pre .1 .1) (in-loop .loop-test .taken) (after-label-at .label-at .ensures) (after-word-at .word-at .ensures) (after-size-at .size-at .ensures))
+    omega (arith, room-turn (start .pre .1 .1) (in-loop .loop-test .taken) (after-label-at .label-at .ensures) (after-word-at .word-at .ensures) (after-size-at .size-at .ensures))
 
 loop-again : tie.Need-loop-again Inv-loop μ-loop
 loop-again c =
@@ -68,8 +68,8 @@ loop-again c =
     let in-loop : tie.In-loop Inv-loop μ-loop = search in
     let at-loop : tie.At-loop Inv-loop μ-loop = search in
     let start : tie.Start Inv-loop μ-loop = search in
-    let room = room-turn _ _ _ _ _ _ _ _ _ (start .pre .1 .1) (in-loop .loop-test .taken) (after-label-at .label-at .ensures) (after-word-at .word-at .ensures) (after-size-at .size-at .ensures) in
-    let turn = written-turn _ _ _ _ _ _ _ _ _ _ _ (at-loop .loop .inv .2) (after-size-at .size-at .ensures) (after-label-at .label-at .ensures) (after-word-at .word-at .ensures) (after-word-at2 .word-at2 .ensures) (from-turn _ _ _ _ _ _ (start .pre .0) (in-loop .loop-test .taken) (after-word-at2 .word-at2 .ensures) (after-size-at .size-at .ensures)) (omega arith) (after-copy .copy .ensures) in
+    let room = room-turn (start .pre .1 .1) (in-loop .loop-test .taken) (after-label-at .label-at .ensures) (after-word-at .word-at .ensures) (after-size-at .size-at .ensures) in
+    let turn = written-turn _ _ _ _ _ _ _ _ _ _ _ (at-loop .loop .inv .2) (after-size-at .size-at .ensures) (after-label-at .label-at .ensures) (after-word-at .word-at .ensures) (after-word-at2 .word-at2 .ensures) (from-turn (start .pre .0) (in-loop .loop-test .taken) (after-word-at2 .word-at2 .ensures) (after-size-at .size-at .ensures)) (omega arith) (after-copy .copy .ensures) in
     (omega arith, rw turn (length-poolWritten _ _ _ _ _), turn)
 
 returns : tie.Need-returns Inv-loop μ-loop

@@ -18,7 +18,7 @@ slice-write-bytes-4 c = simp length-set (omega arith)
 
 returns : tie.Need-returns
 unfolding setWord
-returns c = set4-over _ _ _ _ _ _
+returns c = search set4-over
 
 pub put-word-spec : {M : Type 1} → statement M
 put-word-spec =

@@ -9,7 +9,7 @@ use Rattle.checks.proofs.search.clear_of_pool.Tie as tie
 returns : tie.Need-returns
 returns c =
     let after-alignments-before : tie.After-alignments-before = search in
-    pool-clear-none _ _ _ _ _ _ _ (c .if1 .taken) (after-alignments-before .alignments-before .ensures)
+    search (pool-clear-none, c .if1 .taken, after-alignments-before .alignments-before .ensures)
 
 offset-at-requires : tie.Need-offset-at-requires
 offset-at-requires c κs =

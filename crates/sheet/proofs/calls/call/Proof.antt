@@ -15,7 +15,7 @@ call-code-requires c κs =
 returns : tie.Need-returns
 returns c =
     let after-call-code : tie.After-call-code = search in
-    after-call-code .call-code .ensures _ _ _ _ _ _
+    search (after-call-code .call-code .ensures)
 
 call-labels-requires : tie.Need-call-labels-requires
 call-labels-requires c κs =
@@ -27,7 +27,7 @@ call-labels-requires c κs =
 returns-2 : tie.Need-returns-2
 returns-2 c =
     let after-call-labels : tie.After-call-labels = search in
-    after-call-labels .call-labels .ensures _ _ _ _ _ _
+    search (after-call-labels .call-labels .ensures)
 
 call-constants-requires : tie.Need-call-constants-requires
 call-constants-requires c κs =
