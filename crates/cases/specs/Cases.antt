@@ -8,7 +8,7 @@ use Rattle.words.specs.Words.{bytesOf, wordAt}
 use Rattle.fields.specs.declared.LabelUse.{LabelUse}
 use Rattle.fields.specs.declared.Decoded.{Decoded}
 use Rattle.fields.specs.declared.Decoded.the-variants.{Use, Unsupported, Unknown}
-use Rattle.fields.specs.Kinds.{decoded}
+use Rattle.fields.specs.Kinds.{archX64, decoded}
 use Rattle.fields.specs.Reach.{reachRefusal}
 use Rattle.fields.specs.Patch.{patchedUse}
 use Rattle.relax.specs.declared.Condition.the-variants.{Always}
@@ -66,9 +66,9 @@ answer (usage word offset code label) = usedBy (decoded code) word offset code l
 abbrev pub jmp : ℕ → ℕ → LayoutEvent
 jmp start label = Jump (record { start = start; len = 5; label = label; cc = Always })
 
--- events over n zeros
+-- events over n zeros, on X64
 abbrev pub zeros : ℕ → List LayoutEvent → List ℕ → Pooled
-zeros n es labels = record { arch = 2; code = replicate n 0; events = es; labels = labels; uses = []; refs = []; pool = [] }
+zeros n es labels = record { arch = archX64; code = replicate n 0; events = es; labels = labels; uses = []; refs = []; pool = [] }
 
 -- A to L
 unfoldable pub table : List Row

@@ -13,7 +13,7 @@ fn table() -> [Segment; 8192] {
     [zero; 8192]
 }
 
-// Finishes a recording of at most 8,192 events.
+// Finishes a recording; one with a jump that has more than 8,192 events, those of its pool among them, is refused by 16.
 pub fn finish_with_table(
     recording: CodeBuffer,
     code: &[u8],
