@@ -4,12 +4,13 @@ use mathlib.Core.List.{List}
 use Prim.Native.Nat.{ℕ, _+_, _*_, _/_, _%_}
 use lib.Dec.{eqb}
 use lib.ListN.{length, replicate}
+use Rattle.refusals.specs.Numbers as refusals
 use Rattle.seqs.specs.Over.{over}
 use Rattle.seqs.specs.Pick.{pick}
 use Rattle.words.specs.Words.{wordAt, setWord}
 use Rattle.encoder.specs.Nops.{nops}
 use Rattle.encoder.specs.Padding.{paddingLength}
-use Rattle.relax.specs.Events.{setEvent}
+use Rattle.relax.specs.Events.{setEvent, eventSize, jumpKind, alignmentKind}
 use Rattle.buffer.specs.declared.CodeBuffer.{CodeBuffer}
 use Rattle.buffer.specs.declared.Recorded.{Recorded}
 use Rattle.buffer.specs.declared.Made.{Made}
@@ -44,6 +45,7 @@ use Rattle.buffer.specs.Refusals.{
   noRoomToAsk,
   whyReloc,
 }
+use Rattle.buffer.specs.Tables.{labelSize, useWords, useSize, refWords, refSize, constantWords, constantSize, constantHead, askedSize, relocWords, relocSize}
 
 -- a new recording; a refused start gives a record of zeros
 unfoldable pub started : ℕ → ℕ → Recorded
@@ -90,7 +92,7 @@ putBytes b code bytes =
 -- a label that is not bound yet
 unfoldable pub getLabel : CodeBuffer → List ℕ → Made × List ℕ
 getLabel b labels =
-    let why = whyLabel b (length labels / 4) in
+    let why = whyLabel b (length labels / labelSize) in
     pick (eqb why 0) (made (withLabels b (b .labels + 1)) (b .labels), setWord labels (b .labels) none) (noneMade b why, labels)
 
 -- the label stands at the current offset; a refusal is not recorded
@@ -107,12 +109,12 @@ padding arch n = cond (zeroPadded arch) (replicate n 0) (nops n)
 unfoldable pub alignedEvents : CodeBuffer → List ℕ → ℕ → CodeBuffer × List ℕ
 alignedEvents b events multiple =
     pick (keepsEvents (b .arch))
-    (withEvents b (b .events + 1), setEvent events (b .events) 2 (b .code) (paddingLength (b .code) multiple) multiple 0)
+    (withEvents b (b .events + 1), setEvent events (b .events) alignmentKind (b .code) (paddingLength (b .code) multiple) multiple 0)
     (b, events)
 
 unfoldable pub alignTo : CodeBuffer → List ℕ → List ℕ → ℕ → Recorded × (List ℕ × List ℕ)
 alignTo b code events multiple =
-    let why = whyAlign b (length code) (length events / 20) multiple in
+    let why = whyAlign b (length code) (length events / eventSize) multiple in
     let n = paddingLength (b .code) multiple in
     let recorded = alignedEvents b events multiple in
     pick (eqb why 0)
@@ -121,8 +123,8 @@ alignTo b code events multiple =
 
 unfoldable pub useLabel : CodeBuffer → List ℕ → ℕ → ℕ → ℕ → Recorded × List ℕ
 useLabel b uses offset label code =
-    let why = whyUse b (length uses / 12) label code in
-    let k = b .uses * 3 in
+    let why = whyUse b (length uses / useSize) label code in
+    let k = b .uses * useWords in
     pick (eqb why 0)
     (accepted (withUses b (b .uses + 1)), setWord (setWord (setWord uses k offset) (k + 1) label) (k + 2) code)
     (turnedDown b why, uses)
@@ -130,8 +132,8 @@ useLabel b uses offset label code =
 -- kept on X64; the addend is a 32-bit two's complement word
 unfoldable pub recordRef : CodeBuffer → List ℕ → ℕ → ℕ → ℕ → ℕ → Recorded × List ℕ
 recordRef b refs offset label code addend =
-    let why = whyRef b (length refs / 16) label code in
-    let k = b .refs * 4 in
+    let why = whyRef b (length refs / refSize) label code in
+    let k = b .refs * refWords in
     pick (eqb why 0)
     (pick (keepsEvents (b .arch))
     (accepted (withRefs b (b .refs + 1)), setWord (setWord (setWord (setWord refs k offset) (k + 1) label) (k + 2) code) (k + 3) addend)
@@ -143,31 +145,31 @@ unfoldable pub recordJump : CodeBuffer → List ℕ → List ℕ → ℕ → ℕ
 recordJump b labels events start len label cc =
     let why = whyJump b labels events start len label cc in
     pick (eqb why 0)
-    (pick (keepsEvents (b .arch)) (accepted (withEvents b (b .events + 1)), setEvent events (b .events) 1 start len label cc) (accepted b, events))
+    (pick (keepsEvents (b .arch)) (accepted (withEvents b (b .events + 1)), setEvent events (b .events) jumpKind start len label cc) (accepted b, events))
     (turnedDown b why, events)
 
 -- an entry is its size, its label, and 64 bytes, of which those past its size are not touched
 unfoldable pub addConstant : CodeBuffer → List ℕ → List ℕ → Made × List ℕ
 addConstant b constants bytes =
-    let why = whyConstant b (length constants / 72) (length bytes) in
+    let why = whyConstant b (length constants / constantSize) (length bytes) in
     let n = b .constants in
     pick (eqb why 0)
-    (made (withConstants b (n + 1)) n, over (setWord (setWord constants (n * 18) (length bytes)) (n * 18 + 1) none) (n * 72 + 8) bytes)
+    (made (withConstants b (n + 1)) n, over (setWord (setWord constants (n * constantWords) (length bytes)) (n * constantWords + 1) none) (n * constantSize + constantHead) bytes)
     (noneMade b why, constants)
 
 -- a first asking makes a label and lists the constant; "asking again for a constant's label gives the same one"
 unfoldable pub askedFirst : CodeBuffer → List ℕ → List ℕ → List ℕ → ℕ → Made × (List ℕ × (List ℕ × List ℕ))
 askedFirst b constants asked labels constant =
-    pick (noRoomToAsk b (length asked / 4) (length labels / 4))
-    (noneMade b 11, (constants, (asked, labels))) (
+    pick (noRoomToAsk b (length asked / askedSize) (length labels / labelSize))
+    (noneMade b refusals.tableFull, (constants, (asked, labels))) (
       made (withLabels (withAsked b (b .asked + 1)) (b .labels + 1)) (b .labels),
-      (setWord constants (constant * 18 + 1) (b .labels), (setWord asked (b .asked) constant, setWord labels (b .labels) none)),
+      (setWord constants (constant * constantWords + 1) (b .labels), (setWord asked (b .asked) constant, setWord labels (b .labels) none)),
     )
 
 unfoldable pub constantLabel : CodeBuffer → List ℕ → List ℕ → List ℕ → ℕ → Made × (List ℕ × (List ℕ × List ℕ))
 constantLabel b constants asked labels constant =
-    let held = wordAt constants (constant * 18 + 1) in
-    let why = whyConstantLabel b (length constants / 72) (length asked / 4) (length labels / 4) constant in
+    let held = wordAt constants (constant * constantWords + 1) in
+    let why = whyConstantLabel b (length constants / constantSize) (length asked / askedSize) (length labels / labelSize) constant in
     pick (eqb why 0)
     (pick (eqb held none) (askedFirst b constants asked labels constant) (made b held, (constants, (asked, labels))))
     (noneMade b why, (constants, (asked, labels)))
@@ -175,8 +177,8 @@ constantLabel b constants asked labels constant =
 -- an entry is offset, kind, target, 0 and the addend, a 64-bit two's complement word, low half first
 unfoldable pub addReloc : CodeBuffer → List ℕ → ℕ → ℕ → ℕ → ℕ → Recorded × List ℕ
 addReloc b relocs offset kind target addend =
-    let why = whyReloc b (length relocs / 24) offset kind target in
-    let k = b .relocs * 6 in
+    let why = whyReloc b (length relocs / relocSize) offset kind target in
+    let k = b .relocs * relocWords in
     pick (eqb why 0) (
       accepted (withRelocs b (b .relocs + 1)),
       setWord

@@ -1,3 +1,4 @@
+pub mod Tables
 pub mod State
 pub mod Refusals
 pub mod Calls

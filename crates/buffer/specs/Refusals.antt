@@ -5,15 +5,17 @@ use mathlib.Core.List.{List, [], _∷_}
 use Prim.Native.Nat.{ℕ, zero, suc, _+_, _-_, _/_, _%_}
 use lib.Dec.{eqb, leb, ltb}
 use lib.ListN.{length, getD}
+use Rattle.refusals.specs.Numbers as refusals
 use Rattle.seqs.specs.Pick.{pick, first, orElse}
 use Rattle.words.specs.Words.{wordAt}
 use Rattle.encoder.specs.Padding.{paddingLength}
 use Rattle.fields.specs.declared.Decoded.{Decoded}
 use Rattle.fields.specs.declared.Decoded.the-variants.{Use, Unsupported, Unknown}
-use Rattle.fields.specs.Kinds.{archX86, archX64, archA64, isArch, decoded, supportsArch}
-use Rattle.relax.specs.Events.{eventAt, endOf}
+use Rattle.fields.specs.Kinds.{archX86, archX64, archA64, isArch, decoded, supportsArch, unsupportedCode, lastCode}
+use Rattle.relax.specs.Events.{eventAt, endOf, eventSize, noCondition, mostJump, shortLen}
 use Rattle.buffer.specs.declared.CodeBuffer.{CodeBuffer}
-use Rattle.buffer.specs.State.{none, mostEntries, mostCode, labelTarget, keepsEvents}
+use Rattle.buffer.specs.State.{none, labelTarget, keepsEvents}
+use Rattle.buffer.specs.Tables.{mostEntries, mostCode, lastOffset, mostConstant, mostAlignment, lastReloc, labelSize}
 
 -- the architectures that a recording may be of
 abbrev pub archOccurs : ℕ → Bool
@@ -21,45 +23,45 @@ archOccurs arch = eqb arch archX86 || eqb arch archX64 || eqb arch archA64
 
 -- the refusals that a recording records: 6, 7, 8, 10, 11, 12; 0 is none
 abbrev pub refusalOccurs : ℕ → Bool
-refusalOccurs n = eqb n 0 || leb 6 n && leb n 12 && not (eqb n 9)
+refusalOccurs n = eqb n 0 || leb refusals.firstRecorded n && leb n refusals.codeFull && not (eqb n refusals.alreadyBound)
 
 -- What every call looks at first. 1: a count handed in passes what is lent, an argument breaks its form (either makes `fit` false), its
 -- architecture or refusal can't occur; the recorded refusal; 3: the call is lent more than a limit (`within` is false); 4: it has finished.
 unfoldable pub standing : CodeBuffer → Bool → Bool → ℕ
 standing b fit within =
     first (
-    (not (archOccurs (b .arch) && refusalOccurs (b .refusal) && fit), 1)
+    (not (archOccurs (b .arch) && refusalOccurs (b .refusal) && fit), refusals.malformed)
     ∷ (not (eqb (b .refusal) 0), b .refusal)
-    ∷ (not within, 3)
-    ∷ (not (eqb (b .finished) 0), 4)
+    ∷ (not within, refusals.pastLimit)
+    ∷ (not (eqb (b .finished) 0), refusals.alreadyFinished)
     ∷ []
     )
 
 -- 2: start names an architecture other than 1, 2, 6
 unfoldable pub whyStart : ℕ → ℕ
-whyStart arch = first ((not (archOccurs arch), 2) ∷ [])
+whyStart arch = first ((not (archOccurs arch), refusals.unknownArch) ∷ [])
 
 -- bytes, of which there are n, into code of which `lent` bytes are lent. 12: they pass the lent code's end.
 unfoldable pub whyBytes : CodeBuffer → ℕ → ℕ → ℕ
 whyBytes b lent n =
     orElse (standing b (leb (b .code) lent) (leb lent mostCode))
-    (first ((ltb (lent - b .code) n, 12) ∷ []))
+    (first ((ltb (lent - b .code) n, refusals.codeFull) ∷ []))
 
 -- a new label, into a table of `room` entries. 11: the table is full.
 unfoldable pub whyLabel : CodeBuffer → ℕ → ℕ
 whyLabel b room =
     orElse (standing b (leb (b .labels) room) (leb room mostEntries))
-    (first ((leb room (b .labels), 11) ∷ []))
+    (first ((leb room (b .labels), refusals.tableFull) ∷ []))
 
 -- a bind. 8: the label is unknown; 9: it is bound already. Neither is recorded.
 unfoldable pub whyBind : CodeBuffer → List ℕ → ℕ → ℕ
 whyBind b labels label =
-    orElse (standing b (leb (b .labels) (length labels / 4)) (leb (length labels / 4) mostEntries))
-    (first ((leb (b .labels) label, 8) ∷ (not (eqb (wordAt labels label) none), 9) ∷ []))
+    orElse (standing b (leb (b .labels) (length labels / labelSize)) (leb (length labels / labelSize) mostEntries))
+    (first ((leb (b .labels) label, refusals.unknownNumber) ∷ (not (eqb (wordAt labels label) none), refusals.alreadyBound) ∷ []))
 
 -- a power of two, at most 4,096: what divides 4,096
 unfoldable pub isAlignment : ℕ → Bool
-isAlignment n = not (eqb n 0) && eqb (4096 % n) 0
+isAlignment n = not (eqb n 0) && eqb (mostAlignment % n) 0
 
 -- an alignment. 5: it is no power of two, or exceeds 4,096; 11: the table of events is full (X64 alone has one); 12: the padding passes the lent
 -- code's end.
@@ -67,9 +69,9 @@ unfoldable pub whyAlign : CodeBuffer → ℕ → ℕ → ℕ → ℕ
 whyAlign b lent room multiple =
     orElse (standing b (leb (b .code) lent && leb (b .events) room) (leb lent mostCode && leb room mostEntries))
     (first (
-    (not (isAlignment multiple), 5)
-    ∷ (keepsEvents (b .arch) && leb room (b .events), 11)
-    ∷ (ltb (lent - b .code) (paddingLength (b .code) multiple), 12)
+    (not (isAlignment multiple), refusals.badAlignment)
+    ∷ (keepsEvents (b .arch) && leb room (b .events), refusals.tableFull)
+    ∷ (ltb (lent - b .code) (paddingLength (b .code) multiple), refusals.codeFull)
     ∷ []
     ))
 
@@ -82,24 +84,24 @@ foreign Unknown arch = true
 -- a use. 1: code above 16; 6: code 15; 7: a kind foreign to the architecture; 8: the label is unknown; 11: the table is full.
 unfoldable pub whyUse : CodeBuffer → ℕ → ℕ → ℕ → ℕ
 whyUse b room label code =
-    orElse (standing b (leb (b .uses) room && leb code 16) (leb room mostEntries))
+    orElse (standing b (leb (b .uses) room && leb code lastCode) (leb room mostEntries))
     (first (
-    (eqb code 15, 6)
-    ∷ (foreign (decoded code) (b .arch), 7)
-    ∷ (leb (b .labels) label, 8)
-    ∷ (leb room (b .uses), 11)
+    (eqb code unsupportedCode, refusals.unsupportedUse)
+    ∷ (foreign (decoded code) (b .arch), refusals.foreignKind)
+    ∷ (leb (b .labels) label, refusals.unknownNumber)
+    ∷ (leb room (b .uses), refusals.tableFull)
     ∷ []
     ))
 
 -- a ref. Off X64 it is accepted unread once 1 to 4 are past.
 unfoldable pub whyRef : CodeBuffer → ℕ → ℕ → ℕ → ℕ
 whyRef b room label code =
-    orElse (standing b (leb (b .refs) room && leb code 16) (leb room mostEntries))
+    orElse (standing b (leb (b .refs) room && leb code lastCode) (leb room mostEntries))
     (pick (keepsEvents (b .arch))
     (first (
-    (foreign (decoded code) (b .arch), 7)
-    ∷ (leb (b .labels) label, 8)
-    ∷ (leb room (b .refs), 11)
+    (foreign (decoded code) (b .arch), refusals.foreignKind)
+    ∷ (leb (b .labels) label, refusals.unknownNumber)
+    ∷ (leb room (b .refs), refusals.tableFull)
     ∷ []
     ))
     0)
@@ -115,7 +117,7 @@ labelInside labels (suc n) start end = ltb start (wordAt labels n) && ltb (wordA
 
 -- the jump doesn't end at the current offset, or has length outside 2..15 or condition above 16
 unfoldable pub jumpMalformed : ℕ → ℕ → ℕ → ℕ → Bool
-jumpMalformed code start len cc = not (eqb (start + len) code) || ltb len 2 || ltb 15 len || ltb 16 cc
+jumpMalformed code start len cc = not (eqb (start + len) code) || ltb len shortLen || ltb mostJump len || ltb noCondition cc
 
 -- it is so, starts before the last event's end, or holds a label strictly inside
 unfoldable pub jumpUnfit : CodeBuffer → List ℕ → List ℕ → ℕ → ℕ → ℕ → Bool
@@ -127,13 +129,13 @@ unfoldable pub whyJump : CodeBuffer → List ℕ → List ℕ → ℕ → ℕ �
 whyJump b labels events start len label cc =
     orElse
     (standing b
-    (leb (b .labels) (length labels / 4) && leb (b .events) (length events / 20))
-    (leb (length labels / 4) mostEntries && leb (length events / 20) mostEntries))
+    (leb (b .labels) (length labels / labelSize) && leb (b .events) (length events / eventSize))
+    (leb (length labels / labelSize) mostEntries && leb (length events / eventSize) mostEntries))
     (pick (keepsEvents (b .arch))
     (first (
-    (leb (b .labels) label, 8)
-    ∷ (jumpUnfit b labels events start len cc, 10)
-    ∷ (leb (length events / 20) (b .events), 11)
+    (leb (b .labels) label, refusals.unknownNumber)
+    ∷ (jumpUnfit b labels events start len cc, refusals.badEntry)
+    ∷ (leb (length events / eventSize) (b .events), refusals.tableFull)
     ∷ []
     ))
     0)
@@ -142,7 +144,7 @@ whyJump b labels events start len label cc =
 unfoldable pub whyConstant : CodeBuffer → ℕ → ℕ → ℕ
 whyConstant b room n =
     orElse (standing b (leb (b .constants) room) (leb room mostEntries))
-    (first ((ltb 64 n, 10) ∷ (leb room (b .constants), 11) ∷ []))
+    (first ((ltb mostConstant n, refusals.badEntry) ∷ (leb room (b .constants), refusals.tableFull) ∷ []))
 
 -- a constant's label. 8: the constant is unknown.
 unfoldable pub whyConstantLabel : CodeBuffer → ℕ → ℕ → ℕ → ℕ → ℕ
@@ -151,7 +153,7 @@ whyConstantLabel b constants asked labels constant =
     (standing b
     (leb (b .constants) constants && (leb (b .asked) asked && leb (b .labels) labels))
     (leb constants mostEntries && (leb asked mostEntries && leb labels mostEntries)))
-    (first ((leb (b .constants) constant, 8) ∷ []))
+    (first ((leb (b .constants) constant, refusals.unknownNumber) ∷ []))
 
 -- 11, where the constant has no label yet: the table of labels or that of the order of asking is full
 abbrev pub noRoomToAsk : CodeBuffer → ℕ → ℕ → Bool
@@ -177,11 +179,11 @@ targetKnown b target = pick (ltb target labelTarget) (ltb target (b .symbols)) (
 -- full.
 unfoldable pub whyReloc : CodeBuffer → ℕ → ℕ → ℕ → ℕ → ℕ
 whyReloc b room offset kind target =
-    orElse (standing b (leb (b .relocs) room && leb kind 27) (leb room mostEntries))
+    orElse (standing b (leb (b .relocs) room && leb kind lastReloc) (leb room mostEntries))
     (first (
-    (foreignReloc kind (b .arch), 7)
-    ∷ (not (targetKnown b target), 8)
-    ∷ (ltb 16777215 offset, 10)
-    ∷ (leb room (b .relocs), 11)
+    (foreignReloc kind (b .arch), refusals.foreignKind)
+    ∷ (not (targetKnown b target), refusals.unknownNumber)
+    ∷ (ltb lastOffset offset, refusals.badEntry)
+    ∷ (leb room (b .relocs), refusals.tableFull)
     ∷ []
     ))

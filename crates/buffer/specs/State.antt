@@ -2,6 +2,7 @@
 use mathlib.Core.Bool.{Bool}
 use Prim.Native.Nat.{ℕ}
 use lib.Dec.{eqb, ltb}
+use Rattle.refusals.specs.Numbers as refusals
 use Rattle.seqs.specs.Pick.{pick}
 use Rattle.fields.specs.Kinds.{archX64, archA64}
 use Rattle.buffer.specs.declared.CodeBuffer.{CodeBuffer}
@@ -11,13 +12,6 @@ use Rattle.buffer.specs.declared.Made.{Made}
 -- the offset of a label that is not bound, the label of a constant that has none, and what a refused call for either gives
 abbrev pub none : ℕ
 none = 4294967295
-
--- the limits: entries of a table, bytes of code
-abbrev pub mostEntries : ℕ
-mostEntries = 65536
-
-abbrev pub mostCode : ℕ
-mostCode = 16777216
 
 -- a relocation's target from here on is a label's: its number, and this
 abbrev pub labelTarget : ℕ
@@ -61,7 +55,7 @@ withRelocs b n = record { arch = b .arch; symbols = b .symbols; finished = b .fi
 
 -- Numbers 1 to 5 are not recorded; 6 to 12 are, and the recording then answers every call with the first one.
 unfoldable pub refusing : CodeBuffer → ℕ → CodeBuffer
-refusing b why = pick (ltb why 6) b (withRefusal b why)
+refusing b why = pick (ltb why refusals.firstRecorded) b (withRefusal b why)
 
 -- a call that is turned down, and one that is not
 abbrev pub turnedDown : CodeBuffer → ℕ → Recorded

@@ -4,7 +4,11 @@ ghost use Prim.Native.Nat.{_+_, _*_, _<_, _≤_};
 ghost use lib.ListN.{length, replicate};
 ghost use Rattle.buffer.specs.Refusals.{whyBytes, isAlignment, whyAlign};
 ghost use Rattle.buffer.specs.Calls.{putBytes, padding, alignedEvents, alignTo};
+ghost use Rattle.buffer.specs.Tables.{mostEntries};
+ghost use Rattle.relax.specs.Events.{eventSize};
+ghost use Rattle.fields.specs.Kinds.{archX64};
 use crate::CodeBuffer;
+use crate::MOST_ALIGNMENT;
 use crate::MOST_CODE;
 use crate::MOST_ENTRIES;
 use crate::Recorded;
@@ -17,7 +21,7 @@ pub fn is_alignment(n: u32) -> bool
     if n == 0 {
         return false;
     }
-    4096 % n == 0
+    MOST_ALIGNMENT % n == 0
 }
 
 pub fn clear(part: &mut [u8])
@@ -51,7 +55,7 @@ impl CodeBuffer {
             return why;
         }
         if lent - at < n {
-            return 12;
+            return refusals::CODE_FULL;
         }
         0
     }
@@ -87,20 +91,20 @@ impl CodeBuffer {
             return why;
         }
         if !is_alignment(multiple) {
-            return 5;
+            return refusals::BAD_ALIGNMENT;
         }
         if both(self.arch == fields::X64, room <= n) {
-            return 11;
+            return refusals::TABLE_FULL;
         }
         if lent - at < encoder::padding_len(self.code, multiple) as usize {
-            return 12;
+            return refusals::CODE_FULL;
         }
         0
     }
 
     // On X64 every alignment is an event, one that takes no bytes too.
     fn record_alignment(mut self, events: &mut [u8], multiple: u32) -> CodeBuffer
-        requires { ⌜ (self .arch ≡ 2 → (self .events * 20 + 20 ≤ length (now events)) × (self .events < 65536)) ⌝ }
+        requires { ⌜ (self .arch ≡ archX64 → (self .events * eventSize + eventSize ≤ length (now events)) × (self .events < mostEntries)) ⌝ }
         ensures { λ r. ⌜ (r, now (events .exit)) ≡ alignedEvents self (now (events .entry)) multiple ⌝ }
     {
         if self.arch != fields::X64 {
@@ -108,7 +112,15 @@ impl CodeBuffer {
         }
         let n = self.events;
         let len = encoder::padding_len(self.code, multiple);
-        relax::put_event(events, n as usize, 2, self.code, len, multiple, 0);
+        relax::put_event(
+            events,
+            n as usize,
+            relax::ALIGNMENT,
+            self.code,
+            len,
+            multiple,
+            0,
+        );
         self.events = n + 1;
         self
     }
@@ -117,7 +129,7 @@ impl CodeBuffer {
     pub fn try_align_to(self, code: &mut [u8], events: &mut [u8], multiple: u32) -> Recorded
         ensures { λ r. ⌜ (r, (now (code .exit), now (events .exit))) ≡ alignTo self (now (code .entry)) (now (events .entry)) multiple ⌝ }
     {
-        let why = self.why_not_align(code.len(), events.len() / 20, multiple);
+        let why = self.why_not_align(code.len(), events.len() / relax::EVENT_SIZE, multiple);
         if why != 0 {
             return self.turn_down(why);
         }

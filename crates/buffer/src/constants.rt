@@ -7,19 +7,26 @@ ghost use Rattle.words.specs.Words.{setWord};
 ghost use Rattle.buffer.specs.State.{none};
 ghost use Rattle.buffer.specs.Refusals.{whyConstant, whyConstantLabel};
 ghost use Rattle.buffer.specs.Calls.{addConstant, askedFirst, constantLabel};
+ghost use Rattle.buffer.specs.Tables.{mostConstant, labelSize, constantWords, constantSize, constantHead, askedSize};
+use crate::ASKED_SIZE;
+use crate::CONSTANT_HEAD;
+use crate::CONSTANT_SIZE;
+use crate::CONSTANT_WORDS;
 use crate::CodeBuffer;
+use crate::LABEL_SIZE;
+use crate::MOST_CONSTANT;
 use crate::MOST_ENTRIES;
 use crate::Made;
 use crate::NONE;
 use crate::both;
 
 fn put_constant(constants: &mut [u8], i: usize, bytes: &[u8])
-    requires { ⌜ (i * 72 + 72 ≤ length (now constants)) × (length (now bytes) ≤ 64) ⌝ }
-    ensures { λ _. ⌜ now (constants .exit) ≡ over (setWord (setWord (now (constants .entry)) (i * 18) (length (now (bytes .entry)))) (i * 18 + 1) none) (i * 72 + 8) (now (bytes .entry)) ⌝ }
+    requires { ⌜ (i * constantSize + constantSize ≤ length (now constants)) × (length (now bytes) ≤ mostConstant) ⌝ }
+    ensures { λ _. ⌜ now (constants .exit) ≡ over (setWord (setWord (now (constants .entry)) (i * constantWords) (length (now (bytes .entry)))) (i * constantWords + 1) none) (i * constantSize + constantHead) (now (bytes .entry)) ⌝ }
 {
-    words::put_word(constants, i * 18, bytes.len() as u32);
-    words::put_word(constants, i * 18 + 1, NONE);
-    let at = i * 72 + 8;
+    words::put_word(constants, i * CONSTANT_WORDS, bytes.len() as u32);
+    words::put_word(constants, i * CONSTANT_WORDS + 1, NONE);
+    let at = i * CONSTANT_SIZE + CONSTANT_HEAD;
     let end = at + bytes.len();
     seqs::copy(bytes, &mut constants[at..end]);
 }
@@ -33,11 +40,11 @@ impl CodeBuffer {
         if why != 0 {
             return why;
         }
-        if 64 < n {
-            return 10;
+        if MOST_CONSTANT < n {
+            return refusals::BAD_ENTRY;
         }
         if room <= count {
-            return 11;
+            return refusals::TABLE_FULL;
         }
         0
     }
@@ -46,7 +53,7 @@ impl CodeBuffer {
     pub fn add_constant(mut self, constants: &mut [u8], bytes: &[u8]) -> Made
         ensures { λ r. ⌜ (r, now (constants .exit)) ≡ addConstant self (now (constants .entry)) (now (bytes .entry)) ⌝ }
     {
-        let why = self.why_no_constant(constants.len() / 72, bytes.len());
+        let why = self.why_no_constant(constants.len() / CONSTANT_SIZE, bytes.len());
         if why != 0 {
             return self.make_none(why);
         }
@@ -82,7 +89,7 @@ impl CodeBuffer {
             return why;
         }
         if self.constants <= constant {
-            return 8;
+            return refusals::UNKNOWN_NUMBER;
         }
         0
     }
@@ -95,18 +102,18 @@ impl CodeBuffer {
         labels: &mut [u8],
         constant: u32,
     ) -> Made
-        requires { ⌜ whyConstantLabel self (length (now constants) / 72) (length (now asked) / 4) (length (now labels) / 4) constant ≡ 0 ⌝ }
+        requires { ⌜ whyConstantLabel self (length (now constants) / constantSize) (length (now asked) / askedSize) (length (now labels) / labelSize) constant ≡ 0 ⌝ }
         ensures { λ r. ⌜ (r, (now (constants .exit), (now (asked .exit), now (labels .exit)))) ≡ askedFirst self (now (constants .entry)) (now (asked .entry)) (now (labels .entry)) constant ⌝ }
     {
         let label = self.labels;
         let place = self.asked;
-        if labels.len() / 4 <= label as usize {
+        if labels.len() / LABEL_SIZE <= label as usize {
             return self.make_none(11);
         }
-        if asked.len() / 4 <= place as usize {
+        if asked.len() / ASKED_SIZE <= place as usize {
             return self.make_none(11);
         }
-        words::put_word(constants, constant as usize * 18 + 1, label);
+        words::put_word(constants, constant as usize * CONSTANT_WORDS + 1, label);
         words::put_word(asked, place as usize, constant);
         words::put_word(labels, label as usize, NONE);
         self.asked = place + 1;
@@ -129,15 +136,15 @@ impl CodeBuffer {
         ensures { λ r. ⌜ (r, (now (constants .exit), (now (asked .exit), now (labels .exit)))) ≡ constantLabel self (now (constants .entry)) (now (asked .entry)) (now (labels .entry)) constant ⌝ }
     {
         let why = self.why_no_constant_label(
-            constants.len() / 72,
-            asked.len() / 4,
-            labels.len() / 4,
+            constants.len() / CONSTANT_SIZE,
+            asked.len() / ASKED_SIZE,
+            labels.len() / LABEL_SIZE,
             constant,
         );
         if why != 0 {
             return self.make_none(why);
         }
-        let held = words::word_at(constants, constant as usize * 18 + 1);
+        let held = words::word_at(constants, constant as usize * CONSTANT_WORDS + 1);
         if held != NONE {
             return Made {
                 buffer: self,

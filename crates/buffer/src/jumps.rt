@@ -4,7 +4,10 @@ ghost use Prim.Native.Nat.{_*_, _≤_};
 ghost use lib.ListN.{length};
 ghost use Rattle.buffer.specs.Refusals.{lastEnd, labelInside, jumpMalformed, jumpUnfit, whyJump};
 ghost use Rattle.buffer.specs.Calls.{recordJump};
+ghost use Rattle.buffer.specs.Tables.{labelSize};
+ghost use Rattle.relax.specs.Events.{eventSize};
 use crate::CodeBuffer;
+use crate::LABEL_SIZE;
 use crate::MOST_ENTRIES;
 use crate::Recorded;
 use crate::both;
@@ -12,7 +15,7 @@ use crate::either;
 
 // The end of the last of `n` events.
 fn last_end(events: &[u8], n: usize) -> u64
-    requires { ⌜ n * 20 ≤ length (now events) ⌝ }
+    requires { ⌜ n * eventSize ≤ length (now events) ⌝ }
     ensures { λ r. ⌜ r ≡ lastEnd (now (events .entry)) n ⌝ }
 {
     if n == 0 {
@@ -23,7 +26,7 @@ fn last_end(events: &[u8], n: usize) -> u64
 
 // One of the first `n` labels is bound strictly between two offsets. The scan looks at every label, so that it compiles to vector instructions.
 fn label_inside(labels: &[u8], n: usize, start: u32, end: u32) -> bool
-    requires { ⌜ n * 4 ≤ length (now labels) ⌝ }
+    requires { ⌜ n * labelSize ≤ length (now labels) ⌝ }
     ensures { λ r. ⌜ r ≡ labelInside (now (labels .entry)) n start end ⌝ }
 {
     let mut found = false;
@@ -43,18 +46,18 @@ fn is_malformed(code: u32, start: u32, len: u32, cc: u32) -> bool
     if start as u64 + len as u64 != code as u64 {
         return true;
     }
-    if len < 2 {
+    if len < relax::SHORT_LEN {
         return true;
     }
-    if 15 < len {
+    if relax::MOST_JUMP < len {
         return true;
     }
-    16 < cc
+    relax::NO_CONDITION < cc
 }
 
 impl CodeBuffer {
     fn is_unfit(self, labels: &[u8], events: &[u8], start: u32, len: u32, cc: u32) -> bool
-        requires { ⌜ (self .labels * 4 ≤ length (now labels)) × (self .events * 20 ≤ length (now events)) ⌝ }
+        requires { ⌜ (self .labels * labelSize ≤ length (now labels)) × (self .events * eventSize ≤ length (now events)) ⌝ }
         ensures { λ r. ⌜ r ≡ jumpUnfit self (now (labels .entry)) (now (events .entry)) start len cc ⌝ }
     {
         if is_malformed(self.code, start, len, cc) {
@@ -77,8 +80,8 @@ impl CodeBuffer {
     ) -> u32
         ensures { λ r. ⌜ r ≡ whyJump self (now (labels .entry)) (now (events .entry)) start len label cc ⌝ }
     {
-        let known = labels.len() / 4;
-        let room = events.len() / 20;
+        let known = labels.len() / LABEL_SIZE;
+        let room = events.len() / relax::EVENT_SIZE;
         let why = self.standing(
             both(self.labels as usize <= known, self.events as usize <= room),
             both(known <= MOST_ENTRIES, room <= MOST_ENTRIES),
@@ -90,13 +93,13 @@ impl CodeBuffer {
             return 0;
         }
         if self.labels <= label {
-            return 8;
+            return refusals::UNKNOWN_NUMBER;
         }
         if self.is_unfit(labels, events, start, len, cc) {
-            return 10;
+            return refusals::BAD_ENTRY;
         }
         if room <= self.events as usize {
-            return 11;
+            return refusals::TABLE_FULL;
         }
         0
     }
@@ -124,7 +127,7 @@ impl CodeBuffer {
             };
         }
         let n = self.events;
-        relax::put_event(events, n as usize, 1, start, len, label, cc);
+        relax::put_event(events, n as usize, relax::JUMP, start, len, label, cc);
         self.events = n + 1;
         Recorded {
             buffer: self,

@@ -3,6 +3,7 @@ ghost use mathlib.Core.Path.{_≡_};
 ghost use Rattle.buffer.specs.Refusals.{whyLabel, whyBind};
 ghost use Rattle.buffer.specs.Calls.{getLabel, bindLabel};
 use crate::CodeBuffer;
+use crate::LABEL_SIZE;
 use crate::MOST_ENTRIES;
 use crate::Made;
 use crate::NONE;
@@ -18,7 +19,7 @@ impl CodeBuffer {
             return why;
         }
         if room <= n {
-            return 11;
+            return refusals::TABLE_FULL;
         }
         0
     }
@@ -27,7 +28,7 @@ impl CodeBuffer {
     pub fn get_label(mut self, labels: &mut [u8]) -> Made
         ensures { λ r. ⌜ (r, now (labels .exit)) ≡ getLabel self (now (labels .entry)) ⌝ }
     {
-        let why = self.why_no_label(labels.len() / 4);
+        let why = self.why_no_label(labels.len() / LABEL_SIZE);
         if why != 0 {
             return self.make_none(why);
         }
@@ -44,16 +45,16 @@ impl CodeBuffer {
     fn why_not_bind(self, labels: &[u8], label: u32) -> u32
         ensures { λ r. ⌜ r ≡ whyBind self (now (labels .entry)) label ⌝ }
     {
-        let room = labels.len() / 4;
+        let room = labels.len() / LABEL_SIZE;
         let why = self.standing(self.labels as usize <= room, room <= MOST_ENTRIES);
         if why != 0 {
             return why;
         }
         if self.labels <= label {
-            return 8;
+            return refusals::UNKNOWN_NUMBER;
         }
         if words::word_at(labels, label as usize) != NONE {
-            return 9;
+            return refusals::ALREADY_BOUND;
         }
         0
     }

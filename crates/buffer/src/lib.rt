@@ -16,10 +16,42 @@ pub mod uses;
 // The offset of a label that is not bound, the label of a constant that has none, and what a refused call for either gives.
 pub const NONE: u32 = 0xffffffff;
 
-// The limits: entries of a table, bytes of code.
+// The limits: entries of a table, bytes of code, the last offset in it, bytes of a constant, the largest alignment.
 pub const MOST_ENTRIES: usize = 65536;
 
 pub const MOST_CODE: usize = 16777216;
+
+pub const LAST_OFFSET: u32 = 16777215;
+
+pub const MOST_CONSTANT: usize = 64;
+
+pub const MOST_ALIGNMENT: u32 = 4096;
+
+// An entry of each table, in words and in bytes; `relax` has those of events. A constant's bytes come after its size and its label.
+pub const LABEL_SIZE: usize = 4;
+
+pub const USE_WORDS: usize = 3;
+
+pub const USE_SIZE: usize = 12;
+
+pub const REF_WORDS: usize = 4;
+
+pub const REF_SIZE: usize = 16;
+
+pub const CONSTANT_WORDS: usize = 18;
+
+pub const CONSTANT_SIZE: usize = 72;
+
+pub const CONSTANT_HEAD: usize = 8;
+
+pub const ASKED_SIZE: usize = 4;
+
+pub const RELOC_WORDS: usize = 6;
+
+pub const RELOC_SIZE: usize = 24;
+
+// The last kind of relocation, in the order of asmkit's `Reloc`.
+pub const LAST_RELOC: u32 = 27;
 
 // A relocation's target from here on is a label's: its number, and this.
 pub const LABEL_TARGET: u32 = 1 << 31;
@@ -93,13 +125,13 @@ fn refusal_occurs(n: u32) -> bool
     if n == 0 {
         return true;
     }
-    if n < 6 {
+    if n < refusals::FIRST_RECORDED {
         return false;
     }
-    if 12 < n {
+    if refusals::CODE_FULL < n {
         return false;
     }
-    n != 9
+    n != refusals::ALREADY_BOUND
 }
 
 impl CodeBuffer {
@@ -123,7 +155,7 @@ impl CodeBuffer {
                     asked: 0,
                     relocs: 0,
                 },
-                refusal: 2,
+                refusal: refusals::UNKNOWN_ARCH,
             };
         }
         Recorded {
@@ -160,16 +192,16 @@ impl CodeBuffer {
         ensures { λ r. ⌜ r ≡ standing self fit within ⌝ }
     {
         if !self.is_sound(fit) {
-            return 1;
+            return refusals::MALFORMED;
         }
         if self.refusal != 0 {
             return self.refusal;
         }
         if !within {
-            return 3;
+            return refusals::PAST_LIMIT;
         }
         if self.finished != 0 {
-            return 4;
+            return refusals::ALREADY_FINISHED;
         }
         0
     }
@@ -178,7 +210,7 @@ impl CodeBuffer {
     pub(crate) fn turn_down(mut self, why: u32) -> Recorded
         ensures { λ r. ⌜ r ≡ turnedDown self why ⌝ }
     {
-        if why < 6 {
+        if why < refusals::FIRST_RECORDED {
             return Recorded {
                 buffer: self,
                 refusal: why,

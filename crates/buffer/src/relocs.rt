@@ -5,9 +5,14 @@ ghost use lib.ListN.{length, getD};
 ghost use Rattle.words.specs.Words.{setWord};
 ghost use Rattle.buffer.specs.Refusals.{relocArchs, foreignReloc, targetKnown, whyReloc};
 ghost use Rattle.buffer.specs.Calls.{addReloc};
+ghost use Rattle.buffer.specs.Tables.{relocWords, relocSize};
 use crate::CodeBuffer;
 use crate::LABEL_TARGET;
+use crate::LAST_OFFSET;
+use crate::LAST_RELOC;
 use crate::MOST_ENTRIES;
+use crate::RELOC_SIZE;
+use crate::RELOC_WORDS;
 use crate::Recorded;
 use crate::both;
 
@@ -73,10 +78,10 @@ pub fn is_foreign_kind(kind: u32, arch: u32) -> bool
 }
 
 fn put_reloc(relocs: &mut [u8], i: usize, offset: u32, kind: u32, target: u32, addend: u64)
-    requires { ⌜ i * 24 + 24 ≤ length (now relocs) ⌝ }
-    ensures { λ _. ⌜ now (relocs .exit) ≡ setWord (setWord (setWord (setWord (setWord (setWord (now (relocs .entry)) (i * 6) offset) (i * 6 + 1) kind) (i * 6 + 2) target) (i * 6 + 3) 0) (i * 6 + 4) (addend % 4294967296)) (i * 6 + 5) (addend / 4294967296) ⌝ }
+    requires { ⌜ i * relocSize + relocSize ≤ length (now relocs) ⌝ }
+    ensures { λ _. ⌜ now (relocs .exit) ≡ setWord (setWord (setWord (setWord (setWord (setWord (now (relocs .entry)) (i * relocWords) offset) (i * relocWords + 1) kind) (i * relocWords + 2) target) (i * relocWords + 3) 0) (i * relocWords + 4) (addend % 4294967296)) (i * relocWords + 5) (addend / 4294967296) ⌝ }
 {
-    let k = i * 6;
+    let k = i * RELOC_WORDS;
     words::put_word(relocs, k, offset);
     words::put_word(relocs, k + 1, kind);
     words::put_word(relocs, k + 2, target);
@@ -100,21 +105,21 @@ impl CodeBuffer {
         ensures { λ r. ⌜ r ≡ whyReloc self room offset kind target ⌝ }
     {
         let n = self.relocs as usize;
-        let why = self.standing(both(n <= room, kind <= 27), room <= MOST_ENTRIES);
+        let why = self.standing(both(n <= room, kind <= LAST_RELOC), room <= MOST_ENTRIES);
         if why != 0 {
             return why;
         }
         if is_foreign_kind(kind, self.arch) {
-            return 7;
+            return refusals::FOREIGN_KIND;
         }
         if !self.is_known(target) {
-            return 8;
+            return refusals::UNKNOWN_NUMBER;
         }
-        if 16777215 < offset {
-            return 10;
+        if LAST_OFFSET < offset {
+            return refusals::BAD_ENTRY;
         }
         if room <= n {
-            return 11;
+            return refusals::TABLE_FULL;
         }
         0
     }
@@ -130,7 +135,7 @@ impl CodeBuffer {
     ) -> Recorded
         ensures { λ r. ⌜ (r, now (relocs .exit)) ≡ addReloc self (now (relocs .entry)) offset kind target addend ⌝ }
     {
-        let why = self.why_no_reloc(relocs.len() / 24, offset, kind, target);
+        let why = self.why_no_reloc(relocs.len() / RELOC_SIZE, offset, kind, target);
         if why != 0 {
             return self.turn_down(why);
         }

@@ -6,9 +6,14 @@ ghost use Rattle.words.specs.Words.{setWord};
 ghost use Rattle.fields.specs.Kinds.{decoded};
 ghost use Rattle.buffer.specs.Refusals.{foreign, whyUse, whyRef};
 ghost use Rattle.buffer.specs.Calls.{useLabel, recordRef};
+ghost use Rattle.buffer.specs.Tables.{useWords, useSize, refWords, refSize};
 use crate::CodeBuffer;
 use crate::MOST_ENTRIES;
+use crate::REF_SIZE;
+use crate::REF_WORDS;
 use crate::Recorded;
+use crate::USE_SIZE;
+use crate::USE_WORDS;
 use crate::both;
 
 // Whether the architecture has no field of the kind that `code` stands for.
@@ -23,20 +28,20 @@ pub fn is_foreign(code: u32, arch: u32) -> bool
 }
 
 fn put_use(uses: &mut [u8], i: usize, offset: u32, label: u32, code: u32)
-    requires { ⌜ i * 12 + 12 ≤ length (now uses) ⌝ }
-    ensures { λ _. ⌜ now (uses .exit) ≡ setWord (setWord (setWord (now (uses .entry)) (i * 3) offset) (i * 3 + 1) label) (i * 3 + 2) code ⌝ }
+    requires { ⌜ i * useSize + useSize ≤ length (now uses) ⌝ }
+    ensures { λ _. ⌜ now (uses .exit) ≡ setWord (setWord (setWord (now (uses .entry)) (i * useWords) offset) (i * useWords + 1) label) (i * useWords + 2) code ⌝ }
 {
-    let k = i * 3;
+    let k = i * USE_WORDS;
     words::put_word(uses, k, offset);
     words::put_word(uses, k + 1, label);
     words::put_word(uses, k + 2, code);
 }
 
 fn put_ref(refs: &mut [u8], i: usize, offset: u32, label: u32, code: u32, addend: u32)
-    requires { ⌜ i * 16 + 16 ≤ length (now refs) ⌝ }
-    ensures { λ _. ⌜ now (refs .exit) ≡ setWord (setWord (setWord (setWord (now (refs .entry)) (i * 4) offset) (i * 4 + 1) label) (i * 4 + 2) code) (i * 4 + 3) addend ⌝ }
+    requires { ⌜ i * refSize + refSize ≤ length (now refs) ⌝ }
+    ensures { λ _. ⌜ now (refs .exit) ≡ setWord (setWord (setWord (setWord (now (refs .entry)) (i * refWords) offset) (i * refWords + 1) label) (i * refWords + 2) code) (i * refWords + 3) addend ⌝ }
 {
-    let k = i * 4;
+    let k = i * REF_WORDS;
     words::put_word(refs, k, offset);
     words::put_word(refs, k + 1, label);
     words::put_word(refs, k + 2, code);
@@ -48,21 +53,24 @@ impl CodeBuffer {
         ensures { λ r. ⌜ r ≡ whyUse self room label code ⌝ }
     {
         let n = self.uses as usize;
-        let why = self.standing(both(n <= room, code <= 16), room <= MOST_ENTRIES);
+        let why = self.standing(
+            both(n <= room, code <= fields::LAST_CODE),
+            room <= MOST_ENTRIES,
+        );
         if why != 0 {
             return why;
         }
-        if code == 15 {
-            return 6;
+        if code == fields::UNSUPPORTED_CODE {
+            return refusals::UNSUPPORTED_USE;
         }
         if is_foreign(code, self.arch) {
-            return 7;
+            return refusals::FOREIGN_KIND;
         }
         if self.labels <= label {
-            return 8;
+            return refusals::UNKNOWN_NUMBER;
         }
         if room <= n {
-            return 11;
+            return refusals::TABLE_FULL;
         }
         0
     }
@@ -77,7 +85,7 @@ impl CodeBuffer {
     ) -> Recorded
         ensures { λ r. ⌜ (r, now (uses .exit)) ≡ useLabel self (now (uses .entry)) offset label code ⌝ }
     {
-        let why = self.why_no_use(uses.len() / 12, label, code);
+        let why = self.why_no_use(uses.len() / USE_SIZE, label, code);
         if why != 0 {
             return self.turn_down(why);
         }
@@ -94,7 +102,10 @@ impl CodeBuffer {
         ensures { λ r. ⌜ r ≡ whyRef self room label code ⌝ }
     {
         let n = self.refs as usize;
-        let why = self.standing(both(n <= room, code <= 16), room <= MOST_ENTRIES);
+        let why = self.standing(
+            both(n <= room, code <= fields::LAST_CODE),
+            room <= MOST_ENTRIES,
+        );
         if why != 0 {
             return why;
         }
@@ -102,13 +113,13 @@ impl CodeBuffer {
             return 0;
         }
         if is_foreign(code, self.arch) {
-            return 7;
+            return refusals::FOREIGN_KIND;
         }
         if self.labels <= label {
-            return 8;
+            return refusals::UNKNOWN_NUMBER;
         }
         if room <= n {
-            return 11;
+            return refusals::TABLE_FULL;
         }
         0
     }
@@ -124,7 +135,7 @@ impl CodeBuffer {
     ) -> Recorded
         ensures { λ r. ⌜ (r, now (refs .exit)) ≡ recordRef self (now (refs .entry)) offset label code addend ⌝ }
     {
-        let why = self.why_no_ref(refs.len() / 16, label, code);
+        let why = self.why_no_ref(refs.len() / REF_SIZE, label, code);
         if why != 0 {
             return self.turn_down(why);
         }

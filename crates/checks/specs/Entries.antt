@@ -6,10 +6,12 @@ use Prim.Native.Nat.{ℕ, zero, suc, _+_, _*_}
 use lib.Dec.{eqb, leb, ltb}
 use Rattle.words.specs.Words.{wordAt}
 use Rattle.encoder.specs.Padding.{paddingLength}
-use Rattle.fields.specs.Kinds.{decoded}
+use Rattle.fields.specs.Kinds.{decoded, unsupportedCode, lastCode}
+use Rattle.relax.specs.Events.{eventWords, jumpKind, alignmentKind, noCondition, mostJump, shortLen}
 use Rattle.buffer.specs.declared.CodeBuffer.{CodeBuffer}
 use Rattle.buffer.specs.State.{none, keepsEvents}
 use Rattle.buffer.specs.Refusals.{isAlignment, foreign, foreignReloc, targetKnown, lastEnd}
+use Rattle.buffer.specs.Tables.{lastOffset, mostConstant, lastReloc, useWords, refWords, constantWords, relocWords}
 use Rattle.recording.specs.Calls.{Recording}
 use Rattle.recording.specs.Sound.{startAt, endAt, labelOf}
 
@@ -21,13 +23,13 @@ all f (suc n) = all f n && f n
 -- The columns of an event: a jump (length 2..15, a known label, a condition up to 16), or an alignment (a power of two up to 4,096, "of least length").
 unfoldable pub formFits : ℕ → ℕ → ℕ → ℕ → ℕ → ℕ → Bool
 formFits labels kind start len what cc =
-    eqb kind 1 && (leb 2 len && leb len 15 && (ltb what labels && leb cc 16))
-    || eqb kind 2 && (isAlignment what && eqb len (paddingLength start what))
+    eqb kind jumpKind && (leb shortLen len && leb len mostJump && (ltb what labels && leb cc noCondition))
+    || eqb kind alignmentKind && (isAlignment what && eqb len (paddingLength start what))
 
 -- "an event past that end or starting before the last one's end"
 unfoldable pub eventFits : List ℕ → ℕ → ℕ → ℕ → Bool
 eventFits events labels code j =
-    formFits labels (wordAt events (j * 5)) (wordAt events (j * 5 + 1)) (wordAt events (j * 5 + 2)) (wordAt events (j * 5 + 3)) (wordAt events (j * 5 + 4))
+    formFits labels (wordAt events (j * eventWords)) (wordAt events (j * eventWords + 1)) (wordAt events (j * eventWords + 2)) (wordAt events (j * eventWords + 3)) (wordAt events (j * eventWords + 4))
     && (leb (endAt events j) code && leb (lastEnd events j) (startAt events j))
 
 -- only X64 keeps events and refs
@@ -51,15 +53,15 @@ labelsFit labels n events m code = all (λ (i : ℕ). labelFits events m code (w
 -- a use: offset, label, code
 unfoldable pub useFits : List ℕ → ℕ → ℕ → ℕ → Bool
 useFits uses arch labels i =
-    leb (wordAt uses (i * 3 + 2)) 16
-    && (not (eqb (wordAt uses (i * 3 + 2)) 15) && (not (foreign (decoded (wordAt uses (i * 3 + 2))) arch) && ltb (wordAt uses (i * 3 + 1)) labels))
+    leb (wordAt uses (i * useWords + 2)) lastCode
+    && (not (eqb (wordAt uses (i * useWords + 2)) unsupportedCode) && (not (foreign (decoded (wordAt uses (i * useWords + 2))) arch) && ltb (wordAt uses (i * useWords + 1)) labels))
 
 unfoldable pub usesFit : List ℕ → ℕ → ℕ → ℕ → Bool
 usesFit uses n arch labels = all (useFits uses arch labels) n
 
 -- a ref: offset, label, code, addend
 unfoldable pub refFits : List ℕ → ℕ → ℕ → ℕ → Bool
-refFits refs arch labels i = not (foreign (decoded (wordAt refs (i * 4 + 2))) arch) && ltb (wordAt refs (i * 4 + 1)) labels
+refFits refs arch labels i = not (foreign (decoded (wordAt refs (i * refWords + 2))) arch) && ltb (wordAt refs (i * refWords + 1)) labels
 
 unfoldable pub refsFit : List ℕ → ℕ → ℕ → ℕ → Bool
 refsFit refs n arch labels = keptOnly arch n && all (refFits refs arch labels) n
@@ -67,16 +69,16 @@ refsFit refs n arch labels = keptOnly arch n && all (refFits refs arch labels) n
 -- a relocation: offset, kind, target
 unfoldable pub relocFits : CodeBuffer → List ℕ → ℕ → Bool
 relocFits b relocs i =
-    leb (wordAt relocs (i * 6)) 16777215
-    && (leb (wordAt relocs (i * 6 + 1)) 27
-    && (not (foreignReloc (wordAt relocs (i * 6 + 1)) (b .arch)) && targetKnown b (wordAt relocs (i * 6 + 2))))
+    leb (wordAt relocs (i * relocWords)) lastOffset
+    && (leb (wordAt relocs (i * relocWords + 1)) lastReloc
+    && (not (foreignReloc (wordAt relocs (i * relocWords + 1)) (b .arch)) && targetKnown b (wordAt relocs (i * relocWords + 2))))
 
 unfoldable pub relocsFit : CodeBuffer → List ℕ → Bool
 relocsFit b relocs = all (relocFits b relocs) (b .relocs)
 
 -- a constant: size, label
 unfoldable pub constantFits : List ℕ → ℕ → ℕ → Bool
-constantFits constants labels i = leb (wordAt constants (i * 18)) 64 && (eqb (labelOf constants i) none || ltb (labelOf constants i) labels)
+constantFits constants labels i = leb (wordAt constants (i * constantWords)) mostConstant && (eqb (labelOf constants i) none || ltb (labelOf constants i) labels)
 
 unfoldable pub constantsFit : List ℕ → ℕ → ℕ → Bool
 constantsFit constants n labels = all (constantFits constants labels) n

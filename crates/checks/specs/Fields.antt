@@ -4,13 +4,16 @@ use mathlib.Core.Bool.{Bool, not, _&&_, _||_}
 use mathlib.Core.List.{List}
 use Prim.Native.Nat.{ℕ, zero, suc, _+_, _-_, _*_}
 use lib.Dec.{eqb, leb, ltb}
+use Rattle.refusals.specs.Numbers as refusals
 use Rattle.seqs.specs.Pick.{pick}
 use Rattle.words.specs.Words.{wordAt}
 use Rattle.fields.specs.declared.Decoded.{Decoded}
 use Rattle.fields.specs.declared.Decoded.the-variants.{Use, Unsupported, Unknown}
 use Rattle.fields.specs.Kinds.{decoded, patchSize}
 use Rattle.fields.specs.Reach.{reachRefusal}
+use Rattle.relax.specs.Events.{eventWords, jumpKind}
 use Rattle.buffer.specs.State.{none, labelTarget}
+use Rattle.buffer.specs.Tables.{useWords, refWords, relocWords}
 use Rattle.recording.specs.Sound.{startAt, endAt}
 use Rattle.pool.specs.Pool.{poolStart, poolOffset}
 use Rattle.checks.specs.Entries.{all}
@@ -20,19 +23,19 @@ isBound labels label = not (eqb (wordAt labels label) none)
 
 -- 15: "a use, label relocation, ref or jump names an unbound label"; each of these holds where none does
 unfoldable pub usesBound : List ℕ → ℕ → List ℕ → Bool
-usesBound uses n labels = all (λ (i : ℕ). isBound labels (wordAt uses (i * 3 + 1))) n
+usesBound uses n labels = all (λ (i : ℕ). isBound labels (wordAt uses (i * useWords + 1))) n
 
 unfoldable pub refsBound : List ℕ → ℕ → List ℕ → Bool
-refsBound refs n labels = all (λ (i : ℕ). isBound labels (wordAt refs (i * 4 + 1))) n
+refsBound refs n labels = all (λ (i : ℕ). isBound labels (wordAt refs (i * refWords + 1))) n
 
 -- an event of kind 1 is a jump
 unfoldable pub jumpsBound : List ℕ → ℕ → List ℕ → Bool
-jumpsBound events n labels = all (λ (i : ℕ). not (eqb (wordAt events (i * 5)) 1) || isBound labels (wordAt events (i * 5 + 3))) n
+jumpsBound events n labels = all (λ (i : ℕ). not (eqb (wordAt events (i * eventWords)) jumpKind) || isBound labels (wordAt events (i * eventWords + 3))) n
 
 -- a target from 2^31 on is a label's
 unfoldable pub relocsBound : List ℕ → ℕ → List ℕ → Bool
 relocsBound relocs n labels =
-    all (λ (i : ℕ). ltb (wordAt relocs (i * 6 + 2)) labelTarget || isBound labels (wordAt relocs (i * 6 + 2) - labelTarget)) n
+    all (λ (i : ℕ). ltb (wordAt relocs (i * relocWords + 2)) labelTarget || isBound labels (wordAt relocs (i * relocWords + 2) - labelTarget)) n
 
 -- a field's size, by its code
 abbrev pub sizeOf : Decoded → ℕ
@@ -52,8 +55,8 @@ clearOfPool code constants asked m from to =
 -- 17, turned round: the field lies within the pooled code, and clear of every event
 unfoldable pub refClear : List ℕ → List ℕ → ℕ → ℕ → List ℕ → List ℕ → ℕ → ℕ → Bool
 refClear refs events n code constants asked m i =
-    let from = wordAt refs (i * 4) in
-    let to = from + sizeOf (decoded (wordAt refs (i * 4 + 2))) in
+    let from = wordAt refs (i * refWords) in
+    let to = from + sizeOf (decoded (wordAt refs (i * refWords + 2))) in
     leb to (poolStart code constants asked m) && (clearOfEvents events n from to && clearOfPool code constants asked m from to)
 
 unfoldable pub refsClear : List ℕ → ℕ → List ℕ → ℕ → ℕ → List ℕ → List ℕ → ℕ → Bool
@@ -67,9 +70,9 @@ reachOf Unknown offset label = 0
 
 unfoldable pub whyUnreached : List ℕ → List ℕ → ℕ → ℕ → ℕ
 whyUnreached uses labels len i =
-    let offset = wordAt uses (i * 3) in
-    let kind = decoded (wordAt uses (i * 3 + 2)) in
-    pick (ltb len (offset + sizeOf kind)) 19 (reachOf kind offset (wordAt labels (wordAt uses (i * 3 + 1))))
+    let offset = wordAt uses (i * useWords) in
+    let kind = decoded (wordAt uses (i * useWords + 2)) in
+    pick (ltb len (offset + sizeOf kind)) refusals.usePastEnd (reachOf kind offset (wordAt labels (wordAt uses (i * useWords + 1))))
 
 -- "tried together for each use in order": the first refusal of the first n uses
 unfoldable pub whyUses : List ℕ → List ℕ → ℕ → ℕ → ℕ

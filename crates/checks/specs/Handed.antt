@@ -7,8 +7,10 @@ use Prim.Native.Nat.{ℕ, _+_, _-_, _*_, _≤_, _<_}
 use lib.Dec.{eqb, ltb}
 use lib.ListN.{length, getD}
 use Rattle.words.specs.Words.{wordAt}
+use Rattle.relax.specs.Events.{eventWords, eventSize, jumpKind}
 use Rattle.buffer.specs.declared.CodeBuffer.{CodeBuffer}
-use Rattle.buffer.specs.State.{none, mostEntries, labelTarget}
+use Rattle.buffer.specs.State.{none, labelTarget}
+use Rattle.buffer.specs.Tables.{mostEntries, labelSize, useWords, useSize, refWords, refSize, constantSize, askedSize, relocWords, relocSize}
 use Rattle.recording.specs.Calls.{Recording}
 use Rattle.recording.specs.Sound.{labelOf}
 use Rattle.checks.specs.Entries.{all, askedFits, askedOnce}
@@ -16,15 +18,15 @@ use Rattle.checks.specs.Fields.{isBound}
 
 -- the counts of a recording, but that of its code, fit its tables; those of labels and constants are within the limit
 pub record CountsFit (b : CodeBuffer) (labels events uses refs constants asked relocs : List ℕ) : Type 0 where
-  pub labels-room : b .labels * 4 ≤ length labels
+  pub labels-room : b .labels * labelSize ≤ length labels
   pub labels-limit : b .labels ≤ mostEntries
-  pub events-room : b .events * 20 ≤ length events
-  pub uses-room : b .uses * 12 ≤ length uses
-  pub refs-room : b .refs * 16 ≤ length refs
-  pub constants-room : b .constants * 72 ≤ length constants
+  pub events-room : b .events * eventSize ≤ length events
+  pub uses-room : b .uses * useSize ≤ length uses
+  pub refs-room : b .refs * refSize ≤ length refs
+  pub constants-room : b .constants * constantSize ≤ length constants
   pub constants-limit : b .constants ≤ mostEntries
-  pub asked-room : b .asked * 4 ≤ length asked
-  pub relocs-room : b .relocs * 24 ≤ length relocs
+  pub asked-room : b .asked * askedSize ≤ length asked
+  pub relocs-room : b .relocs * relocSize ≤ length relocs
 
 -- the recording of these tables, its code left out: no entry is judged by the code's bytes
 abbrev pub tables : CodeBuffer → List ℕ → List ℕ → List ℕ → List ℕ → List ℕ → List ℕ → List ℕ → Recording
@@ -33,34 +35,34 @@ tables b labels events uses refs constants asked relocs =
 
 -- the label that a use names, and a ref
 abbrev pub useLabel : List ℕ → ℕ → ℕ
-useLabel uses i = wordAt uses (i * 3 + 1)
+useLabel uses i = wordAt uses (i * useWords + 1)
 
 abbrev pub refLabel : List ℕ → ℕ → ℕ
-refLabel refs i = wordAt refs (i * 4 + 1)
+refLabel refs i = wordAt refs (i * refWords + 1)
 
 -- event i is no jump, or its label is bound
 abbrev pub jumpBound : List ℕ → List ℕ → ℕ → Bool
-jumpBound events labels i = not (eqb (wordAt events (i * 5)) 1) || isBound labels (wordAt events (i * 5 + 3))
+jumpBound events labels i = not (eqb (wordAt events (i * eventWords)) jumpKind) || isBound labels (wordAt events (i * eventWords + 3))
 
 -- relocation i names a symbol, or a label that is bound
 abbrev pub targetBound : List ℕ → List ℕ → ℕ → Bool
-targetBound relocs labels i = ltb (wordAt relocs (i * 6 + 2)) labelTarget || isBound labels (wordAt relocs (i * 6 + 2) - labelTarget)
+targetBound relocs labels i = ltb (wordAt relocs (i * relocWords + 2)) labelTarget || isBound labels (wordAt relocs (i * relocWords + 2) - labelTarget)
 
 -- the labels that the first n entries name lie in the table of labels
 pub record Named (label : ℕ → ℕ) (n : ℕ) (labels : List ℕ) : Type 0 where
-  pub known : (i : ℕ) → i < n → label i * 4 + 4 ≤ length labels
+  pub known : (i : ℕ) → i < n → label i * labelSize + labelSize ≤ length labels
 
 -- those of the jumps among the first n events
 pub record JumpsNamed (events : List ℕ) (n : ℕ) (labels : List ℕ) : Type 0 where
-  pub known : (i : ℕ) → i < n → wordAt events (i * 5) ≡ 1 → wordAt events (i * 5 + 3) * 4 + 4 ≤ length labels
+  pub known : (i : ℕ) → i < n → wordAt events (i * eventWords) ≡ jumpKind → wordAt events (i * eventWords + 3) * labelSize + labelSize ≤ length labels
 
 -- those of the targets among the first n relocations
 pub record TargetsNamed (relocs : List ℕ) (n : ℕ) (labels : List ℕ) : Type 0 where
-  pub known : (i : ℕ) → i < n → labelTarget ≤ wordAt relocs (i * 6 + 2) → (wordAt relocs (i * 6 + 2) - labelTarget) * 4 + 4 ≤ length labels
+  pub known : (i : ℕ) → i < n → labelTarget ≤ wordAt relocs (i * relocWords + 2) → (wordAt relocs (i * relocWords + 2) - labelTarget) * labelSize + labelSize ≤ length labels
 
 -- the first n constants lie in the table, and have labels below 65,536, or none
 pub record Labelled (constants : List ℕ) (n : ℕ) : Type 0 where
-  pub room : n * 72 ≤ length constants
+  pub room : n * constantSize ≤ length constants
   pub limit : n ≤ mostEntries
   pub label : (i : ℕ) → i < n → labelOf constants i ≢ none → labelOf constants i < mostEntries
 

@@ -4,6 +4,7 @@ use mathlib.Core.Path.{_≡_}
 use mathlib.Core.List.{List}
 use lib.ListN.{length}
 use Rattle.words.specs.Words.{wordAt}
+use Rattle.buffer.specs.Tables.{labelSize, constantSize, askedSize}
 use Rattle.pool.specs.Pool.{labelAt, poolOffset}
 
 -- n pieces of code in order, each of which ends before the next starts
@@ -19,7 +20,7 @@ pub record Before (start : ℕ → ℕ) (n to k : ℕ) : Type 0 where
 
 -- the first n constants of the pool lie in the tables, and their labels are bound where they stand
 pub record Placed (labels constants asked : List ℕ) (code n : ℕ) : Type 0 where
-  pub room : n * 4 ≤ length asked
-  pub listed : (j : ℕ) → j < n → wordAt asked j * 72 + 72 ≤ length constants
-  pub known : (j : ℕ) → j < n → labelAt constants asked j * 4 + 4 ≤ length labels
+  pub room : n * askedSize ≤ length asked
+  pub listed : (j : ℕ) → j < n → wordAt asked j * constantSize + constantSize ≤ length constants
+  pub known : (j : ℕ) → j < n → labelAt constants asked j * labelSize + labelSize ≤ length labels
   pub stands : (j : ℕ) → j < n → wordAt labels (labelAt constants asked j) ≡ poolOffset code constants asked j

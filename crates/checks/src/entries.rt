@@ -4,7 +4,9 @@ ghost use mathlib.Core.Bool.{true};
 ghost use Prim.Native.Nat.{_+_, _*_, _≤_, _<_};
 ghost use lib.ListN.{length};
 ghost use Rattle.words.specs.Words.{wordAt};
+ghost use Rattle.relax.specs.Events.{eventSize};
 ghost use Rattle.buffer.specs.Refusals.{lastEnd};
+ghost use Rattle.buffer.specs.Tables.{labelSize, useSize, refSize, constantSize, askedSize, relocSize};
 ghost use Rattle.recording.specs.Sound.{startAt, endAt};
 ghost use Rattle.checks.specs.Entries.{all, formFits, eventFits, keptOnly, eventsFit, outside, labelFits, labelsFit, useFits, usesFit, refFits, refsFit, relocFits, relocsFit, constantFits, constantsFit, orderFits, entriesFit};
 ghost use Rattle.checks.specs.Search.{Ordered};
@@ -15,14 +17,14 @@ use buffer::CodeBuffer;
 fn form_fits(labels: u32, kind: u32, start: u32, len: u32, what: u32, cc: u32) -> bool
     ensures { λ r. ⌜ r ≡ formFits labels kind start len what cc ⌝ }
 {
-    if kind == 1 {
+    if kind == relax::JUMP {
         return buffer::both(
-            buffer::both(2 <= len, len <= 15),
-            buffer::both(what < labels, cc <= 16),
+            buffer::both(relax::SHORT_LEN <= len, len <= relax::MOST_JUMP),
+            buffer::both(what < labels, cc <= relax::NO_CONDITION),
         );
     }
     buffer::both(
-        kind == 2,
+        kind == relax::ALIGNMENT,
         buffer::both(
             buffer::bytes::is_alignment(what),
             len == encoder::padding_len(start, what),
@@ -32,7 +34,7 @@ fn form_fits(labels: u32, kind: u32, start: u32, len: u32, what: u32, cc: u32) -
 
 // The end of the event before event `j`.
 fn last_end(events: &[u8], j: usize) -> u64
-    requires { ⌜ j * 20 ≤ length (now events) ⌝ }
+    requires { ⌜ j * eventSize ≤ length (now events) ⌝ }
     ensures { λ r. ⌜ r ≡ lastEnd (now (events .entry)) j ⌝ }
 {
     if j == 0 {
@@ -42,14 +44,14 @@ fn last_end(events: &[u8], j: usize) -> u64
 }
 
 fn event_fits(events: &[u8], labels: u32, code: u32, j: usize) -> bool
-    requires { ⌜ j * 20 + 20 ≤ length (now events) ⌝ }
+    requires { ⌜ j * eventSize + eventSize ≤ length (now events) ⌝ }
     ensures { λ r. ⌜ r ≡ eventFits (now (events .entry)) labels code j ⌝ }
 {
-    let kind = words::word_at(events, j * 5);
-    let start = words::word_at(events, j * 5 + 1);
-    let len = words::word_at(events, j * 5 + 2);
-    let what = words::word_at(events, j * 5 + 3);
-    let cc = words::word_at(events, j * 5 + 4);
+    let kind = words::word_at(events, j * relax::EVENT_WORDS);
+    let start = words::word_at(events, j * relax::EVENT_WORDS + 1);
+    let len = words::word_at(events, j * relax::EVENT_WORDS + 2);
+    let what = words::word_at(events, j * relax::EVENT_WORDS + 3);
+    let cc = words::word_at(events, j * relax::EVENT_WORDS + 4);
     let formed = form_fits(labels, kind, start, len, what, cc);
     let last = last_end(events, j);
     buffer::both(
@@ -62,7 +64,7 @@ fn event_fits(events: &[u8], labels: u32, code: u32, j: usize) -> bool
 }
 
 fn each_event_fits(events: &[u8], n: usize, labels: u32, code: u32) -> bool
-    requires { ⌜ n * 20 ≤ length (now events) ⌝ }
+    requires { ⌜ n * eventSize ≤ length (now events) ⌝ }
     ensures { λ r. ⌜ r ≡ all (eventFits (now (events .entry)) labels code) n ⌝ }
 {
     let mut i: usize = 0;
@@ -83,7 +85,7 @@ fn is_kept(arch: u32, n: usize) -> bool
 }
 
 pub fn events_fit(arch: u32, events: &[u8], n: usize, labels: u32, code: u32) -> bool
-    requires { ⌜ n * 20 ≤ length (now events) ⌝ }
+    requires { ⌜ n * eventSize ≤ length (now events) ⌝ }
     ensures { λ r. ⌜ r ≡ eventsFit arch (now (events .entry)) n labels code ⌝ }
 {
     let kept = is_kept(arch, n);
@@ -92,14 +94,14 @@ pub fn events_fit(arch: u32, events: &[u8], n: usize, labels: u32, code: u32) ->
 
 // Whether an offset lies strictly inside none of the events.
 fn is_outside(events: &[u8], n: usize, offset: u32) -> bool
-    requires { ⌜ n * 20 ≤ length (now events) ⌝ ∗ ⌜ Ordered (startAt (now events)) (endAt (now events)) n ⌝ }
+    requires { ⌜ n * eventSize ≤ length (now events) ⌝ ∗ ⌜ Ordered (startAt (now events)) (endAt (now events)) n ⌝ }
     ensures { λ r. ⌜ r ≡ outside (now (events .entry)) n offset ⌝ }
 {
     crate::search::clear_of_events(events, n, offset as u64, offset as u64)
 }
 
 fn label_fits(events: &[u8], n: usize, code: u32, offset: u32) -> bool
-    requires { ⌜ n * 20 ≤ length (now events) ⌝ ∗ ⌜ Ordered (startAt (now events)) (endAt (now events)) n ⌝ }
+    requires { ⌜ n * eventSize ≤ length (now events) ⌝ ∗ ⌜ Ordered (startAt (now events)) (endAt (now events)) n ⌝ }
     ensures { λ r. ⌜ r ≡ labelFits (now (events .entry)) n code offset ⌝ }
 {
     if offset == buffer::NONE {
@@ -112,7 +114,7 @@ fn label_fits(events: &[u8], n: usize, code: u32, offset: u32) -> bool
 }
 
 pub fn labels_fit(labels: &[u8], n: usize, events: &[u8], m: usize, code: u32) -> bool
-    requires { ⌜ n * 4 ≤ length (now labels) ⌝ ∗ ⌜ m * 20 ≤ length (now events) ⌝ ∗ ⌜ Ordered (startAt (now events)) (endAt (now events)) m ⌝ }
+    requires { ⌜ n * labelSize ≤ length (now labels) ⌝ ∗ ⌜ m * eventSize ≤ length (now events) ⌝ ∗ ⌜ Ordered (startAt (now events)) (endAt (now events)) m ⌝ }
     ensures { λ r. ⌜ r ≡ labelsFit (now (labels .entry)) n (now (events .entry)) m code ⌝ }
 {
     let mut i: usize = 0;
@@ -127,20 +129,23 @@ pub fn labels_fit(labels: &[u8], n: usize, events: &[u8], m: usize, code: u32) -
 }
 
 fn use_fits(uses: &[u8], arch: u32, labels: u32, i: usize) -> bool
-    requires { ⌜ i * 12 + 12 ≤ length (now uses) ⌝ }
+    requires { ⌜ i * useSize + useSize ≤ length (now uses) ⌝ }
     ensures { λ r. ⌜ r ≡ useFits (now (uses .entry)) arch labels i ⌝ }
 {
-    let label = words::word_at(uses, i * 3 + 1);
-    let code = words::word_at(uses, i * 3 + 2);
+    let label = words::word_at(uses, i * buffer::USE_WORDS + 1);
+    let code = words::word_at(uses, i * buffer::USE_WORDS + 2);
     let foreign = buffer::uses::is_foreign(code, arch);
     buffer::both(
-        code <= 16,
-        buffer::both(code != 15, buffer::both(!foreign, label < labels)),
+        code <= fields::LAST_CODE,
+        buffer::both(
+            code != fields::UNSUPPORTED_CODE,
+            buffer::both(!foreign, label < labels),
+        ),
     )
 }
 
 pub fn uses_fit(uses: &[u8], n: usize, arch: u32, labels: u32) -> bool
-    requires { ⌜ n * 12 ≤ length (now uses) ⌝ }
+    requires { ⌜ n * useSize ≤ length (now uses) ⌝ }
     ensures { λ r. ⌜ r ≡ usesFit (now (uses .entry)) n arch labels ⌝ }
 {
     let mut i: usize = 0;
@@ -154,17 +159,17 @@ pub fn uses_fit(uses: &[u8], n: usize, arch: u32, labels: u32) -> bool
 }
 
 fn ref_fits(refs: &[u8], arch: u32, labels: u32, i: usize) -> bool
-    requires { ⌜ i * 16 + 16 ≤ length (now refs) ⌝ }
+    requires { ⌜ i * refSize + refSize ≤ length (now refs) ⌝ }
     ensures { λ r. ⌜ r ≡ refFits (now (refs .entry)) arch labels i ⌝ }
 {
-    let label = words::word_at(refs, i * 4 + 1);
-    let code = words::word_at(refs, i * 4 + 2);
+    let label = words::word_at(refs, i * buffer::REF_WORDS + 1);
+    let code = words::word_at(refs, i * buffer::REF_WORDS + 2);
     let foreign = buffer::uses::is_foreign(code, arch);
     buffer::both(!foreign, label < labels)
 }
 
 fn each_ref_fits(refs: &[u8], n: usize, arch: u32, labels: u32) -> bool
-    requires { ⌜ n * 16 ≤ length (now refs) ⌝ }
+    requires { ⌜ n * refSize ≤ length (now refs) ⌝ }
     ensures { λ r. ⌜ r ≡ all (refFits (now (refs .entry)) arch labels) n ⌝ }
 {
     let mut i: usize = 0;
@@ -178,7 +183,7 @@ fn each_ref_fits(refs: &[u8], n: usize, arch: u32, labels: u32) -> bool
 }
 
 pub fn refs_fit(refs: &[u8], n: usize, arch: u32, labels: u32) -> bool
-    requires { ⌜ n * 16 ≤ length (now refs) ⌝ }
+    requires { ⌜ n * refSize ≤ length (now refs) ⌝ }
     ensures { λ r. ⌜ r ≡ refsFit (now (refs .entry)) n arch labels ⌝ }
 {
     let kept = is_kept(arch, n);
@@ -186,22 +191,22 @@ pub fn refs_fit(refs: &[u8], n: usize, arch: u32, labels: u32) -> bool
 }
 
 fn reloc_fits(b: CodeBuffer, relocs: &[u8], i: usize) -> bool
-    requires { ⌜ i * 24 + 24 ≤ length (now relocs) ⌝ }
+    requires { ⌜ i * relocSize + relocSize ≤ length (now relocs) ⌝ }
     ensures { λ r. ⌜ r ≡ relocFits b (now (relocs .entry)) i ⌝ }
 {
-    let offset = words::word_at(relocs, i * 6);
-    let kind = words::word_at(relocs, i * 6 + 1);
-    let target = words::word_at(relocs, i * 6 + 2);
+    let offset = words::word_at(relocs, i * buffer::RELOC_WORDS);
+    let kind = words::word_at(relocs, i * buffer::RELOC_WORDS + 1);
+    let target = words::word_at(relocs, i * buffer::RELOC_WORDS + 2);
     let foreign = buffer::relocs::is_foreign_kind(kind, b.arch);
     let known = b.is_known(target);
     buffer::both(
-        offset <= 16777215,
-        buffer::both(kind <= 27, buffer::both(!foreign, known)),
+        offset <= buffer::LAST_OFFSET,
+        buffer::both(kind <= buffer::LAST_RELOC, buffer::both(!foreign, known)),
     )
 }
 
 pub fn relocs_fit(b: CodeBuffer, relocs: &[u8]) -> bool
-    requires { ⌜ b .relocs * 24 ≤ length (now relocs) ⌝ }
+    requires { ⌜ b .relocs * relocSize ≤ length (now relocs) ⌝ }
     ensures { λ r. ⌜ r ≡ relocsFit b (now (relocs .entry)) ⌝ }
 {
     let n = b.relocs as usize;
@@ -216,19 +221,19 @@ pub fn relocs_fit(b: CodeBuffer, relocs: &[u8]) -> bool
 }
 
 fn constant_fits(constants: &[u8], labels: u32, i: usize) -> bool
-    requires { ⌜ i * 72 + 72 ≤ length (now constants) ⌝ }
+    requires { ⌜ i * constantSize + constantSize ≤ length (now constants) ⌝ }
     ensures { λ r. ⌜ r ≡ constantFits (now (constants .entry)) labels i ⌝ }
 {
-    let size = words::word_at(constants, i * 18);
-    let label = words::word_at(constants, i * 18 + 1);
+    let size = words::word_at(constants, i * buffer::CONSTANT_WORDS);
+    let label = words::word_at(constants, i * buffer::CONSTANT_WORDS + 1);
     buffer::both(
-        size <= 64,
+        size as usize <= buffer::MOST_CONSTANT,
         buffer::either(label == buffer::NONE, label < labels),
     )
 }
 
 pub fn constants_fit(constants: &[u8], n: usize, labels: u32) -> bool
-    requires { ⌜ n * 72 ≤ length (now constants) ⌝ }
+    requires { ⌜ n * constantSize ≤ length (now constants) ⌝ }
     ensures { λ r. ⌜ r ≡ constantsFit (now (constants .entry)) n labels ⌝ }
 {
     let mut i: usize = 0;
@@ -250,14 +255,14 @@ fn is_new(
     seen: &[bool],
     taken: &[bool],
 ) -> bool
-    requires { ⌜ i * 4 + 4 ≤ length (now asked) ⌝ ∗ ⌜ Labelled (now constants) known ⌝ ∗ ⌜ Marks (now seen) (wordAt (now asked)) i ⌝ ∗ ⌜ Marks (now taken) (askedLabel (now constants) (now asked)) i ⌝ }
+    requires { ⌜ i * askedSize + askedSize ≤ length (now asked) ⌝ ∗ ⌜ Labelled (now constants) known ⌝ ∗ ⌜ Marks (now seen) (wordAt (now asked)) i ⌝ ∗ ⌜ Marks (now taken) (askedLabel (now constants) (now asked)) i ⌝ }
     ensures { λ r. ⌜ r ≡ newAt (now (asked .entry)) (now (constants .entry)) known i ⌝ }
 {
     let constant = words::word_at(asked, i);
     if known <= constant {
         return false;
     }
-    let label = words::word_at(constants, constant as usize * 18 + 1);
+    let label = words::word_at(constants, constant as usize * buffer::CONSTANT_WORDS + 1);
     if label == buffer::NONE {
         return false;
     }
@@ -275,7 +280,7 @@ fn mark_asked(
     seen: &mut [bool],
     taken: &mut [bool],
 ) -> bool
-    requires { ⌜ n * 4 ≤ length (now asked) ⌝ ∗ ⌜ Labelled (now constants) known ⌝ ∗ ⌜ Marks (now seen) (wordAt (now asked)) 0 ⌝ ∗ ⌜ Marks (now taken) (askedLabel (now constants) (now asked)) 0 ⌝ }
+    requires { ⌜ n * askedSize ≤ length (now asked) ⌝ ∗ ⌜ Labelled (now constants) known ⌝ ∗ ⌜ Marks (now seen) (wordAt (now asked)) 0 ⌝ ∗ ⌜ Marks (now taken) (askedLabel (now constants) (now asked)) 0 ⌝ }
     ensures { λ r. ⌜ r ≡ all (newAt (now (asked .entry)) (now (constants .entry)) known) n ⌝ ∗ ⌜ (r ≡ true → Marks (now (seen .exit)) (wordAt (now (asked .entry))) n) ⌝ }
 {
     let mut i: usize = 0;
@@ -284,7 +289,7 @@ fn mark_asked(
             return false;
         }
         let constant = words::word_at(asked, i) as usize;
-        let label = words::word_at(constants, constant * 18 + 1) as usize;
+        let label = words::word_at(constants, constant * buffer::CONSTANT_WORDS + 1) as usize;
         seen[constant] = true;
         taken[label] = true;
         i += 1;
@@ -294,13 +299,13 @@ fn mark_asked(
 
 // Whether every constant that has a label is marked.
 fn is_each_marked(constants: &[u8], n: u32, seen: &[bool]) -> bool
-    requires { ⌜ n * 72 ≤ length (now constants) ⌝ ∗ ⌜ n ≤ length (now seen) ⌝ }
+    requires { ⌜ n * constantSize ≤ length (now constants) ⌝ ∗ ⌜ n ≤ length (now seen) ⌝ }
     ensures { λ r. ⌜ r ≡ all (unlabelledOr (now (constants .entry)) (now (seen .entry))) n ⌝ }
 {
     let count = n as usize;
     let mut i: usize = 0;
     while i < count {
-        let label = words::word_at(constants, i * 18 + 1);
+        let label = words::word_at(constants, i * buffer::CONSTANT_WORDS + 1);
         let marked = seen[i];
         if !buffer::either(label == buffer::NONE, marked) {
             return false;
@@ -312,11 +317,11 @@ fn is_each_marked(constants: &[u8], n: u32, seen: &[bool]) -> bool
 
 // Whether the order of asking lists every constant that has a label, and no other, each once and with a label of its own.
 pub fn order_fits(asked: &[u8], n: usize, constants: &[u8], known: u32) -> bool
-    requires { ⌜ n * 4 ≤ length (now asked) ⌝ ∗ ⌜ Labelled (now constants) known ⌝ }
+    requires { ⌜ n * askedSize ≤ length (now asked) ⌝ ∗ ⌜ Labelled (now constants) known ⌝ }
     ensures { λ r. ⌜ r ≡ orderFits (now (asked .entry)) n (now (constants .entry)) known ⌝ }
 {
-    let mut seen = [false; 65536];
-    let mut taken = [false; 65536];
+    let mut seen = [false; buffer::MOST_ENTRIES];
+    let mut taken = [false; buffer::MOST_ENTRIES];
     if !mark_asked(asked, n, constants, known, &mut seen, &mut taken) {
         return false;
     }

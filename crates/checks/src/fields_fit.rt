@@ -4,8 +4,9 @@ ghost use Prim.Native.Nat.{_+_, _-_, _*_, _≤_};
 ghost use lib.ListN.{length};
 ghost use Rattle.words.specs.Words.{wordAt};
 ghost use Rattle.fields.specs.Kinds.{decoded};
-ghost use Rattle.relax.specs.Events.{eventAt};
+ghost use Rattle.relax.specs.Events.{eventAt, eventWords, eventSize, jumpKind};
 ghost use Rattle.buffer.specs.State.{labelTarget};
+ghost use Rattle.buffer.specs.Tables.{labelSize, useSize, refSize, relocWords, relocSize};
 ghost use Rattle.recording.specs.View.{entries};
 ghost use Rattle.recording.specs.Sound.{startAt, endAt};
 ghost use Rattle.fresh.specs.Forms.{isMoving, moves};
@@ -16,19 +17,19 @@ ghost use Rattle.checks.specs.Handed.{useLabel, refLabel, Named, JumpsNa
 use relax::LayoutEvent;
 
 fn is_bound(labels: &[u8], label: u32) -> bool
-    requires { ⌜ label * 4 + 4 ≤ length (now labels) ⌝ }
+    requires { ⌜ label * labelSize + labelSize ≤ length (now labels) ⌝ }
     ensures { λ r. ⌜ r ≡ isBound (now (labels .entry)) label ⌝ }
 {
     words::word_at(labels, label as usize) != buffer::NONE
 }
 
 pub fn uses_bound(uses: &[u8], n: usize, labels: &[u8]) -> bool
-    requires { ⌜ n * 12 ≤ length (now uses) ⌝ ∗ ⌜ Named (useLabel (now uses)) n (now labels) ⌝ }
+    requires { ⌜ n * useSize ≤ length (now uses) ⌝ ∗ ⌜ Named (useLabel (now uses)) n (now labels) ⌝ }
     ensures { λ r. ⌜ r ≡ usesBound (now (uses .entry)) n (now (labels .entry)) ⌝ }
 {
     let mut i: usize = 0;
     while i < n {
-        let label = words::word_at(uses, i * 3 + 1);
+        let label = words::word_at(uses, i * buffer::USE_WORDS + 1);
         if !is_bound(labels, label) {
             return false;
         }
@@ -38,12 +39,12 @@ pub fn uses_bound(uses: &[u8], n: usize, labels: &[u8]) -> bool
 }
 
 pub fn refs_bound(refs: &[u8], n: usize, labels: &[u8]) -> bool
-    requires { ⌜ n * 16 ≤ length (now refs) ⌝ ∗ ⌜ Named (refLabel (now refs)) n (now labels) ⌝ }
+    requires { ⌜ n * refSize ≤ length (now refs) ⌝ ∗ ⌜ Named (refLabel (now refs)) n (now labels) ⌝ }
     ensures { λ r. ⌜ r ≡ refsBound (now (refs .entry)) n (now (labels .entry)) ⌝ }
 {
     let mut i: usize = 0;
     while i < n {
-        let label = words::word_at(refs, i * 4 + 1);
+        let label = words::word_at(refs, i * buffer::REF_WORDS + 1);
         if !is_bound(labels, label) {
             return false;
         }
@@ -52,19 +53,18 @@ pub fn refs_bound(refs: &[u8], n: usize, labels: &[u8]) -> bool
     true
 }
 
-// An event of kind 1 is a jump.
 fn jump_bound(events: &[u8], labels: &[u8], i: usize) -> bool
-    requires { ⌜ i * 20 + 20 ≤ length (now events) ⌝ ∗ ⌜ (wordAt (now events) (i * 5) ≡ 1 → wordAt (now events) (i * 5 + 3) * 4 + 4 ≤ length (now labels)) ⌝ }
+    requires { ⌜ i * eventSize + eventSize ≤ length (now events) ⌝ ∗ ⌜ (wordAt (now events) (i * eventWords) ≡ jumpKind → wordAt (now events) (i * eventWords + 3) * labelSize + labelSize ≤ length (now labels)) ⌝ }
     ensures { λ r. ⌜ r ≡ jumpBound (now (events .entry)) (now (labels .entry)) i ⌝ }
 {
-    if words::word_at(events, i * 5) != 1 {
+    if words::word_at(events, i * relax::EVENT_WORDS) != relax::JUMP {
         return true;
     }
-    is_bound(labels, words::word_at(events, i * 5 + 3))
+    is_bound(labels, words::word_at(events, i * relax::EVENT_WORDS + 3))
 }
 
 pub fn jumps_bound(events: &[u8], n: usize, labels: &[u8]) -> bool
-    requires { ⌜ n * 20 ≤ length (now events) ⌝ ∗ ⌜ JumpsNamed (now events) n (now labels) ⌝ }
+    requires { ⌜ n * eventSize ≤ length (now events) ⌝ ∗ ⌜ JumpsNamed (now events) n (now labels) ⌝ }
     ensures { λ r. ⌜ r ≡ jumpsBound (now (events .entry)) n (now (labels .entry)) ⌝ }
 {
     let mut i: usize = 0;
@@ -79,10 +79,10 @@ pub fn jumps_bound(events: &[u8], n: usize, labels: &[u8]) -> bool
 
 // A target from 2^31 on is a label's.
 fn target_bound(relocs: &[u8], labels: &[u8], i: usize) -> bool
-    requires { ⌜ i * 24 + 24 ≤ length (now relocs) ⌝ ∗ ⌜ (labelTarget ≤ wordAt (now relocs) (i * 6 + 2) → (wordAt (now relocs) (i * 6 + 2) - labelTarget) * 4 + 4 ≤ length (now labels)) ⌝ }
+    requires { ⌜ i * relocSize + relocSize ≤ length (now relocs) ⌝ ∗ ⌜ (labelTarget ≤ wordAt (now relocs) (i * relocWords + 2) → (wordAt (now relocs) (i * relocWords + 2) - labelTarget) * labelSize + labelSize ≤ length (now labels)) ⌝ }
     ensures { λ r. ⌜ r ≡ targetBound (now (relocs .entry)) (now (labels .entry)) i ⌝ }
 {
-    let target = words::word_at(relocs, i * 6 + 2);
+    let target = words::word_at(relocs, i * buffer::RELOC_WORDS + 2);
     if target < buffer::LABEL_TARGET {
         return true;
     }
@@ -90,7 +90,7 @@ fn target_bound(relocs: &[u8], labels: &[u8], i: usize) -> bool
 }
 
 pub fn relocs_bound(relocs: &[u8], n: usize, labels: &[u8]) -> bool
-    requires { ⌜ n * 24 ≤ length (now relocs) ⌝ ∗ ⌜ TargetsNamed (now relocs) n (now labels) ⌝ }
+    requires { ⌜ n * relocSize ≤ length (now relocs) ⌝ ∗ ⌜ TargetsNamed (now relocs) n (now labels) ⌝ }
     ensures { λ r. ⌜ r ≡ relocsBound (now (relocs .entry)) n (now (labels .entry)) ⌝ }
 {
     let mut i: usize = 0;
@@ -114,7 +114,7 @@ fn is_moving(event: LayoutEvent) -> bool
 
 // Whether one of the first `n` events makes finish lay out anew.
 pub fn moves(events: &[u8], n: usize) -> bool
-    requires { ⌜ n * 20 ≤ length (now events) ⌝ }
+    requires { ⌜ n * eventSize ≤ length (now events) ⌝ }
     ensures { λ r. ⌜ r ≡ moves (entries (eventAt (now (events .entry))) n) ⌝ }
 {
     let mut i: usize = 0;
@@ -161,11 +161,11 @@ fn ref_clear(
     len: u32,
     i: usize,
 ) -> bool
-    requires { ⌜ (i * 16 + 16 ≤ length (now refs)) × (n * 20 ≤ length (now events)) × (len ≡ poolStart code (now constants) (now asked) m) ⌝ ∗ ⌜ Ordered (startAt (now events)) (endAt (now events)) n ⌝ ∗ ⌜ Placed (now labels) (now constants) (now asked) code m ⌝ }
+    requires { ⌜ (i * refSize + refSize ≤ length (now refs)) × (n * eventSize ≤ length (now events)) × (len ≡ poolStart code (now constants) (now asked) m) ⌝ ∗ ⌜ Ordered (startAt (now events)) (endAt (now events)) n ⌝ ∗ ⌜ Placed (now labels) (now constants) (now asked) code m ⌝ }
     ensures { λ r. ⌜ r ≡ refClear (now (refs .entry)) (now (events .entry)) n code (now (constants .entry)) (now (asked .entry)) m i ⌝ }
 {
-    let offset = words::word_at(refs, i * 4);
-    let kind = words::word_at(refs, i * 4 + 2);
+    let offset = words::word_at(refs, i * buffer::REF_WORDS);
+    let kind = words::word_at(refs, i * buffer::REF_WORDS + 2);
     let from = offset as u64;
     let to = from + size_of(kind);
     if (len as u64) < to {
@@ -189,7 +189,7 @@ pub fn refs_clear(
     code: u32,
     len: u32,
 ) -> bool
-    requires { ⌜ (count * 16 ≤ length (now refs)) × (n * 20 ≤ length (now events)) × (len ≡ poolStart code (now constants) (now asked) m) ⌝ ∗ ⌜ Ordered (startAt (now events)) (endAt (now events)) n ⌝ ∗ ⌜ Placed (now labels) (now constants) (now asked) code m ⌝ }
+    requires { ⌜ (count * refSize ≤ length (now refs)) × (n * eventSize ≤ length (now events)) × (len ≡ poolStart code (now constants) (now asked) m) ⌝ ∗ ⌜ Ordered (startAt (now events)) (endAt (now events)) n ⌝ ∗ ⌜ Placed (now labels) (now constants) (now asked) code m ⌝ }
     ensures { λ r. ⌜ r ≡ refsClear (now (refs .entry)) count (now (events .entry)) n code (now (constants .entry)) (now (asked .entry)) m ⌝ }
 {
     let mut i: usize = 0;
@@ -204,22 +204,22 @@ pub fn refs_clear(
 
 // 19: the field of use `i` passes the end of the code, of which there are `len` bytes; 20 to 22: it can't reach its label.
 fn why_unreached(uses: &[u8], labels: &[u8], len: u32, i: usize) -> u32
-    requires { ⌜ (i * 12 + 12 ≤ length (now uses)) × (useLabel (now uses) i * 4 + 4 ≤ length (now labels)) ⌝ }
+    requires { ⌜ (i * useSize + useSize ≤ length (now uses)) × (useLabel (now uses) i * labelSize + labelSize ≤ length (now labels)) ⌝ }
     ensures { λ r. ⌜ r ≡ whyUnreached (now (uses .entry)) (now (labels .entry)) len i ⌝ }
 {
-    let offset = words::word_at(uses, i * 3);
-    let label = words::word_at(uses, i * 3 + 1);
-    let kind = words::word_at(uses, i * 3 + 2);
+    let offset = words::word_at(uses, i * buffer::USE_WORDS);
+    let label = words::word_at(uses, i * buffer::USE_WORDS + 1);
+    let kind = words::word_at(uses, i * buffer::USE_WORDS + 2);
     let target = words::word_at(labels, label as usize);
     if (len as u64) < offset as u64 + size_of(kind) {
-        return 19;
+        return refusals::USE_PAST_END;
     }
     reach_of(kind, offset, target)
 }
 
 // The refusal of the first use that has one, or 0.
 pub fn why_uses(uses: &[u8], n: usize, labels: &[u8], len: u32) -> u32
-    requires { ⌜ n * 12 ≤ length (now uses) ⌝ ∗ ⌜ Named (useLabel (now uses)) n (now labels) ⌝ }
+    requires { ⌜ n * useSize ≤ length (now uses) ⌝ ∗ ⌜ Named (useLabel (now uses)) n (now labels) ⌝ }
     ensures { λ r. ⌜ r ≡ whyUses (now (uses .entry)) (now (labels .entry)) len n ⌝ }
 {
     let mut i: usize = 0;

@@ -4,7 +4,9 @@ ghost use mathlib.Core.Bool.{_&&_};
 ghost use Prim.Native.Nat.{_/_};
 ghost use lib.Dec.{leb};
 ghost use Rattle.buffer.specs.Refusals.{standing};
+ghost use Rattle.buffer.specs.Tables.{mostEntries, mostCode, labelSize, useSize, refSize, constantSize, askedSize, relocSize};
 ghost use Rattle.checks.specs.Lent.{recordingOf, countsFit, withinLimits};
+ghost use Rattle.relax.specs.Events.{eventSize};
 use buffer::CodeBuffer;
 
 fn fits(count: u32, room: usize) -> bool
@@ -25,21 +27,24 @@ fn counts_fit(
     asked: usize,
     relocs: usize,
 ) -> bool
-    ensures { λ r. ⌜ r ≡ (leb (b .code) code && (leb (b .labels) (labels / 4) && (leb (b .events) (events / 20) && (leb (b .uses) (uses / 12) && (leb (b .refs) (refs / 16) && (leb (b .constants) (constants / 72) && (leb (b .asked) (asked / 4) && leb (b .relocs) (relocs / 24)))))))) ⌝ }
+    ensures { λ r. ⌜ r ≡ (leb (b .code) code && (leb (b .labels) (labels / labelSize) && (leb (b .events) (events / eventSize) && (leb (b .uses) (uses / useSize) && (leb (b .refs) (refs / refSize) && (leb (b .constants) (constants / constantSize) && (leb (b .asked) (asked / askedSize) && leb (b .relocs) (relocs / relocSize)))))))) ⌝ }
 {
     buffer::both(
         fits(b.code, code),
         buffer::both(
-            fits(b.labels, labels / 4),
+            fits(b.labels, labels / buffer::LABEL_SIZE),
             buffer::both(
-                fits(b.events, events / 20),
+                fits(b.events, events / relax::EVENT_SIZE),
                 buffer::both(
-                    fits(b.uses, uses / 12),
+                    fits(b.uses, uses / buffer::USE_SIZE),
                     buffer::both(
-                        fits(b.refs, refs / 16),
+                        fits(b.refs, refs / buffer::REF_SIZE),
                         buffer::both(
-                            fits(b.constants, constants / 72),
-                            buffer::both(fits(b.asked, asked / 4), fits(b.relocs, relocs / 24)),
+                            fits(b.constants, constants / buffer::CONSTANT_SIZE),
+                            buffer::both(
+                                fits(b.asked, asked / buffer::ASKED_SIZE),
+                                fits(b.relocs, relocs / buffer::RELOC_SIZE),
+                            ),
                         ),
                     ),
                 ),
@@ -61,24 +66,24 @@ fn within_limits(
     segments: usize,
     output: usize,
 ) -> bool
-    ensures { λ r. ⌜ r ≡ (leb code 16777216 && (leb (labels / 4) 65536 && (leb (events / 20) 65536 && (leb (uses / 12) 65536 && (leb (refs / 16) 65536 && (leb (constants / 72) 65536 && (leb (asked / 4) 65536 && (leb (relocs / 24) 65536 && (leb segments 65536 && leb output 16777216))))))))) ⌝ }
+    ensures { λ r. ⌜ r ≡ (leb code mostCode && (leb (labels / labelSize) mostEntries && (leb (events / eventSize) mostEntries && (leb (uses / useSize) mostEntries && (leb (refs / refSize) mostEntries && (leb (constants / constantSize) mostEntries && (leb (asked / askedSize) mostEntries && (leb (relocs / relocSize) mostEntries && (leb segments mostEntries && leb output mostCode))))))))) ⌝ }
 {
     buffer::both(
         code <= buffer::MOST_CODE,
         buffer::both(
-            labels / 4 <= buffer::MOST_ENTRIES,
+            labels / buffer::LABEL_SIZE <= buffer::MOST_ENTRIES,
             buffer::both(
-                events / 20 <= buffer::MOST_ENTRIES,
+                events / relax::EVENT_SIZE <= buffer::MOST_ENTRIES,
                 buffer::both(
-                    uses / 12 <= buffer::MOST_ENTRIES,
+                    uses / buffer::USE_SIZE <= buffer::MOST_ENTRIES,
                     buffer::both(
-                        refs / 16 <= buffer::MOST_ENTRIES,
+                        refs / buffer::REF_SIZE <= buffer::MOST_ENTRIES,
                         buffer::both(
-                            constants / 72 <= buffer::MOST_ENTRIES,
+                            constants / buffer::CONSTANT_SIZE <= buffer::MOST_ENTRIES,
                             buffer::both(
-                                asked / 4 <= buffer::MOST_ENTRIES,
+                                asked / buffer::ASKED_SIZE <= buffer::MOST_ENTRIES,
                                 buffer::both(
-                                    relocs / 24 <= buffer::MOST_ENTRIES,
+                                    relocs / buffer::RELOC_SIZE <= buffer::MOST_ENTRIES,
                                     buffer::both(
                                         segments <= buffer::MOST_ENTRIES,
                                         output <= buffer::MOST_CODE,

@@ -5,28 +5,31 @@ ghost use Prim.Native.Nat.{_+_, _*_, _≤_};
 ghost use lib.ListN.{length};
 ghost use Rattle.recording.specs.Sound.{startAt, endAt};
 ghost use Rattle.words.specs.Words.{wordAt};
+ghost use Rattle.relax.specs.Events.{eventSize};
+ghost use Rattle.buffer.specs.Tables.{labelSize, constantSize, askedSize};
 ghost use Rattle.pool.specs.Pool.{labelAt, poolStart};
 ghost use Rattle.checks.specs.Fields.{clearOfEvents, clearOfPool};
 ghost use Rattle.checks.specs.Search.{Ordered, Before, Placed};
 
 fn start_at(events: &[u8], j: usize) -> u64
-    requires { ⌜ j * 20 + 20 ≤ length (now events) ⌝ }
+    requires { ⌜ j * eventSize + eventSize ≤ length (now events) ⌝ }
     ensures { λ r. ⌜ r ≡ startAt (now (events .entry)) j ⌝ }
 {
-    words::word_at(events, j * 5 + 1) as u64
+    words::word_at(events, j * relax::EVENT_WORDS + 1) as u64
 }
 
 // Entries made by hand may pass 32 bits.
 pub fn end_at(events: &[u8], j: usize) -> u64
-    requires { ⌜ j * 20 + 20 ≤ length (now events) ⌝ }
+    requires { ⌜ j * eventSize + eventSize ≤ length (now events) ⌝ }
     ensures { λ r. ⌜ r ≡ endAt (now (events .entry)) j ⌝ }
 {
-    words::word_at(events, j * 5 + 1) as u64 + words::word_at(events, j * 5 + 2) as u64
+    words::word_at(events, j * relax::EVENT_WORDS + 1) as u64
+        + words::word_at(events, j * relax::EVENT_WORDS + 2) as u64
 }
 
 // How many of the first `n` events start before `to`.
 fn events_before(events: &[u8], n: usize, to: u64) -> usize
-    requires { ⌜ n * 20 ≤ length (now events) ⌝ ∗ ⌜ Ordered (startAt (now events)) (endAt (now events)) n ⌝ }
+    requires { ⌜ n * eventSize ≤ length (now events) ⌝ ∗ ⌜ Ordered (startAt (now events)) (endAt (now events)) n ⌝ }
     ensures { λ r. ⌜ Before (startAt (now (events .entry))) n to r ⌝ }
 {
     let mut low: usize = 0;
@@ -45,7 +48,7 @@ fn events_before(events: &[u8], n: usize, to: u64) -> usize
 
 // Whether none of the first `n` events overlaps what lies between two offsets.
 pub fn clear_of_events(events: &[u8], n: usize, from: u64, to: u64) -> bool
-    requires { ⌜ n * 20 ≤ length (now events) ⌝ ∗ ⌜ Ordered (startAt (now events)) (endAt (now events)) n ⌝ }
+    requires { ⌜ n * eventSize ≤ length (now events) ⌝ ∗ ⌜ Ordered (startAt (now events)) (endAt (now events)) n ⌝ }
     ensures { λ r. ⌜ r ≡ clearOfEvents (now (events .entry)) n from to ⌝ }
 {
     let k = events_before(events, n, to);
@@ -57,7 +60,7 @@ pub fn clear_of_events(events: &[u8], n: usize, from: u64, to: u64) -> bool
 
 // Where constant `j` of the pool stands, as its label says.
 fn offset_at(labels: &[u8], constants: &[u8], asked: &[u8], j: usize) -> u32
-    requires { ⌜ (j * 4 + 4 ≤ length (now asked)) × (wordAt (now asked) j * 72 + 72 ≤ length (now constants)) × (labelAt (now constants) (now asked) j * 4 + 4 ≤ length (now labels)) ⌝ }
+    requires { ⌜ (j * askedSize + askedSize ≤ length (now asked)) × (wordAt (now asked) j * constantSize + constantSize ≤ length (now constants)) × (labelAt (now constants) (now asked) j * labelSize + labelSize ≤ length (now labels)) ⌝ }
     ensures { λ r. ⌜ r ≡ wordAt (now (labels .entry)) (labelAt (now (constants .entry)) (now (asked .entry)) j) ⌝ }
 {
     let label = pool::label_at(constants, asked, j) as usize;

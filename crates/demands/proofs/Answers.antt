@@ -15,8 +15,8 @@ use Rattle.seqs.proofs.Picking.{pick-yes, pick-no, passed, neither, zero-passed
 use Rattle.seqs.proofs.Overwrites.{take-over-end}
 use Rattle.relax.specs.declared.Segment.{Segment}
 use Rattle.buffer.specs.declared.CodeBuffer.{CodeBuffer}
-use Rattle.buffer.specs.State.{mostCode, mostEntries}
 use Rattle.buffer.specs.Refusals.{archOccurs, refusalOccurs, standing}
+use Rattle.buffer.specs.Tables.{mostEntries, mostCode}
 use Rattle.recording.specs.Calls.{Recording}
 use Rattle.recording.specs.Sound.{Sound}
 use Rattle.recording.specs.View.{view}

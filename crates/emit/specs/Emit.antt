@@ -17,8 +17,9 @@ use Rattle.relax.specs.declared.Condition.the-variants.{Always, On}
 use Rattle.relax.specs.declared.LayoutEvent.{LayoutEvent}
 use Rattle.relax.specs.declared.LayoutEvent.the-variants.{Jump, Align}
 use Rattle.relax.specs.declared.Segment.{Segment}
-use Rattle.relax.specs.Events.{eventAt}
+use Rattle.relax.specs.Events.{eventAt, eventSize}
 use Rattle.buffer.specs.State.{none}
+use Rattle.buffer.specs.Tables.{labelSize, useWords, useSize, refWords, refSize}
 use Rattle.recording.specs.View.{entries}
 use Rattle.fresh.specs.Forms.{shortForm, longForm, Branch, fieldOf, branches, roleOf}
 use Rattle.fresh.specs.Segments.{segments, mapOffset}
@@ -54,7 +55,7 @@ Recorded offset = offset ≢ none → offset ≤ offsetBound
 
 -- the events and the runs between them are written: the table of segments is the layout of a choice of long jumps
 pub record Emits (output code events : List ℕ) (long : List Bool) (ss : List Segment) (n len arch : ℕ) : Type 0 where
-  pub recorded : n * 20 ≤ length events
+  pub recorded : n * eventSize ≤ length events
   pub chosen : n ≤ length long
   pub laid : take n ss ≡ segments 0 0 (entries (eventAt events) n) long
   pub ordered : Ordered 0 len (entries (eventAt events) n)
@@ -64,7 +65,7 @@ pub record Emits (output code events : List ℕ) (long : List Bool) (ss : List S
 
 -- The uses. An entry is offset, label and code.
 abbrev pub useFilled : List ℕ → List ℕ → ℕ → List ℕ → List ℕ
-useFilled uses labels i l = fillUse (decoded (wordAt uses (i * 3 + 2))) (wordAt uses (i * 3)) (wordAt labels (wordAt uses (i * 3 + 1))) l
+useFilled uses labels i l = fillUse (decoded (wordAt uses (i * useWords + 2))) (wordAt uses (i * useWords)) (wordAt labels (wordAt uses (i * useWords + 1))) l
 
 -- the output with the first n uses patched
 unfoldable pub usesFilled : List ℕ → List ℕ → List ℕ → ℕ → List ℕ
@@ -72,20 +73,20 @@ usesFilled output uses labels zero = output
 usesFilled output uses labels (suc i) = useFilled uses labels i (usesFilled output uses labels i)
 
 pub record UseFits (room : ℕ) (uses labels : List ℕ) (i : ℕ) : Type 0 where
-  pub entry : i * 12 + 12 ≤ length uses
-  pub known : wordAt uses (i * 3 + 1) * 4 + 4 ≤ length labels
-  pub within : Within (decoded (wordAt uses (i * 3 + 2))) (wordAt uses (i * 3)) room
+  pub entry : i * useSize + useSize ≤ length uses
+  pub known : wordAt uses (i * useWords + 1) * labelSize + labelSize ≤ length labels
+  pub within : Within (decoded (wordAt uses (i * useWords + 2))) (wordAt uses (i * useWords)) room
 
 pub record UsesFit (room : ℕ) (uses labels : List ℕ) (count : ℕ) : Type 0 where
   pub each : (i : ℕ) → i < count → UseFits room uses labels i
 
 -- The refs. An entry is offset, label, code and addend; a ref's field stands where the segments take its offset.
 abbrev pub refAt : List ℕ → List Segment → ℕ → ℕ → ℕ
-refAt refs ss n i = mapOffset (take n ss) (wordAt refs (i * 4))
+refAt refs ss n i = mapOffset (take n ss) (wordAt refs (i * refWords))
 
 abbrev pub refFilled : List ℕ → List ℕ → ℕ → ℕ → List ℕ → List ℕ
 refFilled refs labels at i l =
-    fillField (decoded (wordAt refs (i * 4 + 2))) at (wordAt labels (wordAt refs (i * 4 + 1))) (wordAt refs (i * 4 + 3)) l
+    fillField (decoded (wordAt refs (i * refWords + 2))) at (wordAt labels (wordAt refs (i * refWords + 1))) (wordAt refs (i * refWords + 3)) l
 
 -- the output with the first refs filled, where the labels have their new offsets
 unfoldable pub refsFilled : List ℕ → List ℕ → List ℕ → List Segment → ℕ → ℕ → List ℕ
@@ -93,12 +94,12 @@ refsFilled output refs labels ss n zero = output
 refsFilled output refs labels ss n (suc i) = refFilled refs labels (refAt refs ss n i) i (refsFilled output refs labels ss n i)
 
 pub record RefFits (room : ℕ) (refs labels : List ℕ) (at i : ℕ) : Type 0 where
-  pub entry : i * 16 + 16 ≤ length refs
-  pub known : wordAt refs (i * 4 + 1) * 4 + 4 ≤ length labels
-  pub within : Within (decoded (wordAt refs (i * 4 + 2))) at room
+  pub entry : i * refSize + refSize ≤ length refs
+  pub known : wordAt refs (i * refWords + 1) * labelSize + labelSize ≤ length labels
+  pub within : Within (decoded (wordAt refs (i * refWords + 2))) at room
 
 pub record RefsFit (room : ℕ) (refs labels : List ℕ) (ss : List Segment) (n count : ℕ) : Type 0 where
-  pub recorded : (i : ℕ) → i < count → Recorded (wordAt refs (i * 4))
+  pub recorded : (i : ℕ) → i < count → Recorded (wordAt refs (i * refWords))
   pub each : (i : ℕ) → i < count → RefFits room refs labels (refAt refs ss n i) i
 
 -- whether a field of a kind reaches a label with an addend
@@ -110,8 +111,8 @@ fieldReaches Unknown offset label addend = true
 -- whether ref i does, where the labels have their recorded offsets
 abbrev pub refReaches : List ℕ → List ℕ → List Segment → ℕ → ℕ → Bool
 refReaches refs labels ss n i =
-    fieldReaches (decoded (wordAt refs (i * 4 + 2))) (refAt refs ss n i)
-    (mapOffset (take n ss) (wordAt labels (wordAt refs (i * 4 + 1)))) (wordAt refs (i * 4 + 3))
+    fieldReaches (decoded (wordAt refs (i * refWords + 2))) (refAt refs ss n i)
+    (mapOffset (take n ss) (wordAt labels (wordAt refs (i * refWords + 1)))) (wordAt refs (i * refWords + 3))
 
 -- the first refs all do
 unfoldable pub refsReach : List ℕ → List ℕ → List Segment → ℕ → ℕ → Bool
@@ -119,10 +120,10 @@ refsReach refs labels ss n zero = true
 refsReach refs labels ss n (suc i) = refsReach refs labels ss n i && refReaches refs labels ss n i
 
 pub record RefKnown (refs labels : List ℕ) (i : ℕ) : Type 0 where
-  pub entry : i * 16 + 16 ≤ length refs
-  pub known : wordAt refs (i * 4 + 1) * 4 + 4 ≤ length labels
-  pub recorded : Recorded (wordAt refs (i * 4))
-  pub bound : Recorded (wordAt labels (wordAt refs (i * 4 + 1)))
+  pub entry : i * refSize + refSize ≤ length refs
+  pub known : wordAt refs (i * refWords + 1) * labelSize + labelSize ≤ length labels
+  pub recorded : Recorded (wordAt refs (i * refWords))
+  pub bound : Recorded (wordAt labels (wordAt refs (i * refWords + 1)))
 
 pub record RefsKnown (refs labels : List ℕ) (count : ℕ) : Type 0 where
   pub each : (i : ℕ) → i < count → RefKnown refs labels i
@@ -139,8 +140,8 @@ jumpsFilled output events labels long ss (suc i) =
 
 -- a jump, long or not, that starts at `start`: its label is in the table, and its field in the output
 pub record JumpFits (room : ℕ) (events labels : List ℕ) (long : Bool) (start i : ℕ) : Type 0 where
-  pub entry : i * 20 + 20 ≤ length events
-  pub known : (b : Branch) → roleOf (eventAt events i) ≡ branches b → b .label * 4 + 4 ≤ length labels
+  pub entry : i * eventSize + eventSize ≤ length events
+  pub known : (b : Branch) → roleOf (eventAt events i) ≡ branches b → b .label * labelSize + labelSize ≤ length labels
   pub within : (b : Branch) → roleOf (eventAt events i) ≡ branches b → start + fieldOf b long .place + patchSize (fieldOf b long .kind) ≤ room
   pub small : start ≤ offsetBound
 

@@ -10,7 +10,8 @@ ghost use Rattle.fields.specs.declared.Decoded.the-variants.{Use};
 ghost use Rattle.fields.specs.Kinds.{decoded, patchSize};
 ghost use Rattle.fields.specs.Words64.{plus, minus, signExtend};
 ghost use Rattle.fields.specs.Patch.{patched, patchedUse};
-ghost use Rattle.relax.specs.Events.{eventAt};
+ghost use Rattle.relax.specs.Events.{eventAt, eventSize};
+ghost use Rattle.buffer.specs.Tables.{labelSize, refWords, refSize};
 ghost use Rattle.recording.specs.View.{entries};
 ghost use Rattle.fresh.specs.Forms.{shortForm, longForm, form, width, fieldOf, branchOf};
 ghost use Rattle.fresh.specs.Fill.{part, fillField, fillJump};
@@ -146,7 +147,7 @@ fn emit_segment(
     new: usize,
     arch: u32,
 )
-    requires { ⌜ (i * 20 + 20 ≤ length (now events)) × Writes (eventAt (now events) i) ⌝ ∗ ⌜ (old ≤ segment .«old_start») × (segment .«old_start» ≤ length (now code)) × (new + (segment .«old_start» - old) ≤ length (now output)) ⌝ ∗ ⌜ (segment .«new_end» ≡ segment .«new_start» + width (eventAt (now events) i) long (segment .«new_start»)) × (segment .«new_end» ≤ length (now output)) ⌝ }
+    requires { ⌜ (i * eventSize + eventSize ≤ length (now events)) × Writes (eventAt (now events) i) ⌝ ∗ ⌜ (old ≤ segment .«old_start») × (segment .«old_start» ≤ length (now code)) × (new + (segment .«old_start» - old) ≤ length (now output)) ⌝ ∗ ⌜ (segment .«new_end» ≡ segment .«new_start» + width (eventAt (now events) i) long (segment .«new_start»)) × (segment .«new_end» ≤ length (now output)) ⌝ }
     ensures { λ _. ⌜ now (output .exit) ≡ over (over (now (output .entry)) new (take (segment .«old_start» - old) (drop old (now (code .entry))))) (segment .«new_start») (formAt arch (now (code .entry)) (eventAt (now (events .entry)) i) long (segment .«new_start»)) ⌝ }
 {
     let event = relax::event_at(events, i);
@@ -204,10 +205,10 @@ fn patch_use(output: &mut [u8], uses: &[u8], labels: &[u8], i: usize)
     requires { ⌜ UseFits (length (now output)) (now uses) (now labels) i ⌝ }
     ensures { λ _. ⌜ now (output .exit) ≡ useFilled (now (uses .entry)) (now (labels .entry)) i (now (output .entry)) ⌝ }
 {
-    let at = words::word_at(uses, i * 3);
-    let number = words::word_at(uses, i * 3 + 1) as usize;
+    let at = words::word_at(uses, i * buffer::USE_WORDS);
+    let number = words::word_at(uses, i * buffer::USE_WORDS + 1) as usize;
     let label = words::word_at(labels, number);
-    let kind = LabelUse::from_code(words::word_at(uses, i * 3 + 2));
+    let kind = LabelUse::from_code(words::word_at(uses, i * buffer::USE_WORDS + 2));
     match kind {
         Decoded::Use(kind) => patch_held(output, kind, at, label),
         Decoded::Unsupported => {}
@@ -229,10 +230,10 @@ pub fn patch_uses(output: &mut [u8], uses: &[u8], labels: &[u8], count: usize)
 
 // The offset of the label that ref `i` names.
 fn ref_label(refs: &[u8], labels: &[u8], i: usize) -> u32
-    requires { ⌜ (i * 16 + 16 ≤ length (now refs)) × (wordAt (now refs) (i * 4 + 1) * 4 + 4 ≤ length (now labels)) ⌝ }
-    ensures { λ r. ⌜ r ≡ wordAt (now (labels .entry)) (wordAt (now (refs .entry)) (i * 4 + 1)) ⌝ }
+    requires { ⌜ (i * refSize + refSize ≤ length (now refs)) × (wordAt (now refs) (i * refWords + 1) * labelSize + labelSize ≤ length (now labels)) ⌝ }
+    ensures { λ r. ⌜ r ≡ wordAt (now (labels .entry)) (wordAt (now (refs .entry)) (i * refWords + 1)) ⌝ }
 {
-    let number = words::word_at(refs, i * 4 + 1) as usize;
+    let number = words::word_at(refs, i * buffer::REF_WORDS + 1) as usize;
     words::word_at(labels, number)
 }
 
@@ -242,8 +243,8 @@ fn patch_ref(output: &mut [u8], refs: &[u8], labels: &[u8], at: u32, i: usize)
     ensures { λ _. ⌜ now (output .exit) ≡ refFilled (now (refs .entry)) (now (labels .entry)) at i (now (output .entry)) ⌝ }
 {
     let label = ref_label(refs, labels, i);
-    let kind = LabelUse::from_code(words::word_at(refs, i * 4 + 2));
-    let addend = words::word_at(refs, i * 4 + 3);
+    let kind = LabelUse::from_code(words::word_at(refs, i * buffer::REF_WORDS + 2));
+    let addend = words::word_at(refs, i * buffer::REF_WORDS + 3);
     match kind {
         Decoded::Use(kind) => patch_field(output, kind, at, label, addend),
         Decoded::Unsupported => {}
@@ -265,7 +266,7 @@ pub fn patch_refs(
 {
     let mut i: usize = 0;
     while i < count {
-        let at = layout::map(segments, n, words::word_at(refs, i * 4));
+        let at = layout::map(segments, n, words::word_at(refs, i * buffer::REF_WORDS));
         patch_ref(output, refs, labels, at, i);
         i += 1;
     }
@@ -281,11 +282,11 @@ fn distance(at: u32, label: u32, addend: u32) -> u64
 
 // Whether ref `i` does, its field at `at` and its label at `label`.
 fn ref_reaches(refs: &[u8], at: u32, label: u32, i: usize) -> bool
-    requires { ⌜ i * 16 + 16 ≤ length (now refs) ⌝ }
-    ensures { λ r. ⌜ r ≡ fieldReaches (decoded (wordAt (now (refs .entry)) (i * 4 + 2))) at label (wordAt (now (refs .entry)) (i * 4 + 3)) ⌝ }
+    requires { ⌜ i * refSize + refSize ≤ length (now refs) ⌝ }
+    ensures { λ r. ⌜ r ≡ fieldReaches (decoded (wordAt (now (refs .entry)) (i * refWords + 2))) at label (wordAt (now (refs .entry)) (i * refWords + 3)) ⌝ }
 {
-    let kind = LabelUse::from_code(words::word_at(refs, i * 4 + 2));
-    let far = distance(at, label, words::word_at(refs, i * 4 + 3));
+    let kind = LabelUse::from_code(words::word_at(refs, i * buffer::REF_WORDS + 2));
+    let far = distance(at, label, words::word_at(refs, i * buffer::REF_WORDS + 3));
     match kind {
         Decoded::Use(kind) => kind.can_reach_delta(far),
         Decoded::Unsupported => true,
@@ -300,7 +301,7 @@ pub fn refs_reach(refs: &[u8], labels: &[u8], segments: &[Segment], count: usize
 {
     let mut i: usize = 0;
     while i < count {
-        let at = layout::map(segments, n, words::word_at(refs, i * 4));
+        let at = layout::map(segments, n, words::word_at(refs, i * buffer::REF_WORDS));
         let label = layout::map(segments, n, ref_label(refs, labels, i));
         if !ref_reaches(refs, at, label, i) {
             return false;

@@ -82,5 +82,12 @@ codes =
     ∷ Use A64AddAbsLo12
     ∷ []
 
+-- the code of a use that is not supported, and the last code
+abbrev pub unsupportedCode : ℕ
+unsupportedCode = 15
+
+abbrev pub lastCode : ℕ
+lastCode = 16
+
 unfoldable pub decoded : ℕ → Decoded
 decoded code = getD codes code Unknown

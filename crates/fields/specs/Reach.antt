@@ -2,6 +2,7 @@
 use mathlib.Core.Bool.{Bool, true, false, _&&_, cond}
 use Prim.Native.Nat.{ℕ, _*_, _/_, _%_}
 use lib.Dec.{eqb, ltb}
+use Rattle.refusals.specs.Numbers as refusals
 use Rattle.fields.specs.Words64.{minus, range}
 use Rattle.fields.specs.Kinds.{info}
 use Rattle.fields.specs.declared.LabelUse.{LabelUse}
@@ -32,5 +33,5 @@ canReach k offset label = cond (info k .paged) (pagesReach offset label) (canRea
 unfoldable pub reachRefusal : LabelUse → ℕ → ℕ → ℕ
 reachRefusal k offset label =
     cond (canReach k offset label) 0
-    (cond (info k .branch) 20
-    (cond (ltb label offset) 22 21))
+    (cond (info k .branch) refusals.branchOutOfReach
+    (cond (ltb label offset) refusals.labelTooFarBack refusals.labelTooFarAhead))

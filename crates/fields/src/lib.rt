@@ -158,6 +158,11 @@ fn insert_adr(word: u32, value: u64) -> u32
     insert_bits(insert_bits(word, 29, 2, value), 5, 19, value / 4)
 }
 
+// The code of a use that is not supported, A64Ldr12, and the last code.
+pub const UNSUPPORTED_CODE: u32 = 15;
+
+pub const LAST_CODE: u32 = 16;
+
 // asmkit's codes, in the order of its enum.
 const CODES: [Decoded; 17] = [
     Decoded::Use(LabelUse::X86JmpRel32),
@@ -348,12 +353,12 @@ impl LabelUse {
         }
         let info = self.info();
         if info.branch {
-            return 20;
+            return refusals::BRANCH_OUT_OF_REACH;
         }
         if label < offset {
-            return 22;
+            return refusals::LABEL_TOO_FAR_BACK;
         }
-        21
+        refusals::LABEL_TOO_FAR_AHEAD
     }
 
     // The number of a field at `offset` that holds `word` and is to name `target`.

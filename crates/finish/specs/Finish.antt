@@ -3,11 +3,13 @@ use mathlib.Core.List.{List, [], _∷_, _++_, map}
 use Prim.Native.Nat.{ℕ, zero, suc, _*_}
 use lib.Dec.{eqb}
 use lib.ListN.{length}
+use Rattle.refusals.specs.Numbers as refusals
 use Rattle.seqs.specs.Over.{over}
 use Rattle.seqs.specs.Pick.{pick}
 use Rattle.words.specs.Words.{bytesOf, wordAt, setWord}
 use Rattle.relax.specs.declared.Segment.{Segment}
 use Rattle.buffer.specs.declared.CodeBuffer.{CodeBuffer}
+use Rattle.buffer.specs.Tables.{relocWords}
 use Rattle.recording.specs.Calls.{Recording}
 use Rattle.recording.specs.View.{view}
 use Rattle.fresh.specs.Pooled.{Pooled, pooled}
@@ -31,7 +33,7 @@ overWords table ws = over table 0 (bytesOfAll ws)
 -- the table of relocations, whose entries are six words, with each of the first n offsets mapped
 unfoldable pub relocated : (ℕ → ℕ) → List ℕ → ℕ → List ℕ
 relocated at relocs zero = relocs
-relocated at relocs (suc i) = setWord (relocated at relocs i) (i * 6) (at (wordAt relocs (i * 6)))
+relocated at relocs (suc i) = setWord (relocated at relocs i) (i * relocWords) (at (wordAt relocs (i * relocWords)))
 
 -- the table of segments with the settled ones
 abbrev pub settledSegments : Pooled → List Segment → List Segment
@@ -104,7 +106,7 @@ placedBy p r ss output =
     let labels = overWords (r .labels) (p .labels) in
     pick (allBound p (view r .relocs))
     (pick (moves (p .events)) (relaxed p (r .buffer .relocs) labels (r .relocs) ss output) (unrelaxed p labels (r .relocs) ss output))
-    (refusedWith 15, (labels, (r .relocs, (ss, output))))
+    (refusedWith refusals.unboundLabel, (labels, (r .relocs, (ss, output))))
 
 -- The answer, and the labels, relocations, segments and output at the end: "On success the recording's labels and relocations hold their final offsets, the
 -- rest of it stays, and output past the finished length is untouched." A refused finish leaves recording and output unchanged.

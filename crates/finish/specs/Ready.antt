@@ -6,15 +6,16 @@ use mathlib.Core.List.{List, [], _∷_}
 use Prim.Native.Nat.{ℕ, _+_, _*_, _≤_, _<_}
 use lib.Dec.{eqb, ltb}
 use lib.ListN.{length, take}
+use Rattle.refusals.specs.Numbers as refusals
 use Rattle.seqs.specs.Pick.{pick, first}
 use Rattle.seqs.specs.Over.{over}
 use Rattle.words.specs.Words.{wordAt}
 use Rattle.fields.specs.Kinds.{archX64}
-use Rattle.buffer.specs.State.{mostEntries, mostCode}
 use Rattle.recording.specs.Sound.{startAt, endAt, CodeSound, LabelSound, EventsSound, UsesSound, RefsSound, RelocsSound}
 use Rattle.relax.specs.declared.Segment.{Segment}
-use Rattle.relax.specs.Events.{eventAt}
+use Rattle.relax.specs.Events.{eventAt, eventSize}
 use Rattle.buffer.specs.declared.CodeBuffer.{CodeBuffer}
+use Rattle.buffer.specs.Tables.{mostEntries, mostCode, labelSize, useWords, useSize, refSize}
 use Rattle.recording.specs.Calls.{Recording}
 use Rattle.recording.specs.View.{Use, entries, useAt, refAt, relocAt}
 use Rattle.fresh.specs.Pooled.{Pooled}
@@ -44,13 +45,13 @@ pub record Ready (code labels events constants asked : List ℕ) (arch len count
   pub named : PoolLabels labels constants asked m
   pub owned : (j : ℕ) → j < m → labelAt constants asked j < count
   pub stands : (j : ℕ) → j < m → wordAt labels (labelAt constants asked j) ≡ poolOffset len constants asked j
-  pub room : count * 4 ≤ length labels
+  pub room : count * labelSize ≤ length labels
   pub limit : count ≤ mostEntries
   pub landed : (l : ℕ) → l < count → Landed events n len constants asked m (wordAt labels l)
 
 -- the tables that name labels, with their entries checked
 pub record Entered (labels events uses refs relocs : List ℕ) (arch symbols len count n u f l : ℕ) : Type 0 where
-  pub room : count * 4 ≤ length labels
+  pub room : count * labelSize ≤ length labels
   pub recorded : EventsSound events n count len arch
   pub used : UsesSound uses u arch count
   pub referred : RefsSound refs f arch count
@@ -58,8 +59,8 @@ pub record Entered (labels events uses refs relocs : List ℕ) (arch symbols len
 
 -- refs, events in order, and the pool's labels bound: what 17 is judged by
 pub record Clearing (refs events labels constants asked : List ℕ) (f n m code end : ℕ) : Type 0 where
-  pub refs-room : f * 16 ≤ length refs
-  pub events-room : n * 20 ≤ length events
+  pub refs-room : f * refSize ≤ length refs
+  pub events-room : n * eventSize ≤ length events
   pub few : n ≤ mostEntries
   pub pool-few : m ≤ mostEntries
   pub ends : end ≡ poolStart code constants asked m
@@ -123,7 +124,7 @@ pub record Relaxable (code labels events refs constants asked relocs output : Li
 -- what a layout is handed: nothing refused it
 pub record Layable (code labels events refs constants asked relocs output : List ℕ) (segments len count n m f l : ℕ) : Type 0 where
   pub relaxable : Relaxable code labels events refs constants asked relocs output segments len count n m f l
-  pub unrefused : 0 ≡ first ((ltb segments (n + m), 16) ∷ (not (refsClear refs f events n len constants asked m), 17) ∷ [])
+  pub unrefused : 0 ≡ first ((ltb segments (n + m), refusals.tooFewSegments) ∷ (not (refsClear refs f events n len constants asked m), refusals.refOverlaps) ∷ [])
 
 -- what one without a jump is handed
 pub record Keepable (code labels uses constants asked : List ℕ) (len count u m : ℕ) : Type 0 where
@@ -131,9 +132,9 @@ pub record Keepable (code labels uses constants asked : List ℕ) (len count u m
   pub pool : PoolFits constants asked m
   pub named : PoolLabels labels constants asked m
   pub stands : (j : ℕ) → j < m → wordAt labels (labelAt constants asked j) ≡ poolOffset len constants asked j
-  pub room : count * 4 ≤ length labels
-  pub used-room : u * 12 ≤ length uses
-  pub known : (i : ℕ) → i < u → wordAt uses (i * 3 + 1) < count
+  pub room : count * labelSize ≤ length labels
+  pub used-room : u * useSize ≤ length uses
+  pub known : (i : ℕ) → i < u → wordAt uses (i * useWords + 1) < count
 
 -- what it answers, and leaves of the output
 unfoldable pub kept : Pooled → List ℕ → Outcome × List ℕ
@@ -160,13 +161,13 @@ unfoldable pub placedAs : Pooled → CodeBuffer → List ℕ → List ℕ → Li
 placedAs p b labels relocs ss output =
     pick (allBound p (entries (relocAt relocs) (b .relocs)))
     (pick (moves (p .events)) (relaxed p (b .relocs) labels relocs ss output) (unrelaxed p labels relocs ss output))
-    (refusedWith 15, (labels, (relocs, (ss, output))))
+    (refusedWith refusals.unboundLabel, (labels, (relocs, (ss, output))))
 
 -- what is left before a layout that is to be made: the output is as it was, and what is then relaxed is what is placed
 pub record Starts (b : CodeBuffer) (code labels events uses refs constants asked relocs output left : List ℕ) (segments : ℕ) : Type 0 where
   pub kept : left ≡ output
   pub relaxable : Relaxable code labels events refs constants asked relocs output segments (b .code) (b .labels) (b .events) (b .asked) (b .refs) (b .relocs)
-  pub laid : 0 ≡ first ((ltb segments (b .events + b .asked), 16) ∷ (not (refsClear refs (b .refs) events (b .events) (b .code) constants asked (b .asked)), 17) ∷ [])
+  pub laid : 0 ≡ first ((ltb segments (b .events + b .asked), refusals.tooFewSegments) ∷ (not (refsClear refs (b .refs) events (b .events) (b .code) constants asked (b .asked)), refusals.refOverlaps) ∷ [])
   pub placed : (ss : List Segment) (x : Outcome × Left)
       → ((us : List Use) → x ≡ relaxed (tablesPooled archX64 (b .code) (take (b .code) code) (entries (wordAt labels) (b .labels)) (entries (eventAt events) (b .events)) us (entries (refAt refs) (b .refs)) constants asked (b .asked)) (b .relocs) labels relocs ss output)
       → x ≡ placedAs (pooledOf b code labels events uses refs constants asked) b labels relocs ss output
@@ -180,7 +181,7 @@ concluded b constants asked placed labels =
 pub record Begins (r : Recording) (labels output left : List ℕ) (segments : ℕ) : Type 0 where
   pub kept : left ≡ output
   pub relaxable : Relaxable (r .code) labels (r .events) (r .refs) (r .constants) (r .asked) (r .relocs) output segments (r .buffer .code) (r .buffer .labels) (r .buffer .events) (r .buffer .asked) (r .buffer .refs) (r .buffer .relocs)
-  pub laid : 0 ≡ first ((ltb segments (r .buffer .events + r .buffer .asked), 16) ∷ (not (refsClear (r .refs) (r .buffer .refs) (r .events) (r .buffer .events) (r .buffer .code) (r .constants) (r .asked) (r .buffer .asked)), 17) ∷ [])
+  pub laid : 0 ≡ first ((ltb segments (r .buffer .events + r .buffer .asked), refusals.tooFewSegments) ∷ (not (refsClear (r .refs) (r .buffer .refs) (r .events) (r .buffer .events) (r .buffer .code) (r .constants) (r .asked) (r .buffer .asked)), refusals.refOverlaps) ∷ [])
   pub concludes : (ss : List Segment) → length ss ≡ segments → (placed : Outcome) (x : Left)
       → ((us : List Use) → (placed, x) ≡ relaxed (tablesPooled archX64 (r .buffer .code) (take (r .buffer .code) (r .code)) (entries (wordAt labels) (r .buffer .labels)) (entries (eventAt (r .events)) (r .buffer .events)) us (entries (refAt (r .refs)) (r .buffer .refs)) (r .constants) (r .asked) (r .buffer .asked)) (r .buffer .relocs) labels (r .relocs) ss output)
       → (f : Finished) (back : List ℕ) → (f, back) ≡ concluded (r .buffer) (r .constants) (r .asked) placed (x .0) → (f, (back, x .1)) ≡ finish r ss output

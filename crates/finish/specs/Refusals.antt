@@ -5,6 +5,7 @@ use mathlib.Core.List.{List, [], _∷_}
 use Prim.Native.Nat.{ℕ, _+_, _-_}
 use lib.Dec.{eqb, leb, ltb}
 use lib.ListN.{length, getD}
+use Rattle.refusals.specs.Numbers as refusals
 use Rattle.seqs.specs.Pick.{pick, first, orElse}
 use Rattle.fields.specs.declared.Decoded.{Decoded}
 use Rattle.fields.specs.declared.Decoded.the-variants.{Use, Unsupported, Unknown}
@@ -13,8 +14,9 @@ use Rattle.fields.specs.Kinds.{decoded}
 use Rattle.fields.specs.Reach.{canReachDelta}
 use Rattle.relax.specs.declared.LayoutEvent.{LayoutEvent}
 use Rattle.relax.specs.Events.{endOf, startOf}
-use Rattle.buffer.specs.State.{none, mostCode, labelTarget}
+use Rattle.buffer.specs.State.{none, labelTarget}
 use Rattle.buffer.specs.Refusals.{standing}
+use Rattle.buffer.specs.Tables.{mostCode}
 use Rattle.recording.specs.Calls.{Recording}
 use Rattle.recording.specs.View as tables
 use Rattle.fresh.specs.Pooled.{Pooled, pooled}
@@ -73,18 +75,18 @@ refReaches p c f = reachesBy (decoded (f .code)) (minus (plus (target p c (f .la
 
 -- with a jump, on a table of `segments` entries and an output of `output` bytes; 23: "the finished code exceeds the lent output"
 unfoldable pub whyNotLaid : Pooled → ℕ → ℕ
-whyNotLaid p segments = first ((ltb segments (length (p .events)), 16) ∷ (not (every (refClear p) (p .refs)), 17) ∷ [])
+whyNotLaid p segments = first ((ltb segments (length (p .events)), refusals.tooFewSegments) ∷ (not (every (refClear p) (p .refs)), refusals.refOverlaps) ∷ [])
 
 unfoldable pub whyNotWritten : Pooled → ℕ → ℕ
 whyNotWritten p output =
     let c = settled p .choice in
-    first ((not (every (refReaches p c) (p .refs)), 18) ∷ (ltb output (length (assembled p c)), 23) ∷ [])
+    first ((not (every (refReaches p c) (p .refs)), refusals.refOutOfReach) ∷ (ltb output (length (assembled p c)), refusals.outputTooSmall) ∷ [])
 
 -- 19 to 22, "tried together for each use in order"
 unfoldable pub useRefusal : Pooled → tables.Use → ℕ
 useRefusal p u =
     let kind = decoded (u .code) in
-    pick (ltb (length (p .code)) (u .offset + sizeOf kind)) 19 (reachOf kind (u .offset) (getD (p .labels) (u .label) none))
+    pick (ltb (length (p .code)) (u .offset + sizeOf kind)) refusals.usePastEnd (reachOf kind (u .offset) (getD (p .labels) (u .label) none))
 
 unfoldable pub usesRefusal : Pooled → List tables.Use → ℕ
 usesRefusal p [] = 0
@@ -92,7 +94,7 @@ usesRefusal p (u ∷ us) = orElse (useRefusal p u) (usesRefusal p us)
 
 -- without a jump
 unfoldable pub whyNotInPlace : Pooled → ℕ → ℕ
-whyNotInPlace p output = orElse (usesRefusal p (p .uses)) (first ((ltb output (length (p .code)), 23) ∷ []))
+whyNotInPlace p output = orElse (usesRefusal p (p .uses)) (first ((ltb output (length (p .code)), refusals.outputTooSmall) ∷ []))
 
 -- what finish asks before it looks whether a jump stands
 unfoldable pub whyUnfit : Recording → ℕ → ℕ → ℕ
@@ -101,8 +103,8 @@ whyUnfit r segments output =
     let p = pooled (r .buffer .arch) v in
     orElse (standing (r .buffer) (countsFit r) (withinLimits r segments output))
     (first (
-    (not (entriesFit r), 1)
-    ∷ (poolBoundBefore v, 13)
-    ∷ (ltb mostCode (length (p .code)), 14)
+    (not (entriesFit r), refusals.malformed)
+    ∷ (poolBoundBefore v, refusals.poolLabelBound)
+    ∷ (ltb mostCode (length (p .code)), refusals.poolTooLarge)
     ∷ []
     ))

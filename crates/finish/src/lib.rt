@@ -88,14 +88,14 @@ fn why_unfit(
         return why;
     }
     if !checks::entries::entries_fit(b, labels, events, uses, refs, constants, asked, relocs) {
-        return 1;
+        return refusals::MALFORMED;
     }
     let m = b.asked as usize;
     if pool::is_bound(labels, constants, asked, m) {
-        return 13;
+        return refusals::POOL_LABEL_BOUND;
     }
     if buffer::MOST_CODE < pool::pool_end(b.code, constants, asked, m) as usize {
-        return 14;
+        return refusals::POOL_TOO_LARGE;
     }
     0
 }

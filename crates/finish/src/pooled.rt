@@ -5,12 +5,14 @@ ghost use mathlib.Core.List.{List, [], _∷_, map};
 ghost use Prim.Native.Nat.{_+_, _*_, _≤_};
 ghost use lib.Dec.{ltb};
 ghost use lib.ListN.{length, take, replicate};
+ghost use Rattle.refusals.specs.Numbers as refusals;
 ghost use Rattle.seqs.specs.Pick.{first, orElse};
 ghost use Rattle.words.specs.Words.{wordAt};
 ghost use Rattle.fields.specs.Kinds.{archX64};
 ghost use Rattle.relax.specs.declared.LayoutEvent.{LayoutEvent};
 ghost use Rattle.relax.specs.declared.Segment.{Segment};
 ghost use Rattle.relax.specs.Events.{eventAt};
+ghost use Rattle.buffer.specs.Tables.{useSize};
 ghost use Rattle.recording.specs.View as tables;
 ghost use Rattle.checks.specs.Fields.{usesBound, refsBound, jumpsBound, relocsBound, refsClear, whyUses};
 ghost use Rattle.checks.specs.Handed.{useLabel, Named};
@@ -63,12 +65,12 @@ fn why_not_laid(
     end: u32,
 ) -> u32
     requires { ⌜ Clearing (now refs) (now events) (now labels) (now constants) (now asked) (b .refs) (b .events) (b .asked) (b .code) end ⌝ }
-    ensures { λ r. ⌜ r ≡ first ((ltb segments (b .events + b .asked), 16) ∷ (not (refsClear (now (refs .entry)) (b .refs) (now (events .entry)) (b .events) (b .code) (now (constants .entry)) (now (asked .entry)) (b .asked)), 17) ∷ []) ⌝ }
+    ensures { λ r. ⌜ r ≡ first ((ltb segments (b .events + b .asked), refusals.tooFewSegments) ∷ (not (refsClear (now (refs .entry)) (b .refs) (now (events .entry)) (b .events) (b .code) (now (constants .entry)) (now (asked .entry)) (b .asked)), refusals.refOverlaps) ∷ []) ⌝ }
 {
     let recorded = b.events as usize;
     let pooled = b.asked as usize;
     if segments < recorded + pooled {
-        return 16;
+        return refusals::TOO_FEW_SEGMENTS;
     }
     if !checks::fields_fit::refs_clear(
         refs,
@@ -82,20 +84,20 @@ fn why_not_laid(
         b.code,
         end,
     ) {
-        return 17;
+        return refusals::REF_OVERLAPS;
     }
     0
 }
 
 // 18: a ref can't reach; 23: the finished code exceeds the output.
 fn why_not_written(reach: bool, len: u32, output: usize) -> u32
-    ensures { λ r. ⌜ r ≡ first ((not reach, 18) ∷ (ltb output len, 23) ∷ []) ⌝ }
+    ensures { λ r. ⌜ r ≡ first ((not reach, refusals.refOutOfReach) ∷ (ltb output len, refusals.outputTooSmall) ∷ []) ⌝ }
 {
     if !reach {
-        return 18;
+        return refusals::REF_OUT_OF_REACH;
     }
     if output < len as usize {
-        return 23;
+        return refusals::OUTPUT_TOO_SMALL;
     }
     0
 }
@@ -216,7 +218,7 @@ pub(crate) fn relaxed(
     ensures { λ r. ⌜ ((us : List tables.Use) → (r, (now (labels .exit), (now (relocs .exit), (now (segments .exit), now (output .exit))))) ≡ relaxed (tablesPooled archX64 (b .code) (take (b .code) (now (code .entry))) (tables.entries (wordAt (now (labels .entry))) (b .labels)) (tables.entries (eventAt (now (events .entry))) (b .events)) us (tables.entries (tables.refAt (now (refs .entry))) (b .refs)) (now (constants .entry)) (now (asked .entry)) (b .asked)) (b .relocs) (now (labels .entry)) (now (relocs .entry)) (now (segments .entry)) (now (output .entry))) ⌝ }
 {
     let all = b.events as usize + b.asked as usize;
-    let mut long = [false; 65536];
+    let mut long = [false; buffer::MOST_ENTRIES];
     relax_and_write(
         b,
         code,
@@ -234,15 +236,15 @@ pub(crate) fn relaxed(
 
 // 19 to 22: a use's field passes the code's end, or it can't reach; 23: the code exceeds the output.
 fn why_not_in_place(b: CodeBuffer, labels: &[u8], uses: &[u8], end: u32, output: usize) -> u32
-    requires { ⌜ b .uses * 12 ≤ length (now uses) ⌝ ∗ ⌜ Named (useLabel (now uses)) (b .uses) (now labels) ⌝ }
-    ensures { λ r. ⌜ r ≡ orElse (whyUses (now (uses .entry)) (now (labels .entry)) end (b .uses)) (first ((ltb output end, 23) ∷ [])) ⌝ }
+    requires { ⌜ b .uses * useSize ≤ length (now uses) ⌝ ∗ ⌜ Named (useLabel (now uses)) (b .uses) (now labels) ⌝ }
+    ensures { λ r. ⌜ r ≡ orElse (whyUses (now (uses .entry)) (now (labels .entry)) end (b .uses)) (first ((ltb output end, refusals.outputTooSmall) ∷ [])) ⌝ }
 {
     let why = checks::fields_fit::why_uses(uses, b.uses as usize, labels, end);
     if why != 0 {
         return why;
     }
     if output < end as usize {
-        return 23;
+        return refusals::OUTPUT_TOO_SMALL;
     }
     0
 }
@@ -314,7 +316,7 @@ pub(crate) fn start(
     if !all_bound(b, labels, events, uses, refs, relocs) {
         return Started {
             relax: false,
-            outcome: refused(15),
+            outcome: refused(refusals::UNBOUND_LABEL),
         };
     }
     if checks::fields_fit::moves(events, b.events as usize) {

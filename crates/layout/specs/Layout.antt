@@ -9,8 +9,9 @@ use Rattle.seqs.specs.Over.{over}
 use Rattle.words.specs.Words.{wordAt}
 use Rattle.relax.specs.declared.LayoutEvent.{LayoutEvent}
 use Rattle.relax.specs.declared.Segment.{Segment}
-use Rattle.relax.specs.Events.{eventAt, endOf, startOf}
-use Rattle.buffer.specs.State.{none, mostCode}
+use Rattle.relax.specs.Events.{eventAt, endOf, startOf, eventSize}
+use Rattle.buffer.specs.State.{none}
+use Rattle.buffer.specs.Tables.{mostCode, labelSize}
 use Rattle.recording.specs.View.{entries}
 use Rattle.fresh.specs.Forms.{Branch, pads, branches, roleOf}
 use Rattle.fresh.specs.Fresh.{Choice}
@@ -49,7 +50,7 @@ pub record Follows (event : LayoutEvent) (old new : ℕ) : Type 0 where
 
 -- what a layout is handed for the recorded events: n entries that lie in their table, follow one another in `code` bytes, and are modest
 pub record Recorded (events : List ℕ) (n code : ℕ) : Type 0 where
-  pub room : n * 20 ≤ length events
+  pub room : n * eventSize ≤ length events
   pub ordered : Ordered 0 code (entries (eventAt events) n)
   pub modest : Modest (entries (eventAt events) n)
   pub small : code ≤ mostCode
@@ -73,7 +74,7 @@ pub record Laid (before ss : List Segment) (es : List LayoutEvent) (c : Choice) 
 
 -- the label that an event names lies in its table, and is unbound or small
 pub record Known (event : LayoutEvent) (labels : List ℕ) : Type 0 where
-  pub room : (b : Branch) → roleOf event ≡ branches b → b .label * 4 + 4 ≤ length labels
+  pub room : (b : Branch) → roleOf event ≡ branches b → b .label * labelSize + labelSize ≤ length labels
   pub small : (b : Branch) → roleOf event ≡ branches b → wordAt labels (b .label) ≢ none → wordAt labels (b .label) ≤ offsetBound
 
 -- so for each of the first n events

@@ -9,8 +9,9 @@ ghost use lib.Dec.{leb};
 ghost use lib.ListN.{length, getD, take, set};
 ghost use Rattle.seqs.specs.Over.{over};
 ghost use Rattle.words.specs.Words.{wordAt};
-ghost use Rattle.relax.specs.Events.{shortLen, eventAt};
+ghost use Rattle.relax.specs.Events.{shortLen, eventAt, eventSize};
 ghost use Rattle.buffer.specs.State.{none};
+ghost use Rattle.buffer.specs.Tables.{mostEntries, mostCode};
 ghost use Rattle.recording.specs.View.{entries};
 ghost use Rattle.fresh.specs.Forms.{width};
 ghost use Rattle.fresh.specs.Rounds.{isFar, any, join};
@@ -121,7 +122,7 @@ pub fn next_segment(event: LayoutEvent, long: bool, old: u32, new: u32) -> Segme
 
 // Fills the segments of the first `n` events; the last of them, all zeros where there is none.
 fn layout_events(segments: &mut [Segment], events: &[u8], long: &[bool], n: usize) -> Segment
-    requires { ⌜ Recorded (now events) n 16777216 ⌝ ∗ ⌜ (n ≤ 65536) × (n ≤ length (now segments)) × (n ≤ length (now long)) ⌝ }
+    requires { ⌜ Recorded (now events) n mostCode ⌝ ∗ ⌜ (n ≤ mostEntries) × (n ≤ length (now segments)) × (n ≤ length (now long)) ⌝ }
     ensures { λ r. ⌜ Laid (now (segments .entry)) (now (segments .exit)) (entries (eventAt (now (events .entry))) n) (now (long .entry)) (r .«old_end») (r .«new_end») ⌝ }
 {
     let mut last = Segment {
@@ -150,7 +151,7 @@ fn layout_pool(
     old: u32,
     new: u32,
 ) -> u32
-    requires { ⌜ PoolFits (now constants) (now asked) m ⌝ ∗ ⌜ (n ≤ 65536) × (n + m ≤ length (now segments)) × (old ≤ offsetBound) × (new ≤ offsetBound) ⌝ }
+    requires { ⌜ PoolFits (now constants) (now asked) m ⌝ ∗ ⌜ (n ≤ mostEntries) × (n + m ≤ length (now segments)) × (old ≤ offsetBound) × (new ≤ offsetBound) ⌝ }
     ensures { λ r. ⌜ now (segments .exit) ≡ over (now (segments .entry)) n (fresh.segments old new (entries (poolEvent old (now (constants .entry)) (now (asked .entry))) m) []) ⌝ }
     ensures { λ r. ⌜ r ≡ endFrom old new (entries (poolEvent old (now (constants .entry)) (now (asked .entry))) m) [] (poolStart old (now (constants .entry)) (now (asked .entry)) m) ⌝ }
 {
@@ -190,7 +191,7 @@ pub fn layout(
     m: usize,
     code: u32,
 ) -> u32
-    requires { ⌜ Recorded (now events) n code ⌝ ∗ ⌜ PoolFits (now constants) (now asked) m ⌝ ∗ ⌜ (n + m ≤ 65536) × (n + m ≤ length (now segments)) × (n ≤ length (now long)) ⌝ }
+    requires { ⌜ Recorded (now events) n code ⌝ ∗ ⌜ PoolFits (now constants) (now asked) m ⌝ ∗ ⌜ (n + m ≤ mostEntries) × (n + m ≤ length (now segments)) × (n ≤ length (now long)) ⌝ }
     ensures { λ r. ⌜ now (segments .exit) ≡ over (now (segments .entry)) 0 (fresh.segments 0 0 (allEvents (now (events .entry)) n code (now (constants .entry)) (now (asked .entry)) m) (now (long .entry))) ⌝ }
     ensures { λ r. ⌜ r ≡ finishedLength (allEvents (now (events .entry)) n code (now (constants .entry)) (now (asked .entry)) m) (now (long .entry)) (poolStart code (now (constants .entry)) (now (asked .entry)) m) ⌝ }
 {
@@ -252,7 +253,7 @@ pub fn lengthen(
     n: usize,
     m: usize,
 ) -> bool
-    requires { ⌜ Rising (now segments) (n + m) ⌝ ∗ ⌜ Labelled (now events) (now labels) n ⌝ ∗ ⌜ (n + m ≤ 65536) × (n * 20 ≤ length (now events)) × (n ≤ length (now long)) ⌝ }
+    requires { ⌜ Rising (now segments) (n + m) ⌝ ∗ ⌜ Labelled (now events) (now labels) n ⌝ ∗ ⌜ (n + m ≤ mostEntries) × (n * eventSize ≤ length (now events)) × (n ≤ length (now long)) ⌝ }
     ensures { λ r. ⌜ now (long .exit) ≡ over (now (long .entry)) 0 (join (now (long .entry)) (farIn (take (n + m) (now (segments .entry))) (wordAt (now (labels .entry))) (entries (eventAt (now (events .entry))) n) (now (long .entry)))) ⌝ }
     ensures { λ r. ⌜ r ≡ any (farIn (take (n + m) (now (segments .entry))) (wordAt (now (labels .entry))) (entries (eventAt (now (events .entry))) n) (now (long .entry))) ⌝ }
 {
@@ -284,7 +285,7 @@ pub fn relax_jumps(
     m: usize,
     code: u32,
 ) -> Summary
-    requires { ⌜ Recorded (now events) n code ⌝ ∗ ⌜ PoolFits (now constants) (now asked) m ⌝ ∗ ⌜ Labelled (now events) (now labels) n ⌝ ∗ ⌜ (n + m ≤ 65536) × (n + m ≤ length (now segments)) × (length (now long) ≡ n + m) ⌝ }
+    requires { ⌜ Recorded (now events) n code ⌝ ∗ ⌜ PoolFits (now constants) (now asked) m ⌝ ∗ ⌜ Labelled (now events) (now labels) n ⌝ ∗ ⌜ (n + m ≤ mostEntries) × (n + m ≤ length (now segments)) × (length (now long) ≡ n + m) ⌝ }
     ensures { λ r. ⌜ Relaxed (allEvents (now (events .entry)) n code (now (constants .entry)) (now (asked .entry)) m) (wordAt (now (labels .entry))) (now (long .entry)) (poolStart code (now (constants .entry)) (now (asked .entry)) m) (now (segments .entry)) (now (segments .exit)) (now (long .exit)) (r .layouts) (r .len) ⌝ }
 {
     let mut layouts: u32 = 0;

@@ -10,8 +10,9 @@ use Rattle.words.specs.Words.{wordAt, setWord}
 use Rattle.encoder.specs.Padding.{paddingLength}
 use Rattle.relax.specs.declared.LayoutEvent.{LayoutEvent}
 use Rattle.relax.specs.declared.LayoutEvent.the-variants.{Align}
-use Rattle.buffer.specs.State.{none, mostEntries}
+use Rattle.buffer.specs.State.{none}
 use Rattle.buffer.specs.Calls.{padding}
+use Rattle.buffer.specs.Tables.{mostEntries, mostConstant, labelSize, constantWords, constantSize, constantHead, askedSize}
 use Rattle.fresh.specs.Pooled.{constantAlignment}
 
 -- No offset in a recording, in its pool or in their layout is greater: code has at most 16,777,216 bytes, a pooled constant takes at most 79, and of
@@ -21,13 +22,13 @@ offsetBound = 300000000
 
 -- the size, the label and the bytes of the constant that was asked for as number j
 abbrev pub sizeAt : List ℕ → List ℕ → ℕ → ℕ
-sizeAt constants asked j = wordAt constants (wordAt asked j * 18)
+sizeAt constants asked j = wordAt constants (wordAt asked j * constantWords)
 
 abbrev pub labelAt : List ℕ → List ℕ → ℕ → ℕ
-labelAt constants asked j = wordAt constants (wordAt asked j * 18 + 1)
+labelAt constants asked j = wordAt constants (wordAt asked j * constantWords + 1)
 
 abbrev pub bytesAt : List ℕ → List ℕ → ℕ → List ℕ
-bytesAt constants asked j = take (sizeAt constants asked j) (drop (wordAt asked j * 72 + 8) constants)
+bytesAt constants asked j = take (sizeAt constants asked j) (drop (wordAt asked j * constantSize + constantHead) constants)
 
 -- where the alignment of constant j starts, if the pool starts at `from`; of the constant after the last, where the pool ends
 unfoldable pub poolStart : ℕ → List ℕ → List ℕ → ℕ → ℕ
@@ -83,12 +84,12 @@ poolIsBound labels constants asked (suc j) =
 -- what the functions of the pool are handed: entries that lie in their tables
 pub record PoolFits (constants asked : List ℕ) (n : ℕ) : Type 0 where
   pub few : n ≤ mostEntries
-  pub room : n * 4 ≤ length asked
-  pub listed : (j : ℕ) → j < n → wordAt asked j * 72 + 72 ≤ length constants
-  pub sized : (j : ℕ) → j < n → sizeAt constants asked j ≤ 64
+  pub room : n * askedSize ≤ length asked
+  pub listed : (j : ℕ) → j < n → wordAt asked j * constantSize + constantSize ≤ length constants
+  pub sized : (j : ℕ) → j < n → sizeAt constants asked j ≤ mostConstant
 
 pub record PoolLabels (labels constants asked : List ℕ) (n : ℕ) : Type 0 where
-  pub known : (j : ℕ) → j < n → labelAt constants asked j * 4 + 4 ≤ length labels
+  pub known : (j : ℕ) → j < n → labelAt constants asked j * labelSize + labelSize ≤ length labels
 
 pub record PoolRoom (output labels constants asked : List ℕ) (n : ℕ) : Type 0 where
   pub within : (j : ℕ) → j < n → wordAt labels (labelAt constants asked j) + sizeAt constants asked j ≤ length output

@@ -5,6 +5,7 @@ ghost use Prim.Native.Nat.{_+_, _*_, _≤_};
 ghost use lib.ListN.{length};
 ghost use Rattle.seqs.specs.Over.{over};
 ghost use Rattle.words.specs.Words.{wordAt};
+ghost use Rattle.buffer.specs.Tables.{constantSize, askedSize};
 ghost use Rattle.fresh.specs.Pooled.{constantAlignment};
 ghost use Rattle.pool.specs.Pool.{sizeAt, labelAt, poolStart, poolBytes, poolBound, poolUnbound, poolWritten, poolIsBound, PoolFits, PoolLabels, PoolRoom, offsetBound};
 
@@ -19,19 +20,19 @@ pub fn constant_alignment(size: u32) -> u32
 }
 
 pub fn size_at(constants: &[u8], asked: &[u8], j: usize) -> u32
-    requires { ⌜ (j * 4 + 4 ≤ length (now asked)) × (wordAt (now asked) j * 72 + 72 ≤ length (now constants)) ⌝ }
+    requires { ⌜ (j * askedSize + askedSize ≤ length (now asked)) × (wordAt (now asked) j * constantSize + constantSize ≤ length (now constants)) ⌝ }
     ensures { λ r. ⌜ r ≡ sizeAt (now (constants .entry)) (now (asked .entry)) j ⌝ }
 {
     let n = words::word_at(asked, j) as usize;
-    words::word_at(constants, n * 18)
+    words::word_at(constants, n * buffer::CONSTANT_WORDS)
 }
 
 pub fn label_at(constants: &[u8], asked: &[u8], j: usize) -> u32
-    requires { ⌜ (j * 4 + 4 ≤ length (now asked)) × (wordAt (now asked) j * 72 + 72 ≤ length (now constants)) ⌝ }
+    requires { ⌜ (j * askedSize + askedSize ≤ length (now asked)) × (wordAt (now asked) j * constantSize + constantSize ≤ length (now constants)) ⌝ }
     ensures { λ r. ⌜ r ≡ labelAt (now (constants .entry)) (now (asked .entry)) j ⌝ }
 {
     let n = words::word_at(asked, j) as usize;
-    words::word_at(constants, n * 18 + 1)
+    words::word_at(constants, n * buffer::CONSTANT_WORDS + 1)
 }
 
 // Where the pool ends, if it starts at `from`.
@@ -123,7 +124,8 @@ pub fn write(output: &mut [u8], labels: &[u8], constants: &[u8], asked: &[u8], n
         let size = size_at(constants, asked, j) as usize;
         let label = label_at(constants, asked, j) as usize;
         let offset = words::word_at(labels, label) as usize;
-        let from = words::word_at(asked, j) as usize * 72 + 8;
+        let from = words::word_at(asked, j) as usize * buffer::CONSTANT_SIZE
+            + buffer::CONSTANT_HEAD;
         seqs::copy(
             &constants[from..from + size],
             &mut output[offset..offset + size],

@@ -7,9 +7,11 @@ use Prim.Native.Nat.{ℕ, _+_, _*_, _/_, _≤_, _<_}
 use lib.ListN.{length}
 use Rattle.words.specs.Words.{wordAt}
 use Rattle.encoder.specs.Padding.{paddingLength}
-use Rattle.fields.specs.Kinds.{decoded, archX64}
-use Rattle.buffer.specs.State.{none, mostCode, mostEntries, labelTarget}
+use Rattle.fields.specs.Kinds.{decoded, archX64, unsupportedCode, lastCode}
+use Rattle.relax.specs.Events.{eventWords, eventSize, jumpKind, alignmentKind, noCondition, mostJump, shortLen}
+use Rattle.buffer.specs.State.{none, labelTarget}
 use Rattle.buffer.specs.Refusals.{foreign, foreignReloc, isAlignment}
+use Rattle.buffer.specs.Tables.{mostEntries, mostCode, lastOffset, mostConstant, lastReloc, labelSize, useWords, useSize, refWords, refSize, constantWords, constantSize, askedSize, relocWords, relocSize}
 use Rattle.recording.specs.Calls.{Recording}
 
 -- the bytes of code lie within what is lent, and within the limit
@@ -19,17 +21,17 @@ pub record CodeSound (code : List ℕ) (count : ℕ) : Type 0 where
 
 -- an event's start and end, in the table
 abbrev pub startAt : List ℕ → ℕ → ℕ
-startAt events j = wordAt events (j * 5 + 1)
+startAt events j = wordAt events (j * eventWords + 1)
 
 abbrev pub endAt : List ℕ → ℕ → ℕ
-endAt events j = wordAt events (j * 5 + 1) + wordAt events (j * 5 + 2)
+endAt events j = wordAt events (j * eventWords + 1) + wordAt events (j * eventWords + 2)
 
 -- A label is unbound, or bound within the code and strictly inside no event.
 abbrev pub LabelSound : List ℕ → ℕ → ℕ → ℕ → Type 0
 LabelSound events count code offset = (offset ≡ none) ⊎ ((offset ≤ code) × ((j : ℕ) → j < count → (offset ≤ startAt events j) ⊎ (endAt events j ≤ offset)))
 
 pub record LabelsSound (labels : List ℕ) (count : ℕ) (events : List ℕ) (eventCount code : ℕ) : Type 0 where
-  pub room : count ≤ length labels / 4
+  pub room : count ≤ length labels / labelSize
   pub limit : count ≤ mostEntries
   pub entry : (i : ℕ) → i < count → LabelSound events eventCount code (wordAt labels i)
 
@@ -37,12 +39,12 @@ pub record LabelsSound (labels : List ℕ) (count : ℕ) (events : List ℕ) (ev
 -- that reaches its multiple.
 abbrev pub FormOf : ℕ → ℕ → ℕ → ℕ → ℕ → ℕ → Type 0
 FormOf labels kind start len what cc =
-    ((kind ≡ 1) × (2 ≤ len) × (len ≤ 15) × (what < labels) × (cc ≤ 16))
-    ⊎ ((kind ≡ 2) × (isAlignment what ≡ true) × (len ≡ paddingLength start what))
+    ((kind ≡ jumpKind) × (shortLen ≤ len) × (len ≤ mostJump) × (what < labels) × (cc ≤ noCondition))
+    ⊎ ((kind ≡ alignmentKind) × (isAlignment what ≡ true) × (len ≡ paddingLength start what))
 
 abbrev pub EventForm : List ℕ → ℕ → ℕ → Type 0
 EventForm events labels j =
-    FormOf labels (wordAt events (j * 5)) (wordAt events (j * 5 + 1)) (wordAt events (j * 5 + 2)) (wordAt events (j * 5 + 3)) (wordAt events (j * 5 + 4))
+    FormOf labels (wordAt events (j * eventWords)) (wordAt events (j * eventWords + 1)) (wordAt events (j * eventWords + 2)) (wordAt events (j * eventWords + 3)) (wordAt events (j * eventWords + 4))
 
 -- An event ends within the code and starts after those before it.
 pub record EventSound (events : List ℕ) (labels code j : ℕ) : Type 0 where
@@ -52,28 +54,28 @@ pub record EventSound (events : List ℕ) (labels code j : ℕ) : Type 0 where
 
 -- only X64 keeps events
 pub record EventsSound (events : List ℕ) (count labels code arch : ℕ) : Type 0 where
-  pub room : count ≤ length events / 20
+  pub room : count ≤ length events / eventSize
   pub tracked : (arch ≡ archX64) ⊎ (count ≡ 0)
   pub entry : (j : ℕ) → j < count → EventSound events labels code j
 
 -- A use: a code of the architecture other than 15, a known label.
 pub record UseSound (uses : List ℕ) (arch labels i : ℕ) : Type 0 where
-  pub code : wordAt uses (i * 3 + 2) ≤ 16
-  pub patched : wordAt uses (i * 3 + 2) ≢ 15
-  pub native : foreign (decoded (wordAt uses (i * 3 + 2))) arch ≡ false
-  pub label : wordAt uses (i * 3 + 1) < labels
+  pub code : wordAt uses (i * useWords + 2) ≤ lastCode
+  pub patched : wordAt uses (i * useWords + 2) ≢ unsupportedCode
+  pub native : foreign (decoded (wordAt uses (i * useWords + 2))) arch ≡ false
+  pub label : wordAt uses (i * useWords + 1) < labels
 
 pub record UsesSound (uses : List ℕ) (count arch labels : ℕ) : Type 0 where
-  pub room : count ≤ length uses / 12
+  pub room : count ≤ length uses / useSize
   pub entry : (i : ℕ) → i < count → UseSound uses arch labels i
 
 pub record RefSound (refs : List ℕ) (arch labels i : ℕ) : Type 0 where
-  pub native : foreign (decoded (wordAt refs (i * 4 + 2))) arch ≡ false
-  pub label : wordAt refs (i * 4 + 1) < labels
+  pub native : foreign (decoded (wordAt refs (i * refWords + 2))) arch ≡ false
+  pub label : wordAt refs (i * refWords + 1) < labels
 
 -- only X64 keeps refs
 pub record RefsSound (refs : List ℕ) (count arch labels : ℕ) : Type 0 where
-  pub room : count ≤ length refs / 16
+  pub room : count ≤ length refs / refSize
   pub tracked : (arch ≡ archX64) ⊎ (count ≡ 0)
   pub entry : (i : ℕ) → i < count → RefSound refs arch labels i
 
@@ -82,31 +84,31 @@ abbrev pub Target : ℕ → ℕ → ℕ → Type 0
 Target symbols labels target = ((target < labelTarget) × (target < symbols)) ⊎ ((labelTarget ≤ target) × (target < labelTarget + labels))
 
 pub record RelocSound (relocs : List ℕ) (arch symbols labels i : ℕ) : Type 0 where
-  pub offset : wordAt relocs (i * 6) ≤ 16777215
-  pub kind : wordAt relocs (i * 6 + 1) ≤ 27
-  pub native : foreignReloc (wordAt relocs (i * 6 + 1)) arch ≡ false
-  pub target : Target symbols labels (wordAt relocs (i * 6 + 2))
+  pub offset : wordAt relocs (i * relocWords) ≤ lastOffset
+  pub kind : wordAt relocs (i * relocWords + 1) ≤ lastReloc
+  pub native : foreignReloc (wordAt relocs (i * relocWords + 1)) arch ≡ false
+  pub target : Target symbols labels (wordAt relocs (i * relocWords + 2))
 
 pub record RelocsSound (relocs : List ℕ) (count arch symbols labels : ℕ) : Type 0 where
-  pub room : count ≤ length relocs / 24
+  pub room : count ≤ length relocs / relocSize
   pub entry : (i : ℕ) → i < count → RelocSound relocs arch symbols labels i
 
 -- A constant has at most 64 bytes; its label is none or known.
 pub record ConstantSound (constants : List ℕ) (labels i : ℕ) : Type 0 where
-  pub size : wordAt constants (i * 18) ≤ 64
-  pub label : (wordAt constants (i * 18 + 1) ≡ none) ⊎ (wordAt constants (i * 18 + 1) < labels)
+  pub size : wordAt constants (i * constantWords) ≤ mostConstant
+  pub label : (wordAt constants (i * constantWords + 1) ≡ none) ⊎ (wordAt constants (i * constantWords + 1) < labels)
 
 pub record ConstantsSound (constants : List ℕ) (count labels : ℕ) : Type 0 where
-  pub room : count ≤ length constants / 72
+  pub room : count ≤ length constants / constantSize
   pub limit : count ≤ mostEntries
   pub entry : (i : ℕ) → i < count → ConstantSound constants labels i
 
 abbrev pub labelOf : List ℕ → ℕ → ℕ
-labelOf constants i = wordAt constants (i * 18 + 1)
+labelOf constants i = wordAt constants (i * constantWords + 1)
 
 -- The order of asking lists known constants that have a label, none twice, no two of which share a label; and every constant that has one.
 pub record AskedSound (asked : List ℕ) (count : ℕ) (constants : List ℕ) (known : ℕ) : Type 0 where
-  pub room : count ≤ length asked / 4
+  pub room : count ≤ length asked / askedSize
   pub listed : (i : ℕ) → i < count → (wordAt asked i < known) × (labelOf constants (wordAt asked i) ≢ none)
   pub once : (i j : ℕ) → i < j → j < count → (wordAt asked i ≢ wordAt asked j) × (labelOf constants (wordAt asked i) ≢ labelOf constants (wordAt asked j))
   pub all : (n : ℕ) → n < known → labelOf constants n ≢ none → (i : ℕ) × (i < count) × (wordAt asked i ≡ n)

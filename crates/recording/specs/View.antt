@@ -5,6 +5,7 @@ use lib.ListN.{take, drop}
 use Rattle.words.specs.Words.{wordAt}
 use Rattle.relax.specs.declared.LayoutEvent.{LayoutEvent}
 use Rattle.relax.specs.Events.{eventAt}
+use Rattle.buffer.specs.Tables.{useWords, refWords, constantWords, constantSize, constantHead, relocWords}
 use Rattle.recording.specs.Calls.{Recording}
 
 -- f 0, f 1, .. f (n - 1)
@@ -18,7 +19,7 @@ pub record Use : Type 0 where
   pub code : ℕ
 
 abbrev pub useAt : List ℕ → ℕ → Use
-useAt uses i = record { offset = wordAt uses (i * 3); label = wordAt uses (i * 3 + 1); code = wordAt uses (i * 3 + 2) }
+useAt uses i = record { offset = wordAt uses (i * useWords); label = wordAt uses (i * useWords + 1); code = wordAt uses (i * useWords + 2) }
 
 -- the addend is a 32-bit two's complement word
 pub record Ref : Type 0 where
@@ -29,7 +30,7 @@ pub record Ref : Type 0 where
 
 abbrev pub refAt : List ℕ → ℕ → Ref
 refAt refs i =
-    record { offset = wordAt refs (i * 4); label = wordAt refs (i * 4 + 1); code = wordAt refs (i * 4 + 2); addend = wordAt refs (i * 4 + 3) }
+    record { offset = wordAt refs (i * refWords); label = wordAt refs (i * refWords + 1); code = wordAt refs (i * refWords + 2); addend = wordAt refs (i * refWords + 3) }
 
 pub record Constant : Type 0 where
   pub bytes : List ℕ
@@ -37,7 +38,7 @@ pub record Constant : Type 0 where
 
 abbrev pub constantAt : List ℕ → ℕ → Constant
 constantAt constants i =
-    record { bytes = take (wordAt constants (i * 18)) (drop (i * 72 + 8) constants); label = wordAt constants (i * 18 + 1) }
+    record { bytes = take (wordAt constants (i * constantWords)) (drop (i * constantSize + constantHead) constants); label = wordAt constants (i * constantWords + 1) }
 
 -- the target is a symbol, or a label + 2^31; the addend is a 64-bit two's complement word
 pub record Relocation : Type 0 where
@@ -49,10 +50,10 @@ pub record Relocation : Type 0 where
 abbrev pub relocAt : List ℕ → ℕ → Relocation
 relocAt relocs i =
     record {
-      offset = wordAt relocs (i * 6);
-      kind = wordAt relocs (i * 6 + 1);
-      target = wordAt relocs (i * 6 + 2);
-      addend = wordAt relocs (i * 6 + 4) + wordAt relocs (i * 6 + 5) * 4294967296;
+      offset = wordAt relocs (i * relocWords);
+      kind = wordAt relocs (i * relocWords + 1);
+      target = wordAt relocs (i * relocWords + 2);
+      addend = wordAt relocs (i * relocWords + 4) + wordAt relocs (i * relocWords + 5) * 4294967296;
     }
 
 pub record View : Type 0 where

@@ -10,8 +10,15 @@ use Rattle.relax.specs.declared.LayoutEvent.{LayoutEvent}
 use Rattle.relax.specs.declared.LayoutEvent.the-variants.{Jump, Align}
 
 -- condition 0 to 15; 16 none
+abbrev pub noCondition : ℕ
+noCondition = 16
+
 unfoldable pub conditionOf : ℕ → Condition
-conditionOf n = pick (eqb n 16) Always (On n)
+conditionOf n = pick (eqb n noCondition) Always (On n)
+
+-- the most bytes that a jump is recorded with
+abbrev pub mostJump : ℕ
+mostJump = 15
 
 -- the bytes of a short jump, and of a long one: document 01, "Short is 2 bytes", "Long is E9 (5 bytes), or 0F, 80 + condition (6)"
 abbrev pub shortLen : ℕ
@@ -21,20 +28,33 @@ abbrev pub longLen : Condition → ℕ
 longLen Always = 5
 longLen (On c) = 6
 
--- the columns of an event: kind (1 a jump, else an alignment), start, length, label or multiple, condition or 0
+-- an entry of the table: its words, its bytes, and the kinds that stand in its first column
+abbrev pub eventWords : ℕ
+eventWords = 5
+
+abbrev pub eventSize : ℕ
+eventSize = 20
+
+abbrev pub jumpKind : ℕ
+jumpKind = 1
+
+abbrev pub alignmentKind : ℕ
+alignmentKind = 2
+
+-- the columns of an event: kind (a jump's, else an alignment), start, length, label or multiple, condition or 0
 unfoldable pub eventOf : ℕ → ℕ → ℕ → ℕ → ℕ → LayoutEvent
 eventOf kind start len what cc =
-    pick (eqb kind 1) (Jump (record { start = start; len = len; label = what; cc = conditionOf cc })) (Align (record { start = start; len = len; align = what }))
+    pick (eqb kind jumpKind) (Jump (record { start = start; len = len; label = what; cc = conditionOf cc })) (Align (record { start = start; len = len; align = what }))
 
 -- event i of the table
 unfoldable pub eventAt : List ℕ → ℕ → LayoutEvent
 eventAt events i =
-    eventOf (wordAt events (i * 5)) (wordAt events (i * 5 + 1)) (wordAt events (i * 5 + 2)) (wordAt events (i * 5 + 3)) (wordAt events (i * 5 + 4))
+    eventOf (wordAt events (i * eventWords)) (wordAt events (i * eventWords + 1)) (wordAt events (i * eventWords + 2)) (wordAt events (i * eventWords + 3)) (wordAt events (i * eventWords + 4))
 
 -- the table with these columns as event i
 unfoldable pub setEvent : List ℕ → ℕ → ℕ → ℕ → ℕ → ℕ → ℕ → List ℕ
 setEvent events i kind start len what cc =
-    setWord (setWord (setWord (setWord (setWord events (i * 5) kind) (i * 5 + 1) start) (i * 5 + 2) len) (i * 5 + 3) what) (i * 5 + 4) cc
+    setWord (setWord (setWord (setWord (setWord events (i * eventWords) kind) (i * eventWords + 1) start) (i * eventWords + 2) len) (i * eventWords + 3) what) (i * eventWords + 4) cc
 
 -- where an event was recorded, how many bytes of it were, and the offset after it
 abbrev pub startOf : LayoutEvent → ℕ

@@ -2,7 +2,7 @@
 ghost use mathlib.Core.Path.{_≡_};
 ghost use Prim.Native.Nat.{_+_, _*_, _≤_};
 ghost use lib.ListN.{length};
-ghost use Rattle.relax.specs.Events.{conditionOf, longLen, eventAt, setEvent, startOf, endOf};
+ghost use Rattle.relax.specs.Events.{conditionOf, longLen, eventAt, setEvent, startOf, endOf, eventSize};
 
 // When a jump is taken.
 pub enum Condition {
@@ -23,6 +23,9 @@ pub struct RelaxableJump {
 
 // The bytes of a short jump.
 pub const SHORT_LEN: u32 = 2;
+
+// The most bytes that a jump is recorded with.
+pub const MOST_JUMP: u32 = 15;
 
 impl RelaxableJump {
     // The bytes of its long form: `E9 rel32` or `0F 8x rel32`.
@@ -59,28 +62,39 @@ pub struct Segment {
     pub new_end: u32,
 }
 
-// 0 to 15 are condition codes, 16 is none.
+// 0 to 15 are condition codes; this is none.
+pub const NO_CONDITION: u32 = 16;
+
 fn condition_of(n: u32) -> Condition
     ensures { λ r. ⌜ r ≡ conditionOf n ⌝ }
 {
-    if n == 16 {
+    if n == NO_CONDITION {
         return Condition::Always;
     }
     Condition::On(n)
 }
 
-// Event `i` of the table. An entry is five words: kind (1 a jump, else an alignment), start, length, label or multiple, condition or 0.
+// An entry of the table: its words, its bytes, and the kinds that stand in its first word.
+pub const EVENT_WORDS: usize = 5;
+
+pub const EVENT_SIZE: usize = 20;
+
+pub const JUMP: u32 = 1;
+
+pub const ALIGNMENT: u32 = 2;
+
+// Event `i` of the table. An entry is kind (`JUMP`, else an alignment), start, length, label or multiple, condition or 0.
 pub fn event_at(events: &[u8], i: usize) -> LayoutEvent
-    requires { ⌜ i * 20 + 20 ≤ length (now events) ⌝ }
+    requires { ⌜ i * eventSize + eventSize ≤ length (now events) ⌝ }
     ensures { λ r. ⌜ r ≡ eventAt (now (events .entry)) i ⌝ }
 {
-    let k = i * 5;
+    let k = i * EVENT_WORDS;
     let kind = words::word_at(events, k);
     let start = words::word_at(events, k + 1);
     let len = words::word_at(events, k + 2);
     let what = words::word_at(events, k + 3);
     let cc = words::word_at(events, k + 4);
-    if kind == 1 {
+    if kind == JUMP {
         let cc = condition_of(cc);
         return LayoutEvent::Jump(RelaxableJump {
             start,
@@ -98,10 +112,10 @@ pub fn event_at(events: &[u8], i: usize) -> LayoutEvent
 
 // Writes entry `i` of the table.
 pub fn put_event(events: &mut [u8], i: usize, kind: u32, start: u32, len: u32, what: u32, cc: u32)
-    requires { ⌜ i * 20 + 20 ≤ length (now events) ⌝ }
+    requires { ⌜ i * eventSize + eventSize ≤ length (now events) ⌝ }
     ensures { λ _. ⌜ now (events .exit) ≡ setEvent (now (events .entry)) i kind start len what cc ⌝ }
 {
-    let k = i * 5;
+    let k = i * EVENT_WORDS;
     words::put_word(events, k, kind);
     words::put_word(events, k + 1, start);
     words::put_word(events, k + 2, len);

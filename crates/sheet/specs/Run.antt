@@ -5,13 +5,14 @@ use Prim.Native.Nat.{ℕ, suc, _%_}
 use native.Mathlib.Omega.{arith}
 use lib.Dec.{eqb, ltb}
 use lib.ListN.{take, drop}
+use Rattle.refusals.specs.Numbers as refusals
 use Rattle.seqs.specs.Pick.{pick}
 use Rattle.words.specs.Words.{wordAt}
 use Rattle.fields.specs.Words64.{signExtend}
 use Rattle.buffer.specs.Refusals.{standing}
 use Rattle.recording.specs.Calls.{Recording, Word, Word64, Call, bytes, newLabel, bind, align, use-label, ref, jump, constant, constant-label, relocation, answered, after}
 use Rattle.checks.specs.Lent.{countsFit, withinLimits}
-use Rattle.sheet.specs.Form.{isWhole, kindsOf, argumentsOf, firstBroken}
+use Rattle.sheet.specs.Form.{isWhole, kindsOf, argumentsOf, firstBroken, bytesCall, newLabelCall, bindCall, alignCall, useCall, refCall, jumpCall, constantCall, constantLabelCall, argumentSize}
 
 -- a word of an argument; it is below 2^32 whatever the list holds
 abbrev pub word : List ℕ → ℕ → Word
@@ -28,20 +29,20 @@ bytesIn arguments = take (wordAt arguments 0) (drop 4 arguments)
 -- the call of a kind, with its arguments, in the order of document 01's list
 unfoldable pub callOf : ℕ → List ℕ → Call
 callOf kind a =
-    pick (eqb kind 1) (bytes (bytesIn a))
-    (pick (eqb kind 2) newLabel
-    (pick (eqb kind 3) (bind (word a 0))
-    (pick (eqb kind 4) (align (word a 0))
-    (pick (eqb kind 5) (use-label (word a 0) (word a 1) (word a 2))
-    (pick (eqb kind 6) (ref (word a 0) (word a 1) (word a 2) (word a 3))
-    (pick (eqb kind 7) (jump (word a 0) (word a 1) (word a 2) (word a 3))
-    (pick (eqb kind 8) (constant (bytesIn a))
-    (pick (eqb kind 9) (constant-label (word a 0))
+    pick (eqb kind bytesCall) (bytes (bytesIn a))
+    (pick (eqb kind newLabelCall) newLabel
+    (pick (eqb kind bindCall) (bind (word a 0))
+    (pick (eqb kind alignCall) (align (word a 0))
+    (pick (eqb kind useCall) (use-label (word a 0) (word a 1) (word a 2))
+    (pick (eqb kind refCall) (ref (word a 0) (word a 1) (word a 2) (word a 3))
+    (pick (eqb kind jumpCall) (jump (word a 0) (word a 1) (word a 2) (word a 3))
+    (pick (eqb kind constantCall) (constant (bytesIn a))
+    (pick (eqb kind constantLabelCall) (constant-label (word a 0))
     (relocation (word a 0) (word a 1) (word a 2) (signedWord a 3))))))))))
 
 unfoldable pub callsOf : List ℕ → List ℕ → List Call
 callsOf [] arguments = []
-callsOf (kind ∷ kinds) arguments = callOf kind (take 16 arguments) ∷ callsOf kinds (drop 16 arguments)
+callsOf (kind ∷ kinds) arguments = callOf kind (take argumentSize arguments) ∷ callsOf kinds (drop argumentSize arguments)
 
 -- what a call answers, and the recording after it
 abbrev pub called : Call → Recording → ℕ × Recording
@@ -60,9 +61,9 @@ runSheet sheet r =
     let why = standing (r .buffer) (countsFit r) (withinLimits r 0 0) in
     pick (isWhole sheet)
     (pick (ltb broken n)
-    ((1, broken), r)
+    ((refusals.malformed, broken), r)
     (pick (eqb why 0) (runCalls (callsOf (kindsOf sheet) (argumentsOf sheet)) 0 r) ((why, 0), r)))
-    ((1, 0), r)
+    ((refusals.malformed, 0), r)
 
 -- the recording after sheets, one after the other
 abbrev pub afterSheets : List (List ℕ) → Recording → Recording

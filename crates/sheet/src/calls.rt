@@ -10,6 +10,9 @@ ghost use lib.ListN.{length};
 ghost use Rattle.words.specs.Words.{wordAt};
 ghost use Rattle.checks.specs.Lent.{recordingOf};
 ghost use Rattle.sheet.specs.Run.{callOf, called};
+ghost use Rattle.sheet.specs.Form.{bytesCall, newLabelCall, bindCall, alignCall, jumpCall, constantCall, constantLabelCall, argumentSize, mostBytes};
+use crate::MOST_BYTES;
+use crate::kinds;
 use buffer::CodeBuffer;
 use buffer::Made;
 use buffer::Recorded;
@@ -25,19 +28,19 @@ fn recorded(made: Made) -> Recorded
     }
 }
 
-// The count in front of bytes; at most the 12 that an argument has room for.
+// The count in front of bytes; at most those that an argument has room for.
 fn count_in(arguments: &[u8]) -> usize
-    requires { ⌜ length (now arguments) ≡ 16 ⌝ }
-    ensures { λ r. ⌜ r ≡ min (wordAt (now (arguments .entry)) 0) 12 ⌝ }
+    requires { ⌜ length (now arguments) ≡ argumentSize ⌝ }
+    ensures { λ r. ⌜ r ≡ min (wordAt (now (arguments .entry)) 0) mostBytes ⌝ }
 {
     let n = words::word_at(arguments, 0);
-    if 12 < n {
-        return 12;
+    if MOST_BYTES < n {
+        return MOST_BYTES as usize;
     }
     n as usize
 }
 
-// Bytes and alignments: kinds 1 and 4.
+// Bytes and alignments.
 fn call_code(
     b: CodeBuffer,
     kind: u8,
@@ -45,17 +48,17 @@ fn call_code(
     code: &mut [u8],
     events: &mut [u8],
 ) -> Recorded
-    requires { ⌜ (length (now arguments) ≡ 16) × ((kind ≡ 1) ⊎ (kind ≡ 4)) ⌝ }
+    requires { ⌜ (length (now arguments) ≡ argumentSize) × ((kind ≡ bytesCall) ⊎ (kind ≡ alignCall)) ⌝ }
     ensures { λ r. ⌜ ((labels uses refs constants asked relocs : List ℕ) → (r .refusal, recordingOf (r .buffer) (now (code .exit)) labels (now (events .exit)) uses refs constants asked relocs) ≡ called (callOf kind (now (arguments .entry))) (recordingOf b (now (code .entry)) labels (now (events .entry)) uses refs constants asked relocs)) ⌝ }
 {
-    if kind == 1 {
+    if kind == kinds::BYTES {
         let end = 4 + count_in(arguments);
         return b.put_bytes(code, &arguments[4..end]);
     }
     b.try_align_to(code, events, words::word_at(arguments, 0))
 }
 
-// Labels and jumps: kinds 2, 3 and 7.
+// Labels and jumps.
 fn call_labels(
     b: CodeBuffer,
     kind: u8,
@@ -63,13 +66,13 @@ fn call_labels(
     labels: &mut [u8],
     events: &mut [u8],
 ) -> Recorded
-    requires { ⌜ (length (now arguments) ≡ 16) × ((kind ≡ 2) ⊎ (kind ≡ 3) ⊎ (kind ≡ 7)) ⌝ }
+    requires { ⌜ (length (now arguments) ≡ argumentSize) × ((kind ≡ newLabelCall) ⊎ (kind ≡ bindCall) ⊎ (kind ≡ jumpCall)) ⌝ }
     ensures { λ r. ⌜ ((code uses refs constants asked relocs : List ℕ) → (r .refusal, recordingOf (r .buffer) code (now (labels .exit)) (now (events .exit)) uses refs constants asked relocs) ≡ called (callOf kind (now (arguments .entry))) (recordingOf b code (now (labels .entry)) (now (events .entry)) uses refs constants asked relocs)) ⌝ }
 {
-    if kind == 2 {
+    if kind == kinds::NEW_LABEL {
         return recorded(b.get_label(labels));
     }
-    if kind == 3 {
+    if kind == kinds::BIND {
         return b.try_bind_label(labels, words::word_at(arguments, 0));
     }
     b.record_relaxable_jump(
@@ -82,7 +85,7 @@ fn call_labels(
     )
 }
 
-// Constants and their labels: kinds 8 and 9.
+// Constants and their labels.
 fn call_constants(
     b: CodeBuffer,
     kind: u8,
@@ -91,17 +94,17 @@ fn call_constants(
     constants: &mut [u8],
     asked: &mut [u8],
 ) -> Recorded
-    requires { ⌜ (length (now arguments) ≡ 16) × ((kind ≡ 8) ⊎ (kind ≡ 9)) ⌝ }
+    requires { ⌜ (length (now arguments) ≡ argumentSize) × ((kind ≡ constantCall) ⊎ (kind ≡ constantLabelCall)) ⌝ }
     ensures { λ r. ⌜ ((code events uses refs relocs : List ℕ) → (r .refusal, recordingOf (r .buffer) code (now (labels .exit)) events uses refs (now (constants .exit)) (now (asked .exit)) relocs) ≡ called (callOf kind (now (arguments .entry))) (recordingOf b code (now (labels .entry)) events uses refs (now (constants .entry)) (now (asked .entry)) relocs)) ⌝ }
 {
-    if kind == 8 {
+    if kind == kinds::CONSTANT {
         let end = 4 + count_in(arguments);
         return recorded(b.add_constant(constants, &arguments[4..end]));
     }
     recorded(b.get_label_for_constant(constants, asked, labels, words::word_at(arguments, 0)))
 }
 
-// Uses, refs and relocations: kinds 5, 6 and all that is left, which is 10.
+// Uses, refs, and all that is left, which is relocations.
 fn call_fields(
     b: CodeBuffer,
     kind: u8,
@@ -110,50 +113,50 @@ fn call_fields(
     refs: &mut [u8],
     relocs: &mut [u8],
 ) -> Recorded
-    requires { ⌜ (length (now arguments) ≡ 16) × ((kind ≢ 1) × (kind ≢ 2) × (kind ≢ 3) × (kind ≢ 4) × (kind ≢ 7) × (kind ≢ 8) × (kind ≢ 9)) ⌝ }
+    requires { ⌜ (length (now arguments) ≡ argumentSize) × ((kind ≢ bytesCall) × (kind ≢ newLabelCall) × (kind ≢ bindCall) × (kind ≢ alignCall) × (kind ≢ jumpCall) × (kind ≢ constantCall) × (kind ≢ constantLabelCall)) ⌝ }
     ensures { λ r. ⌜ ((code labels events constants asked : List ℕ) → (r .refusal, recordingOf (r .buffer) code labels events (now (uses .exit)) (now (refs .exit)) constants asked (now (relocs .exit))) ≡ called (callOf kind (now (arguments .entry))) (recordingOf b code labels events (now (uses .entry)) (now (refs .entry)) constants asked (now (relocs .entry)))) ⌝ }
 {
     let first = words::word_at(arguments, 0);
     let second = words::word_at(arguments, 1);
     let third = words::word_at(arguments, 2);
     let addend = words::word_at(arguments, 3);
-    if kind == 5 {
+    if kind == kinds::USE {
         return b.use_label_at_offset(uses, first, second, third);
     }
-    if kind == 6 {
+    if kind == kinds::REF {
         return b.record_label_ref(refs, first, second, third, addend);
     }
     b.add_reloc_at_offset(relocs, first, second, third, fields::sign_extend_32(addend))
 }
 
 fn is_code(kind: u8) -> bool
-    ensures { λ r. ⌜ r ≡ (eqb kind 1 || eqb kind 4) ⌝ }
+    ensures { λ r. ⌜ r ≡ (eqb kind bytesCall || eqb kind alignCall) ⌝ }
 {
-    if kind == 1 {
+    if kind == kinds::BYTES {
         return true;
     }
-    kind == 4
+    kind == kinds::ALIGN
 }
 
 fn is_label(kind: u8) -> bool
-    ensures { λ r. ⌜ r ≡ (eqb kind 2 || (eqb kind 3 || eqb kind 7)) ⌝ }
+    ensures { λ r. ⌜ r ≡ (eqb kind newLabelCall || (eqb kind bindCall || eqb kind jumpCall)) ⌝ }
 {
-    if kind == 2 {
+    if kind == kinds::NEW_LABEL {
         return true;
     }
-    if kind == 3 {
+    if kind == kinds::BIND {
         return true;
     }
-    kind == 7
+    kind == kinds::JUMP
 }
 
 fn is_constant(kind: u8) -> bool
-    ensures { λ r. ⌜ r ≡ (eqb kind 8 || eqb kind 9) ⌝ }
+    ensures { λ r. ⌜ r ≡ (eqb kind constantCall || eqb kind constantLabelCall) ⌝ }
 {
-    if kind == 8 {
+    if kind == kinds::CONSTANT {
         return true;
     }
-    kind == 9
+    kind == kinds::CONSTANT_LABEL
 }
 
 // Makes the call of a kind with its arguments.
@@ -170,7 +173,7 @@ pub(crate) fn call(
     asked: &mut [u8],
     relocs: &mut [u8],
 ) -> Recorded
-    requires { ⌜ length (now arguments) ≡ 16 ⌝ }
+    requires { ⌜ length (now arguments) ≡ argumentSize ⌝ }
     ensures { λ r. ⌜ (r .refusal, recordingOf (r .buffer) (now (code .exit)) (now (labels .exit)) (now (events .exit)) (now (uses .exit)) (now (refs .exit)) (now (constants .exit)) (now (asked .exit)) (now (relocs .exit))) ≡ called (callOf kind (now (arguments .entry))) (recordingOf b (now (code .entry)) (now (labels .entry)) (now (events .entry)) (now (uses .entry)) (now (refs .entry)) (now (constants .entry)) (now (asked .entry)) (now (relocs .entry))) ⌝ }
 {
     if is_code(kind) {

@@ -4,7 +4,10 @@ ghost use Prim.Native.Nat.{_*_};
 ghost use lib.ListN.{length, getD};
 ghost use Rattle.seqs.specs.Pick.{pick};
 ghost use Rattle.words.specs.Words.{wordAt};
-ghost use Rattle.sheet.specs.Form.{isWhole, isCounted, hasCode, inRange, usedBytes, used, isClear, isFormed, firstBroken};
+ghost use Rattle.sheet.specs.Form.{isWhole, isCounted, hasCode, inRange, usedBytes, used, isClear, isFormed, firstBroken, argumentSize};
+use crate::ARGUMENT_SIZE;
+use crate::MOST_BYTES;
+use crate::kinds;
 
 // Whether the length is that of the calls that the sheet counts. The sum is one of 64 bits, so no count makes it wrap.
 pub(crate) fn is_whole(sheet: &[u8]) -> bool
@@ -33,35 +36,35 @@ fn is_clear(part: &[u8]) -> bool
 fn is_counted(kind: u8) -> bool
     ensures { λ r. ⌜ r ≡ isCounted kind ⌝ }
 {
-    if kind == 1 {
+    if kind == kinds::BYTES {
         return true;
     }
-    kind == 8
+    kind == kinds::CONSTANT
 }
 
 // Uses and refs carry a code.
 fn has_code(kind: u8) -> bool
     ensures { λ r. ⌜ r ≡ hasCode kind ⌝ }
 {
-    if kind == 5 {
+    if kind == kinds::USE {
         return true;
     }
-    kind == 6
+    kind == kinds::REF
 }
 
 // Whether a byte count, a use's or ref's code and a relocation's kind are in their ranges.
 fn in_range(kind: u8, arguments: &[u8]) -> bool
-    requires { ⌜ length (now arguments) ≡ 16 ⌝ }
+    requires { ⌜ length (now arguments) ≡ argumentSize ⌝ }
     ensures { λ r. ⌜ r ≡ inRange kind (now (arguments .entry)) ⌝ }
 {
     if is_counted(kind) {
-        return words::word_at(arguments, 0) <= 12;
+        return words::word_at(arguments, 0) <= MOST_BYTES;
     }
     if has_code(kind) {
-        return words::word_at(arguments, 2) <= 16;
+        return words::word_at(arguments, 2) <= fields::LAST_CODE;
     }
-    if kind == 10 {
-        return words::word_at(arguments, 1) <= 27;
+    if kind == kinds::RELOCATION {
+        return words::word_at(arguments, 1) <= buffer::LAST_RELOC;
     }
     true
 }
@@ -80,7 +83,7 @@ fn used_bytes(kind: u8) -> usize
 
 // The bytes that a count counts.
 fn counted(kind: u8, arguments: &[u8]) -> usize
-    requires { ⌜ length (now arguments) ≡ 16 ⌝ }
+    requires { ⌜ length (now arguments) ≡ argumentSize ⌝ }
     ensures { λ r. ⌜ r ≡ pick (isCounted kind) (wordAt (now (arguments .entry)) 0) 0 ⌝ }
 {
     if is_counted(kind) {
@@ -91,13 +94,13 @@ fn counted(kind: u8, arguments: &[u8]) -> usize
 
 // Whether a call has its form.
 fn is_formed(kind: u8, arguments: &[u8]) -> bool
-    requires { ⌜ length (now arguments) ≡ 16 ⌝ }
+    requires { ⌜ length (now arguments) ≡ argumentSize ⌝ }
     ensures { λ r. ⌜ r ≡ isFormed kind (now (arguments .entry)) ⌝ }
 {
-    if kind < 1 {
+    if kind < kinds::BYTES {
         return false;
     }
-    if 10 < kind {
+    if kinds::RELOCATION < kind {
         return false;
     }
     if !in_range(kind, arguments) {
@@ -109,13 +112,13 @@ fn is_formed(kind: u8, arguments: &[u8]) -> bool
 
 // The index of the first call whose form is broken; the number of calls where none is.
 pub(crate) fn first_broken(kinds: &[u8], arguments: &[u8]) -> usize
-    requires { ⌜ length (now arguments) ≡ length (now kinds) * 16 ⌝ }
+    requires { ⌜ length (now arguments) ≡ length (now kinds) * argumentSize ⌝ }
     ensures { λ r. ⌜ r ≡ firstBroken (now (kinds .entry)) (now (arguments .entry)) ⌝ }
 {
     let mut i: usize = 0;
     while i < kinds.len() {
-        let at = i * 16;
-        let end = at + 16;
+        let at = i * ARGUMENT_SIZE;
+        let end = at + ARGUMENT_SIZE;
         if !is_formed(kinds[i], &arguments[at..end]) {
             return i;
         }

@@ -4,10 +4,17 @@ ghost use Prim.Native.Nat.{_*_, _<_};
 ghost use lib.ListN.{length};
 ghost use Rattle.checks.specs.Lent.{recordingOf};
 ghost use Rattle.sheet.specs.Run.{callsOf, runCalls, runSheet};
+ghost use Rattle.sheet.specs.Form.{argumentSize};
 use buffer::CodeBuffer;
 
 mod calls;
 mod form;
+mod kinds;
+
+// The bytes of an argument, and of what a count in one may count.
+const ARGUMENT_SIZE: usize = 16;
+
+const MOST_BYTES: u32 = 12;
 
 // The recording after a sheet, 0 or the first refusal's number, and the index of the refused call, or the number of calls.
 pub struct Ran {
@@ -30,14 +37,14 @@ fn run(
     asked: &mut [u8],
     relocs: &mut [u8],
 ) -> Ran
-    requires { ⌜ (length (now arguments) ≡ length (now kinds) * 16) × (length (now kinds) < 4294967296) ⌝ }
+    requires { ⌜ (length (now arguments) ≡ length (now kinds) * argumentSize) × (length (now kinds) < 4294967296) ⌝ }
     ensures { λ r. ⌜ ((r .refusal, r .index), recordingOf (r .buffer) (now (code .exit)) (now (labels .exit)) (now (events .exit)) (now (uses .exit)) (now (refs .exit)) (now (constants .exit)) (now (asked .exit)) (now (relocs .exit))) ≡ runCalls (callsOf (now (kinds .entry)) (now (arguments .entry))) 0 (recordingOf b (now (code .entry)) (now (labels .entry)) (now (events .entry)) (now (uses .entry)) (now (refs .entry)) (now (constants .entry)) (now (asked .entry)) (now (relocs .entry))) ⌝ }
 {
     let mut last = b;
     let mut i: usize = 0;
     while i < kinds.len() {
-        let at = i * 16;
-        let end = at + 16;
+        let at = i * ARGUMENT_SIZE;
+        let end = at + ARGUMENT_SIZE;
         let answer = calls::call(
             last,
             kinds[i],
@@ -87,7 +94,7 @@ pub fn run_sheet(
     if !form::is_whole(sheet) {
         return Ran {
             buffer: b,
-            refusal: 1,
+            refusal: refusals::MALFORMED,
             index: 0,
         };
     }
@@ -97,7 +104,7 @@ pub fn run_sheet(
     if broken < n {
         return Ran {
             buffer: b,
-            refusal: 1,
+            refusal: refusals::MALFORMED,
             index: broken as u32,
         };
     }

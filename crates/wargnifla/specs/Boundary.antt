@@ -5,6 +5,7 @@ use mathlib.Core.List.{List, [], _∷_}
 use Prim.Native.Nat.{ℕ}
 use lib.Dec.{ltb}
 use lib.ListN.{length}
+use Rattle.refusals.specs.Numbers as refusals
 use Rattle.seqs.specs.Pick.{pick}
 use Rattle.words.specs.Words.{wordAt}
 use Rattle.relax.specs.declared.Segment.{Segment}
@@ -17,7 +18,14 @@ use Rattle.finish.specs.Finish as finishing
 use Rattle.finish.specs.Finish.{overWords}
 use Rattle.sheet.specs.Run as sheets
 
--- the counts that 48 bytes hold, and the twelve words of counts
+-- the bytes of counts, twelve words, and of a record, six
+abbrev pub countsSize : ℕ
+countsSize = 48
+
+abbrev pub recordSize : ℕ
+recordSize = 24
+
+-- the counts that are lent as bytes, and the words of counts
 abbrev pub countsAt : List ℕ → CodeBuffer
 countsAt counts =
     record {
@@ -39,39 +47,39 @@ abbrev pub countsOf : CodeBuffer → List ℕ
 countsOf b =
     b .arch ∷ b .symbols ∷ b .finished ∷ b .refusal ∷ b .code ∷ b .labels ∷ b .events ∷ b .uses ∷ b .refs ∷ b .constants ∷ b .asked ∷ b .relocs ∷ []
 
--- the six words of what finish reports
+-- the words of what finish reports
 abbrev pub recordOf : CodeBufferFinalized → List ℕ
 recordOf f = f .arch ∷ f .len ∷ f .alignment ∷ f .layouts ∷ f .labels ∷ f .relocs ∷ []
 
 -- fewer bytes than counts take
 abbrev pub tooShort : List ℕ → Bool
-tooShort counts = ltb (length counts) 48
+tooShort counts = ltb (length counts) countsSize
 
 -- the answer and the counts
 unfoldable pub start : ℕ → ℕ → List ℕ → ℕ × List ℕ
 start arch symbols counts =
     let a = calls.started arch symbols in
-    pick (tooShort counts) (1, counts) (a .refusal, overWords counts (countsOf (a .buffer)))
+    pick (tooShort counts) (refusals.malformed, counts) (a .refusal, overWords counts (countsOf (a .buffer)))
 
 -- the answer, the counts and the code
 unfoldable pub putBytes : List ℕ → List ℕ → List ℕ → ℕ × (List ℕ × List ℕ)
 putBytes counts code bytes =
     let a = calls.putBytes (countsAt counts) code bytes in
-    pick (tooShort counts) (1, (counts, code)) (a .0 .refusal, (overWords counts (countsOf (a .0 .buffer)), a .1))
+    pick (tooShort counts) (refusals.malformed, (counts, code)) (a .0 .refusal, (overWords counts (countsOf (a .0 .buffer)), a .1))
 
 -- the answer, the counts, the constants and the number
 unfoldable pub addConstant : List ℕ → List ℕ → List ℕ → ℕ × (List ℕ × (List ℕ × ℕ))
 addConstant counts constants bytes =
     let a = calls.addConstant (countsAt counts) constants bytes in
     pick (tooShort counts)
-    (1, (counts, (constants, none)))
+    (refusals.malformed, (counts, (constants, none)))
     (a .0 .refusal, (overWords counts (countsOf (a .0 .buffer)), (a .1, a .0 .number)))
 
 -- the answer, the counts and the relocations
 unfoldable pub addReloc : List ℕ → List ℕ → ℕ → ℕ → ℕ → ℕ → ℕ × (List ℕ × List ℕ)
 addReloc counts relocs offset kind target addend =
     let a = calls.addReloc (countsAt counts) relocs offset kind target addend in
-    pick (tooShort counts) (1, (counts, relocs)) (a .0 .refusal, (overWords counts (countsOf (a .0 .buffer)), a .1))
+    pick (tooShort counts) (refusals.malformed, (counts, relocs)) (a .0 .refusal, (overWords counts (countsOf (a .0 .buffer)), a .1))
 
 -- a recording that is lent: counts as bytes, and the tables
 pub record Lent : Type 0 where
@@ -132,15 +140,15 @@ lentWith counts r =
 unfoldable pub runSheet : List ℕ → Lent → (ℕ × ℕ) × Lent
 runSheet sheet l =
     let a = sheets.runSheet sheet (recordingIn l) in
-    pick (tooShort (l .counts)) ((1, 0), l) (a .0, lentWith (l .counts) (a .1))
+    pick (tooShort (l .counts)) ((refusals.malformed, 0), l) (a .0, lentWith (l .counts) (a .1))
 
 -- the answer, the counts, the labels, relocations, segments and output, and the record; a refused finish gives a record of zeros
 unfoldable pub finish : Lent → List Segment → List ℕ → List ℕ → ℕ × (List ℕ × (finishing.Left × List ℕ))
 finish l segments output finalized =
     let a = finishing.finish (recordingIn l) segments output in
     let left : finishing.Left = (l .labels, (l .relocs, (segments, output))) in
-    pick (ltb (length finalized) 24)
-    (1, (l .counts, (left, finalized)))
+    pick (ltb (length finalized) recordSize)
+    (refusals.malformed, (l .counts, (left, finalized)))
     (pick (tooShort (l .counts))
-    (1, (l .counts, (left, overWords finalized (0 ∷ 0 ∷ 0 ∷ 0 ∷ 0 ∷ 0 ∷ []))))
+    (refusals.malformed, (l .counts, (left, overWords finalized (0 ∷ 0 ∷ 0 ∷ 0 ∷ 0 ∷ 0 ∷ []))))
     (a .0 .refusal, (overWords (l .counts) (countsOf (a .0 .buffer)), (a .1, overWords finalized (recordOf (a .0 .code))))))

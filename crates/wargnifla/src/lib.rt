@@ -8,14 +8,19 @@ ghost use Prim.Native.Nat.{_+_, _*_, _≤_};
 ghost use lib.ListN.{length};
 ghost use Rattle.seqs.specs.Over.{over};
 ghost use Rattle.finish.specs.Finish.{bytesOfAll, overWords};
-ghost use Rattle.wargnifla.specs.Boundary.{countsAt, countsOf, recordOf, start, putBytes, addConstant, addReloc, lentOf, runSheet, finish};
+ghost use Rattle.wargnifla.specs.Boundary.{countsAt, countsOf, recordOf, start, putBytes, addConstant, addReloc, lentOf, runSheet, finish, countsSize, recordSize};
 use buffer::CodeBuffer;
 use finish::CodeBufferFinalized;
 use relax::Segment;
 
+// The bytes of counts, and of a record.
+const COUNTS_SIZE: usize = 48;
+
+const RECORD_SIZE: usize = 24;
+
 // The counts that are lent.
 fn counts_at(counts: &[u8]) -> CodeBuffer
-    requires { ⌜ 48 ≤ length (now counts) ⌝ }
+    requires { ⌜ countsSize ≤ length (now counts) ⌝ }
     ensures { λ r. ⌜ r ≡ countsAt (now (counts .entry)) ⌝ }
 {
     CodeBuffer {
@@ -46,7 +51,7 @@ fn put_four(bytes: &mut [u8], k: usize, first: u32, second: u32, third: u32, fou
 }
 
 fn put_counts(counts: &mut [u8], b: CodeBuffer)
-    requires { ⌜ 48 ≤ length (now counts) ⌝ }
+    requires { ⌜ countsSize ≤ length (now counts) ⌝ }
     ensures { λ _. ⌜ now (counts .exit) ≡ overWords (now (counts .entry)) (countsOf b) ⌝ }
 {
     put_four(counts, 0, b.arch, b.symbols, b.finished, b.refusal);
@@ -55,7 +60,7 @@ fn put_counts(counts: &mut [u8], b: CodeBuffer)
 }
 
 fn put_record(finalized: &mut [u8], code: CodeBufferFinalized)
-    requires { ⌜ 24 ≤ length (now finalized) ⌝ }
+    requires { ⌜ recordSize ≤ length (now finalized) ⌝ }
     ensures { λ _. ⌜ now (finalized .exit) ≡ overWords (now (finalized .entry)) (recordOf code) ⌝ }
 {
     put_four(
@@ -85,8 +90,8 @@ const NO_RECORD: CodeBufferFinalized = CodeBufferFinalized {
 pub extern "C" fn wargnifla_start(arch: u32, symbols: u32, counts: &mut [u8]) -> u32
     ensures { λ r. ⌜ (r, now (counts .exit)) ≡ start arch symbols (now (counts .entry)) ⌝ }
 {
-    if counts.len() < 48 {
-        return 1;
+    if counts.len() < COUNTS_SIZE {
+        return refusals::MALFORMED;
     }
     let answer = CodeBuffer::new(arch, symbols);
     let buffer = answer.buffer;
@@ -99,8 +104,8 @@ pub extern "C" fn wargnifla_start(arch: u32, symbols: u32, counts: &mut [u8]) ->
 pub extern "C" fn wargnifla_put_bytes(counts: &mut [u8], code: &mut [u8], bytes: &[u8]) -> u32
     ensures { λ r. ⌜ (r, (now (counts .exit), now (code .exit))) ≡ putBytes (now (counts .entry)) (now (code .entry)) (now (bytes .entry)) ⌝ }
 {
-    if counts.len() < 48 {
-        return 1;
+    if counts.len() < COUNTS_SIZE {
+        return refusals::MALFORMED;
     }
     let answer = counts_at(counts).put_bytes(code, bytes);
     let buffer = answer.buffer;
@@ -118,9 +123,9 @@ pub extern "C" fn wargnifla_add_constant(
 ) -> u32
     ensures { λ r. ⌜ (r, (now (counts .exit), (now (constants .exit), now (number .exit)))) ≡ addConstant (now (counts .entry)) (now (constants .entry)) (now (bytes .entry)) ⌝ }
 {
-    if counts.len() < 48 {
+    if counts.len() < COUNTS_SIZE {
         *number = buffer::NONE;
-        return 1;
+        return refusals::MALFORMED;
     }
     let answer = counts_at(counts).add_constant(constants, bytes);
     let buffer = answer.buffer;
@@ -141,8 +146,8 @@ pub extern "C" fn wargnifla_add_reloc(
 ) -> u32
     ensures { λ r. ⌜ (r, (now (counts .exit), now (relocs .exit))) ≡ addReloc (now (counts .entry)) (now (relocs .entry)) offset kind target addend ⌝ }
 {
-    if counts.len() < 48 {
-        return 1;
+    if counts.len() < COUNTS_SIZE {
+        return refusals::MALFORMED;
     }
     let answer = counts_at(counts).add_reloc_at_offset(relocs, offset, kind, target, addend);
     let buffer = answer.buffer;
@@ -167,9 +172,9 @@ pub extern "C" fn wargnifla_run_sheet(
 ) -> u32
     ensures { λ r. ⌜ ((r, now (index .exit)), lentOf (now (counts .exit)) (now (code .exit)) (now (labels .exit)) (now (events .exit)) (now (uses .exit)) (now (refs .exit)) (now (constants .exit)) (now (asked .exit)) (now (relocs .exit))) ≡ runSheet (now (sheet .entry)) (lentOf (now (counts .entry)) (now (code .entry)) (now (labels .entry)) (now (events .entry)) (now (uses .entry)) (now (refs .entry)) (now (constants .entry)) (now (asked .entry)) (now (relocs .entry))) ⌝ }
 {
-    if counts.len() < 48 {
+    if counts.len() < COUNTS_SIZE {
         *index = 0;
-        return 1;
+        return refusals::MALFORMED;
     }
     let answer = sheet::run_sheet(
         counts_at(counts),
@@ -207,12 +212,12 @@ pub extern "C" fn wargnifla_finish(
 ) -> u32
     ensures { λ r. ⌜ (r, (now (counts .exit), ((now (labels .exit), (now (relocs .exit), (now (segments .exit), now (output .exit)))), now (finalized .exit)))) ≡ finish (lentOf (now (counts .entry)) (now (code .entry)) (now (labels .entry)) (now (events .entry)) (now (uses .entry)) (now (refs .entry)) (now (constants .entry)) (now (asked .entry)) (now (relocs .entry))) (now (segments .entry)) (now (output .entry)) (now (finalized .entry)) ⌝ }
 {
-    if finalized.len() < 24 {
-        return 1;
+    if finalized.len() < RECORD_SIZE {
+        return refusals::MALFORMED;
     }
-    if counts.len() < 48 {
+    if counts.len() < COUNTS_SIZE {
         put_record(finalized, NO_RECORD);
-        return 1;
+        return refusals::MALFORMED;
     }
     let answer = finish::finish(
         counts_at(counts),

@@ -1,0 +1,98 @@
+-- The numbers by which calls refuse, in the order of document 01's list; 0 is none.
+use Prim.Native.Nat.{ℕ}
+
+-- a sheet, an argument, a count or a table's entry that breaks its form
+abbrev pub malformed : ℕ
+malformed = 1
+
+-- start names an architecture other than X86, X64 and AArch64
+abbrev pub unknownArch : ℕ
+unknownArch = 2
+
+-- a call is lent more than a limit
+abbrev pub pastLimit : ℕ
+pastLimit = 3
+
+-- the recording has finished
+abbrev pub alreadyFinished : ℕ
+alreadyFinished = 4
+
+-- an alignment is no power of two, or exceeds 4,096
+abbrev pub badAlignment : ℕ
+badAlignment = 5
+
+-- a use has the code that has no field
+abbrev pub unsupportedUse : ℕ
+unsupportedUse = 6
+
+-- a use, ref or relocation has a kind foreign to the architecture
+abbrev pub foreignKind : ℕ
+foreignKind = 7
+
+-- a label, constant or symbol number is unknown
+abbrev pub unknownNumber : ℕ
+unknownNumber = 8
+
+-- the label is bound already
+abbrev pub alreadyBound : ℕ
+alreadyBound = 9
+
+-- a jump, a relocation's offset or a constant that no entry may hold
+abbrev pub badEntry : ℕ
+badEntry = 10
+
+-- a table that the call must extend is full
+abbrev pub tableFull : ℕ
+tableFull = 11
+
+-- bytes or padding pass the lent code's end
+abbrev pub codeFull : ℕ
+codeFull = 12
+
+-- a pooled constant's label was bound by the caller
+abbrev pub poolLabelBound : ℕ
+poolLabelBound = 13
+
+-- code with pool exceeds the limit
+abbrev pub poolTooLarge : ℕ
+poolTooLarge = 14
+
+-- a use, label relocation, ref or jump names an unbound label
+abbrev pub unboundLabel : ℕ
+unboundLabel = 15
+
+-- with a jump, the segment table is short
+abbrev pub tooFewSegments : ℕ
+tooFewSegments = 16
+
+-- with a jump, a ref's field passes the pooled code's end, or overlaps an event
+abbrev pub refOverlaps : ℕ
+refOverlaps = 17
+
+-- with a jump, a ref can't reach its label plus addend
+abbrev pub refOutOfReach : ℕ
+refOutOfReach = 18
+
+-- without a jump, a use's field passes the pooled code's end
+abbrev pub usePastEnd : ℕ
+usePastEnd = 19
+
+-- without a jump, an AArch64 branch can't reach
+abbrev pub branchOutOfReach : ℕ
+branchOutOfReach = 20
+
+-- another use can't reach a label at or after it
+abbrev pub labelTooFarAhead : ℕ
+labelTooFarAhead = 21
+
+-- another use can't reach a label before it
+abbrev pub labelTooFarBack : ℕ
+labelTooFarBack = 22
+
+-- the finished code exceeds the lent output
+abbrev pub outputTooSmall : ℕ
+outputTooSmall = 23
+
+-- refusals from here on are recorded; `alreadyBound` is not
+abbrev pub firstRecorded : ℕ
+firstRecorded = unsupportedUse
