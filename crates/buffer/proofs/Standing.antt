@@ -5,6 +5,7 @@ use Prim.Native.Nat.{ℕ, _≤_}
 use native.Mathlib.Omega.{arith}
 use borrow.Author.Tests.{not-false, eqb-true, leb-true}
 use lib.Dec.{eqb, leb}
+use Rattle.refusals.specs.Numbers as refusals
 use Rattle.seqs.proofs.Booleans.{both-true}
 use Rattle.seqs.proofs.Picking.{passed, zero-passed}
 use Rattle.buffer.specs.declared.CodeBuffer.{CodeBuffer}
@@ -19,10 +20,10 @@ pub record Stands (b : CodeBuffer) (fit within : Bool) : Type 0 where
 pub stands : (b : CodeBuffer) (fit within : Bool) → standing b fit within ≡ 0 → Stands b fit within
 unfolding standing
 stands b fit within h =
-    let first = passed (not (archOccurs (b .arch) && refusalOccurs (b .refusal) && fit)) 1 _ (λ e. omega arith) h in
+    let first = passed (not (archOccurs (b .arch) && refusalOccurs (b .refusal) && fit)) refusals.malformed _ (λ e. omega arith) h in
     let second = zero-passed (b .refusal) _ (first .1) in
-    let third = passed (not within) 3 _ (λ e. omega arith) (second .1) in
-    let fourth = passed (not (eqb (b .finished) 0)) 4 _ (λ e. omega arith) (third .1) in
+    let third = passed (not within) refusals.pastLimit _ (λ e. omega arith) (second .1) in
+    let fourth = passed (not (eqb (b .finished) 0)) refusals.alreadyFinished _ (λ e. omega arith) (third .1) in
     record {
       fits = both-true (archOccurs (b .arch) && refusalOccurs (b .refusal)) fit (not-false _ (first .0)) .1;
       limited = not-false within (third .0);

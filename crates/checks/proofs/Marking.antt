@@ -14,12 +14,13 @@ use Rattle.seqs.proofs.Numbers.{eq-or-ne}
 use Rattle.seqs.proofs.Booleans.{both-true}
 use Rattle.words.specs.Words.{wordAt}
 use Rattle.buffer.specs.State.{none}
+use Rattle.buffer.specs.Tables.{mostEntries, constantSize}
 use Rattle.recording.specs.Sound.{labelOf}
 use Rattle.checks.specs.Entries.{all, askedFits, askedOnce, isAsked, orderFits}
 use Rattle.checks.specs.Handed.{occurs, Marks, Labelled, askedLabel, newAt, unlabelledOr}
 use Rattle.checks.proofs.Scans.{all-same, all-both}
 
-marks-none : (marks : List Bool) (f : ℕ → ℕ) → length marks ≡ 65536 → ((k : ℕ) → k < 65536 → getD marks k false ≡ false) → Marks marks f 0
+marks-none : (marks : List Bool) (f : ℕ → ℕ) → length marks ≡ mostEntries → ((k : ℕ) → k < mostEntries → getD marks k false ≡ false) → Marks marks f 0
 unfolding occurs all
 marks-none marks f h e = record { size = h; marked = λ k l. e k l }
 
@@ -33,7 +34,7 @@ occurs-next : (f : ℕ → ℕ) (i k : ℕ) → occurs f (i + 1) k ≡ (eqb (f i
 unfolding occurs all
 occurs-next f i k = rw (add-one i) (not-and (all (λ (j : ℕ). not (eqb (f j) k)) i) (eqb (f i) k))
 
-pub marks-next : (marks : List Bool) (f : ℕ → ℕ) (i v : ℕ) → Marks marks f i → v ≡ f i → v < 65536 → Marks (set marks v true) f (i + 1)
+pub marks-next : (marks : List Bool) (f : ℕ → ℕ) (i v : ℕ) → Marks marks f i → v ≡ f i → v < mostEntries → Marks (set marks v true) f (i + 1)
 marks-next marks f i v m e l =
     record {
       size = length-set marks v true ∙ m .size;
@@ -86,7 +87,7 @@ module _ (asked constants : List ℕ) (known i : ℕ) where
       )
 
 -- a constant is listed where it is marked
-pub each-asked : (asked : List ℕ) (n : ℕ) (constants : List ℕ) (known : ℕ) (seen : List Bool) → known ≤ 65536 → Marks seen (wordAt asked) n
+pub each-asked : (asked : List ℕ) (n : ℕ) (constants : List ℕ) (known : ℕ) (seen : List Bool) → known ≤ mostEntries → Marks seen (wordAt asked) n
     → all (unlabelledOr constants seen) known ≡ all (λ (k : ℕ). eqb (labelOf constants k) none || isAsked asked n k) known
 unfolding isAsked occurs
 each-asked asked n constants known seen h m =
@@ -96,16 +97,16 @@ pub order-fails : (asked : List ℕ) (n : ℕ) (constants : List ℕ) (known : �
 unfolding orderFits
 order-fails asked n constants known e = rw e
 
-pub order-holds : (asked : List ℕ) (n : ℕ) (constants : List ℕ) (known : ℕ) (seen : List Bool) → known ≤ 65536 → Marks seen (wordAt asked) n
+pub order-holds : (asked : List ℕ) (n : ℕ) (constants : List ℕ) (known : ℕ) (seen : List Bool) → known ≤ mostEntries → Marks seen (wordAt asked) n
     → all (newAt asked constants known) n ≡ true → all (unlabelledOr constants seen) known ≡ orderFits asked n constants known
 unfolding orderFits
 order-holds asked n constants known seen h m e = rw e (each-asked asked n constants known seen h m)
 
 -- an entry that is fit and new
 pub record New (asked constants : List ℕ) (known i : ℕ) : Type 0 where
-  pub few : wordAt asked i < 65536
-  pub room : wordAt asked i * 72 + 72 ≤ length constants
-  pub label : askedLabel constants asked i < 65536
+  pub few : wordAt asked i < mostEntries
+  pub room : wordAt asked i * constantSize + constantSize ≤ length constants
+  pub label : askedLabel constants asked i < mostEntries
 
 pub new-entry : (asked constants : List ℕ) (known i : ℕ) → Labelled constants known → newAt asked constants known i ≡ true → New asked constants known i
 unfolding askedFits
@@ -119,5 +120,5 @@ new-entry asked constants known i c e =
     }
 
 -- before the first turn
-pub marks-blank : (f : ℕ → ℕ) → Marks (replicate 65536 false) f 0
-marks-blank f = marks-none (replicate 65536 false) f (length-replicate 65536 false) (λ k l. getD-replicate 65536 k false false l)
+pub marks-blank : (f : ℕ → ℕ) → Marks (replicate mostEntries false) f 0
+marks-blank f = marks-none (replicate mostEntries false) f (length-replicate mostEntries false) (λ k l. getD-replicate mostEntries k false false l)

@@ -26,23 +26,25 @@ use Rattle.fields.specs.declared.LabelUse.the-variants.{
   A64Adrp21,
   A64AddAbsLo12,
 }
+use Rattle.relax.specs.Events.{eventWords}
+use Rattle.buffer.specs.Tables.{refWords, relocWords}
 use Rattle.pool.specs.Pool.{poolStart}
 use Rattle.checks.specs.Fields.{isBound, sizeOf, clearOfEvents, clearOfPool, refClear, whyUnreached, whyUses}
 use Rattle.checks.specs.Handed.{jumpBound, targetBound}
 
-pub jump-none : (events labels : List ℕ) (i kind : ℕ) → kind ≡ wordAt events (i * 5) → kind ≢ 1 → true ≡ jumpBound events labels i
-jump-none events labels i kind e h = rw (ne-eqb (wordAt events (i * 5)) 1 (λ (q : wordAt events (i * 5) ≡ 1). h (e ∙ q)))
+pub jump-none : (events labels : List ℕ) (i kind : ℕ) → kind ≡ wordAt events (i * eventWords) → kind ≢ 1 → true ≡ jumpBound events labels i
+jump-none events labels i kind e h = rw (ne-eqb (wordAt events (i * eventWords)) 1 (λ (q : wordAt events (i * eventWords) ≡ 1). h (e ∙ q)))
 
-pub jump-named : (events labels : List ℕ) (i kind : ℕ) → kind ≡ wordAt events (i * 5) → kind ≡ 1
-    → isBound labels (wordAt events (i * 5 + 3)) ≡ jumpBound events labels i
-jump-named events labels i kind e h = rw (eq-eqb (wordAt events (i * 5)) 1 (sym e ∙ h))
+pub jump-named : (events labels : List ℕ) (i kind : ℕ) → kind ≡ wordAt events (i * eventWords) → kind ≡ 1
+    → isBound labels (wordAt events (i * eventWords + 3)) ≡ jumpBound events labels i
+jump-named events labels i kind e h = rw (eq-eqb (wordAt events (i * eventWords)) 1 (sym e ∙ h))
 
-pub target-symbol : (relocs labels : List ℕ) (i target : ℕ) → target ≡ wordAt relocs (i * 6 + 2) → target < 2147483648 → true ≡ targetBound relocs labels i
-target-symbol relocs labels i target e h = rw (lt-ltb (wordAt relocs (i * 6 + 2)) 2147483648 (rw e at h))
+pub target-symbol : (relocs labels : List ℕ) (i target : ℕ) → target ≡ wordAt relocs (i * relocWords + 2) → target < 2147483648 → true ≡ targetBound relocs labels i
+target-symbol relocs labels i target e h = rw (lt-ltb (wordAt relocs (i * relocWords + 2)) 2147483648 (rw e at h))
 
-pub target-label : (relocs labels : List ℕ) (i target : ℕ) → target ≡ wordAt relocs (i * 6 + 2) → 2147483648 ≤ target
+pub target-label : (relocs labels : List ℕ) (i target : ℕ) → target ≡ wordAt relocs (i * relocWords + 2) → 2147483648 ≤ target
     → isBound labels (target - 2147483648) ≡ targetBound relocs labels i
-target-label relocs labels i target e h = rw (e, le-ltb (wordAt relocs (i * 6 + 2)) 2147483648 (rw e at h))
+target-label relocs labels i target e h = rw (e, le-ltb (wordAt relocs (i * relocWords + 2)) 2147483648 (rw e at h))
 
 -- no field has more than four bytes
 patch-small : (k : LabelUse) → patchSize k ≤ 4
@@ -67,8 +69,8 @@ sized size code e = (e, rw e (size-small (decoded code)))
 -- a ref past the end of the code, one that overlaps an event, and any other
 module _ (refs events : List ℕ) (n code : ℕ) (constants asked : List ℕ) (m i from size len : ℕ) where
   pub record RefAt : Type 0 where
-    pub at : from ≡ wordAt refs (i * 4)
-    pub long : size ≡ sizeOf (decoded (wordAt refs (i * 4 + 2)))
+    pub at : from ≡ wordAt refs (i * refWords)
+    pub long : size ≡ sizeOf (decoded (wordAt refs (i * refWords + 2)))
     pub end : len ≡ poolStart code constants asked m
 
   pub ref-past : RefAt → len < from + size → false ≡ refClear refs events n code constants asked m i

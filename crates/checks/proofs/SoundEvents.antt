@@ -14,7 +14,7 @@ use Rattle.seqs.proofs.Booleans.{both-true}
 use Rattle.seqs.proofs.Picking.{yes-eq, no-eq}
 use Rattle.words.specs.Words.{wordAt}
 use Rattle.encoder.specs.Padding.{paddingLength}
-use Rattle.relax.specs.Events.{eventAt, endOf}
+use Rattle.relax.specs.Events.{eventAt, endOf, eventWords, eventSize}
 use Rattle.relax.proofs.Columns.{end-at}
 use Rattle.buffer.specs.Refusals.{isAlignment, lastEnd}
 use Rattle.recording.specs.Sound.{startAt, endAt, FormOf, EventSound, EventsSound}
@@ -79,14 +79,14 @@ last-end-none events = yes-eq 0 0 _ _ refl
 
 module _ (events : List ℕ) (labels code : ℕ) where
   record Event (j : ℕ) : Type 0 where
-    form : formFits labels (wordAt events (j * 5)) (wordAt events (j * 5 + 1)) (wordAt events (j * 5 + 2)) (wordAt events (j * 5 + 3)) (wordAt events (j * 5 + 4)) ≡ true
+    form : formFits labels (wordAt events (j * eventWords)) (wordAt events (j * eventWords + 1)) (wordAt events (j * eventWords + 2)) (wordAt events (j * eventWords + 3)) (wordAt events (j * eventWords + 4)) ≡ true
     ends : endAt events j ≤ code
     follows : lastEnd events j ≤ startAt events j
 
   event-at : (n j : ℕ) → all (eventFits events labels code) n ≡ true → j < n → Event j
   unfolding eventFits
   event-at n j h l =
-      let a = both-true (formFits labels (wordAt events (j * 5)) (wordAt events (j * 5 + 1)) (wordAt events (j * 5 + 2)) (wordAt events (j * 5 + 3)) (wordAt events (j * 5 + 4))) _ (all-at (eventFits events labels code) n j h l) in
+      let a = both-true (formFits labels (wordAt events (j * eventWords)) (wordAt events (j * eventWords + 1)) (wordAt events (j * eventWords + 2)) (wordAt events (j * eventWords + 3)) (wordAt events (j * eventWords + 4))) _ (all-at (eventFits events labels code) n j h l) in
       let b = both-true (leb (endAt events j) code) (leb (lastEnd events j) (startAt events j)) (a .1) in
       record { form = a .0; ends = leb-true (endAt events j) code (b .0); follows = leb-true (lastEnd events j) (startAt events j) (b .1) }
 
@@ -119,7 +119,7 @@ events-ordered arch events n labels code h =
     let a = kept arch n (all (eventFits events labels code) n) h .1 in
     record { forward = λ j l. omega arith; order = λ i j l m. follows-all events labels code n i j a l m }
 
-pub events-sound : (arch : ℕ) (events : List ℕ) (n labels code : ℕ) → n * 20 ≤ length events → eventsFit arch events n labels code ≡ true → EventsSound events n labels code arch
+pub events-sound : (arch : ℕ) (events : List ℕ) (n labels code : ℕ) → n * eventSize ≤ length events → eventsFit arch events n labels code ≡ true → EventsSound events n labels code arch
 unfolding eventsFit
 events-sound arch events n labels code room h =
     let a = kept arch n (all (eventFits events labels code) n) h in
@@ -129,7 +129,7 @@ events-sound arch events n labels code room h =
       entry = λ j l.
           let e = event-at events labels code n j (a .1) l in
           record {
-            form = form-sound labels (wordAt events (j * 5)) (wordAt events (j * 5 + 1)) (wordAt events (j * 5 + 2)) (wordAt events (j * 5 + 3)) (wordAt events (j * 5 + 4)) (e .form);
+            form = form-sound labels (wordAt events (j * eventWords)) (wordAt events (j * eventWords + 1)) (wordAt events (j * eventWords + 2)) (wordAt events (j * eventWords + 3)) (wordAt events (j * eventWords + 4)) (e .form);
             ends = e .ends;
             follows = λ i m. follows-all events labels code n i j (a .1) m l;
           };
@@ -147,7 +147,7 @@ events-fit arch events n labels code s =
     (λ j l.
     let e = s .entry j l in
     rw (
-      form-fits labels (wordAt events (j * 5)) (wordAt events (j * 5 + 1)) (wordAt events (j * 5 + 2)) (wordAt events (j * 5 + 3)) (wordAt events (j * 5 + 4)) (e .form),
+      form-fits labels (wordAt events (j * eventWords)) (wordAt events (j * eventWords + 1)) (wordAt events (j * eventWords + 2)) (wordAt events (j * eventWords + 3)) (wordAt events (j * eventWords + 4)) (e .form),
       le-leb (endAt events j) code (e .ends),
       le-leb (lastEnd events j) (startAt events j) (follows-last events labels code j e),
     )))

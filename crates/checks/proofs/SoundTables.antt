@@ -16,6 +16,7 @@ use Rattle.fields.specs.Kinds.{decoded}
 use Rattle.buffer.specs.declared.CodeBuffer.{CodeBuffer}
 use Rattle.buffer.specs.State.{none}
 use Rattle.buffer.specs.Refusals.{foreign, foreignReloc, targetKnown}
+use Rattle.buffer.specs.Tables.{mostEntries, labelSize, useWords, useSize, refWords, refSize, constantWords, constantSize, askedSize, relocWords, relocSize}
 use Rattle.recording.specs.Sound.{startAt, endAt, labelOf, LabelSound, LabelsSound, UsesSound, RefsSound, Target, RelocsSound, ConstantsSound, AskedSound}
 use Rattle.recording.proofs.Tables.{known-target}
 use Rattle.checks.specs.Entries.{all, outside, labelFits, labelsFit, useFits, usesFit, refFits, refsFit, relocFits, relocsFit, constantFits, constantsFit, askedFits, askedOnce, isAsked, orderFits}
@@ -57,7 +58,7 @@ label-fits events n code offset s =
     s
 
 module _ (labels : List ℕ) (n : ℕ) (events : List ℕ) (m code : ℕ) where
-  pub labels-sound : n * 4 ≤ length labels → n ≤ 65536 → labelsFit labels n events m code ≡ true → LabelsSound labels n events m code
+  pub labels-sound : n * labelSize ≤ length labels → n ≤ mostEntries → labelsFit labels n events m code ≡ true → LabelsSound labels n events m code
   unfolding labelsFit
   labels-sound room limit h =
       record {
@@ -71,21 +72,21 @@ module _ (labels : List ℕ) (n : ℕ) (events : List ℕ) (m code : ℕ) where
   labels-fit s = all-of (λ (k : ℕ). labelFits events m code (wordAt labels k)) n (λ i l. label-fits events m code (wordAt labels i) (s .entry i l))
 
 module _ (uses : List ℕ) (n arch labels : ℕ) where
-  pub uses-sound : n * 12 ≤ length uses → usesFit uses n arch labels ≡ true → UsesSound uses n arch labels
+  pub uses-sound : n * useSize ≤ length uses → usesFit uses n arch labels ≡ true → UsesSound uses n arch labels
   unfolding usesFit useFits
   uses-sound room h =
       record {
         room = omega arith;
         entry = λ i l.
-            let code = wordAt uses (i * 3 + 2) in
+            let code = wordAt uses (i * useWords + 2) in
             let a = both-true (leb code 16) _ (all-at (useFits uses arch labels) n i h l) in
-            let b = both-true (not (eqb code 15)) (not (foreign (decoded code) arch) && ltb (wordAt uses (i * 3 + 1)) labels) (a .1) in
-            let d = both-true (not (foreign (decoded code) arch)) (ltb (wordAt uses (i * 3 + 1)) labels) (b .1) in
+            let b = both-true (not (eqb code 15)) (not (foreign (decoded code) arch) && ltb (wordAt uses (i * useWords + 1)) labels) (a .1) in
+            let d = both-true (not (foreign (decoded code) arch)) (ltb (wordAt uses (i * useWords + 1)) labels) (b .1) in
             record {
               code = leb-true code 16 (a .0);
               patched = eqb-false code 15 (not-true (eqb code 15) (b .0));
               native = not-true (foreign (decoded code) arch) (d .0);
-              label = ltb-true (wordAt uses (i * 3 + 1)) labels (d .1);
+              label = ltb-true (wordAt uses (i * useWords + 1)) labels (d .1);
             };
       }
 
@@ -96,14 +97,14 @@ module _ (uses : List ℕ) (n arch labels : ℕ) where
       (λ i l.
       let e = s .entry i l in
       rw (
-        le-leb (wordAt uses (i * 3 + 2)) 16 (e .code),
-        ne-eqb (wordAt uses (i * 3 + 2)) 15 (e .patched),
+        le-leb (wordAt uses (i * useWords + 2)) 16 (e .code),
+        ne-eqb (wordAt uses (i * useWords + 2)) 15 (e .patched),
         e .native,
-        lt-ltb (wordAt uses (i * 3 + 1)) labels (e .label),
+        lt-ltb (wordAt uses (i * useWords + 1)) labels (e .label),
       ))
 
 module _ (refs : List ℕ) (n arch labels : ℕ) where
-  pub refs-sound : n * 16 ≤ length refs → refsFit refs n arch labels ≡ true → RefsSound refs n arch labels
+  pub refs-sound : n * refSize ≤ length refs → refsFit refs n arch labels ≡ true → RefsSound refs n arch labels
   unfolding refsFit refFits
   refs-sound room h =
       let k = kept arch n (all (refFits refs arch labels) n) h in
@@ -111,9 +112,9 @@ module _ (refs : List ℕ) (n arch labels : ℕ) where
         room = omega arith;
         tracked = k .0;
         entry = λ i l.
-            let code = wordAt refs (i * 4 + 2) in
-            let a = both-true (not (foreign (decoded code) arch)) (ltb (wordAt refs (i * 4 + 1)) labels) (all-at (refFits refs arch labels) n i (k .1) l) in
-            record { native = not-true (foreign (decoded code) arch) (a .0); label = ltb-true (wordAt refs (i * 4 + 1)) labels (a .1) };
+            let code = wordAt refs (i * refWords + 2) in
+            let a = both-true (not (foreign (decoded code) arch)) (ltb (wordAt refs (i * refWords + 1)) labels) (all-at (refFits refs arch labels) n i (k .1) l) in
+            record { native = not-true (foreign (decoded code) arch) (a .0); label = ltb-true (wordAt refs (i * refWords + 1)) labels (a .1) };
       }
 
   pub refs-fit : RefsSound refs n arch labels → refsFit refs n arch labels ≡ true
@@ -121,7 +122,7 @@ module _ (refs : List ℕ) (n arch labels : ℕ) where
   refs-fit s =
       keeps arch n (all (refFits refs arch labels) n) (s .tracked)
       (all-of (refFits refs arch labels) n
-      (λ i l. let e = s .entry i l in rw (e .native, lt-ltb (wordAt refs (i * 4 + 1)) labels (e .label))))
+      (λ i l. let e = s .entry i l in rw (e .native, lt-ltb (wordAt refs (i * refWords + 1)) labels (e .label))))
 
 target-fits : (b : CodeBuffer) (target : ℕ) → Target (b .symbols) (b .labels) target → targetKnown b target ≡ true
 unfolding targetKnown
@@ -132,21 +133,21 @@ target-fits b target s =
     s
 
 module _ (b : CodeBuffer) (relocs : List ℕ) where
-  pub relocs-sound : b .relocs * 24 ≤ length relocs → relocsFit b relocs ≡ true → RelocsSound relocs (b .relocs) (b .arch) (b .symbols) (b .labels)
+  pub relocs-sound : b .relocs * relocSize ≤ length relocs → relocsFit b relocs ≡ true → RelocsSound relocs (b .relocs) (b .arch) (b .symbols) (b .labels)
   unfolding relocsFit relocFits
   relocs-sound room h =
       record {
         room = omega arith;
         entry = λ i l.
-            let kind = wordAt relocs (i * 6 + 1) in
-            let a = both-true (leb (wordAt relocs (i * 6)) 16777215) _ (all-at (relocFits b relocs) (b .relocs) i h l) in
-            let d = both-true (leb kind 27) (not (foreignReloc kind (b .arch)) && targetKnown b (wordAt relocs (i * 6 + 2))) (a .1) in
-            let e = both-true (not (foreignReloc kind (b .arch))) (targetKnown b (wordAt relocs (i * 6 + 2))) (d .1) in
+            let kind = wordAt relocs (i * relocWords + 1) in
+            let a = both-true (leb (wordAt relocs (i * relocWords)) 16777215) _ (all-at (relocFits b relocs) (b .relocs) i h l) in
+            let d = both-true (leb kind 27) (not (foreignReloc kind (b .arch)) && targetKnown b (wordAt relocs (i * relocWords + 2))) (a .1) in
+            let e = both-true (not (foreignReloc kind (b .arch))) (targetKnown b (wordAt relocs (i * relocWords + 2))) (d .1) in
             record {
-              offset = leb-true (wordAt relocs (i * 6)) 16777215 (a .0);
+              offset = leb-true (wordAt relocs (i * relocWords)) 16777215 (a .0);
               kind = leb-true kind 27 (d .0);
               native = not-true (foreignReloc kind (b .arch)) (e .0);
-              target = known-target b (wordAt relocs (i * 6 + 2)) (e .1);
+              target = known-target b (wordAt relocs (i * relocWords + 2)) (e .1);
             };
       }
 
@@ -157,26 +158,26 @@ module _ (b : CodeBuffer) (relocs : List ℕ) where
       (λ i l.
       let e = s .entry i l in
       rw (
-        le-leb (wordAt relocs (i * 6)) 16777215 (e .offset),
-        le-leb (wordAt relocs (i * 6 + 1)) 27 (e .kind),
+        le-leb (wordAt relocs (i * relocWords)) 16777215 (e .offset),
+        le-leb (wordAt relocs (i * relocWords + 1)) 27 (e .kind),
         e .native,
-        target-fits b (wordAt relocs (i * 6 + 2)) (e .target),
+        target-fits b (wordAt relocs (i * relocWords + 2)) (e .target),
       ))
 
 module _ (constants : List ℕ) (n labels : ℕ) where
   constant-at : (i : ℕ) → constantsFit constants n labels ≡ true → i < n
-      → (wordAt constants (i * 18) ≤ 64) × ((labelOf constants i ≡ none) ⊎ (labelOf constants i < labels))
+      → (wordAt constants (i * constantWords) ≤ 64) × ((labelOf constants i ≡ none) ⊎ (labelOf constants i < labels))
   unfolding constantsFit constantFits
   constant-at i h l =
-      let a = both-true (leb (wordAt constants (i * 18)) 64) _ (all-at (constantFits constants labels) n i h l) in (
-        leb-true (wordAt constants (i * 18)) 64 (a .0),
+      let a = both-true (leb (wordAt constants (i * constantWords)) 64) _ (all-at (constantFits constants labels) n i h l) in (
+        leb-true (wordAt constants (i * constantWords)) 64 (a .0),
         ⊎-elim
             (λ e. inl (eqb-true (labelOf constants i) none e))
             (λ e. inr (ltb-true (labelOf constants i) labels e))
             (or-by (eqb (labelOf constants i) none) (ltb (labelOf constants i) labels) (a .1)),
       )
 
-  pub constants-sound : n * 72 ≤ length constants → n ≤ 65536 → constantsFit constants n labels ≡ true → ConstantsSound constants n labels
+  pub constants-sound : n * constantSize ≤ length constants → n ≤ mostEntries → constantsFit constants n labels ≡ true → ConstantsSound constants n labels
   constants-sound room limit h =
       record { room = omega arith; limit = limit; entry = λ i l. let a = constant-at i h l in record { size = a .0; label = a .1 } }
 
@@ -186,14 +187,14 @@ module _ (constants : List ℕ) (n labels : ℕ) where
       all-of (constantFits constants labels) n
       (λ i l.
       let e = s .entry i l in
-      and-by (leb (wordAt constants (i * 18)) 64) (eqb (labelOf constants i) none || ltb (labelOf constants i) labels) (le-leb (wordAt constants (i * 18)) 64 (e .size))
+      and-by (leb (wordAt constants (i * constantWords)) 64) (eqb (labelOf constants i) none || ltb (labelOf constants i) labels) (le-leb (wordAt constants (i * constantWords)) 64 (e .size))
       (⊎-elim
       (λ q. or-first (eqb (labelOf constants i) none) (ltb (labelOf constants i) labels) (eq-eqb (labelOf constants i) none q))
       (λ q. or-second (eqb (labelOf constants i) none) (ltb (labelOf constants i) labels) (lt-ltb (labelOf constants i) labels q))
       (e .label)))
 
   -- what the order of asking is handed
-  pub constants-labelled : n * 72 ≤ length constants → n ≤ 65536 → labels ≤ 65536 → constantsFit constants n labels ≡ true → Labelled constants n
+  pub constants-labelled : n * constantSize ≤ length constants → n ≤ mostEntries → labels ≤ mostEntries → constantsFit constants n labels ≡ true → Labelled constants n
   constants-labelled room limit known h =
       record {
         room = room;
@@ -202,7 +203,7 @@ module _ (constants : List ℕ) (n labels : ℕ) where
       }
 
 module _ (asked : List ℕ) (n : ℕ) (constants : List ℕ) (known : ℕ) where
-  pub asked-sound : n * 4 ≤ length asked → orderFits asked n constants known ≡ true → AskedSound asked n constants known
+  pub asked-sound : n * askedSize ≤ length asked → orderFits asked n constants known ≡ true → AskedSound asked n constants known
   unfolding orderFits askedFits askedOnce isAsked
   asked-sound room h =
       let a = both-true (all (newAt asked constants known) n) (all (λ (k : ℕ). eqb (labelOf constants k) none || isAsked asked n k) known) h in

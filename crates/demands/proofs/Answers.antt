@@ -8,15 +8,17 @@ use native.Mathlib.Omega.{arith}
 use lib.Dec.{eqb, ltb, leb}
 use lib.ListN.{length, take}
 use borrow.Author.Tests.{eqb-true, eqb-false, ltb-false, leb-true, not-false}
+use Rattle.refusals.specs.Numbers as refusals
 use Rattle.seqs.specs.Over.{over}
 use Rattle.seqs.specs.Pick.{pick}
 use Rattle.seqs.proofs.Booleans.{both-true}
 use Rattle.seqs.proofs.Picking.{pick-yes, pick-no, passed, neither, zero-passed}
 use Rattle.seqs.proofs.Overwrites.{take-over-end}
 use Rattle.relax.specs.declared.Segment.{Segment}
+use Rattle.relax.specs.Events.{eventSize}
 use Rattle.buffer.specs.declared.CodeBuffer.{CodeBuffer}
 use Rattle.buffer.specs.Refusals.{archOccurs, refusalOccurs, standing}
-use Rattle.buffer.specs.Tables.{mostEntries, mostCode}
+use Rattle.buffer.specs.Tables.{mostEntries, mostCode, labelSize, useSize, refSize, constantSize, askedSize, relocSize}
 use Rattle.recording.specs.Calls.{Recording}
 use Rattle.recording.specs.Sound.{Sound}
 use Rattle.recording.specs.View.{view}
@@ -38,33 +40,33 @@ use Rattle.demands.specs.Demand2.{finishedCode}
 standing-passed : (b : CodeBuffer) (fit within : Bool) → standing b fit within ≡ 0 → (fit ≡ true) × (within ≡ true)
 unfolding standing
 standing-passed b fit within e =
-    let form = passed (not (archOccurs (b .arch) && refusalOccurs (b .refusal) && fit)) 1 _ (λ z. omega arith) e in
+    let form = passed (not (archOccurs (b .arch) && refusalOccurs (b .refusal) && fit)) refusals.malformed _ (λ z. omega arith) e in
     let refusal = zero-passed (b .refusal) _ (form .1) in (
       both-true (archOccurs (b .arch) && refusalOccurs (b .refusal)) fit (not-false (archOccurs (b .arch) && refusalOccurs (b .refusal) && fit) (form .0)) .1,
-      not-false within (passed (not within) 3 (pick (not (eqb (b .finished) 0)) 4 0) (λ z. omega arith) (refusal .1) .0),
+      not-false within (passed (not within) refusals.pastLimit (pick (not (eqb (b .finished) 0)) refusals.alreadyFinished 0) (λ z. omega arith) (refusal .1) .0),
     )
 
 -- the counts fit what is lent
 counted : (r : Recording) → countsFit r ≡ true
     → (r .buffer .code ≤ length (r .code))
-    × (r .buffer .labels ≤ length (r .labels) / 4)
-    × (r .buffer .events ≤ length (r .events) / 20)
-    × (r .buffer .uses ≤ length (r .uses) / 12)
-    × (r .buffer .refs ≤ length (r .refs) / 16)
-    × (r .buffer .constants ≤ length (r .constants) / 72)
-    × (r .buffer .asked ≤ length (r .asked) / 4)
-    × (r .buffer .relocs ≤ length (r .relocs) / 24)
+    × (r .buffer .labels ≤ length (r .labels) / labelSize)
+    × (r .buffer .events ≤ length (r .events) / eventSize)
+    × (r .buffer .uses ≤ length (r .uses) / useSize)
+    × (r .buffer .refs ≤ length (r .refs) / refSize)
+    × (r .buffer .constants ≤ length (r .constants) / constantSize)
+    × (r .buffer .asked ≤ length (r .asked) / askedSize)
+    × (r .buffer .relocs ≤ length (r .relocs) / relocSize)
 unfolding countsFit
 counted r h =
     let b = r .buffer in
     let code = leb (b .code) (length (r .code)) in
-    let labels = leb (b .labels) (length (r .labels) / 4) in
-    let events = leb (b .events) (length (r .events) / 20) in
-    let uses = leb (b .uses) (length (r .uses) / 12) in
-    let refs = leb (b .refs) (length (r .refs) / 16) in
-    let constants = leb (b .constants) (length (r .constants) / 72) in
-    let asked = leb (b .asked) (length (r .asked) / 4) in
-    let relocs = leb (b .relocs) (length (r .relocs) / 24) in
+    let labels = leb (b .labels) (length (r .labels) / labelSize) in
+    let events = leb (b .events) (length (r .events) / eventSize) in
+    let uses = leb (b .uses) (length (r .uses) / useSize) in
+    let refs = leb (b .refs) (length (r .refs) / refSize) in
+    let constants = leb (b .constants) (length (r .constants) / constantSize) in
+    let asked = leb (b .asked) (length (r .asked) / askedSize) in
+    let relocs = leb (b .relocs) (length (r .relocs) / relocSize) in
     let t1 = both-true code (labels && (events && (uses && (refs && (constants && (asked && relocs)))))) h in
     let t2 = both-true labels (events && (uses && (refs && (constants && (asked && relocs))))) (t1 .1) in
     let t3 = both-true events (uses && (refs && (constants && (asked && relocs)))) (t2 .1) in
@@ -73,32 +75,32 @@ counted r h =
     let t6 = both-true constants (asked && relocs) (t5 .1) in
     let t7 = both-true asked relocs (t6 .1) in (
       leb-true (b .code) (length (r .code)) (t1 .0),
-      leb-true (b .labels) (length (r .labels) / 4) (t2 .0),
-      leb-true (b .events) (length (r .events) / 20) (t3 .0),
-      leb-true (b .uses) (length (r .uses) / 12) (t4 .0),
-      leb-true (b .refs) (length (r .refs) / 16) (t5 .0),
-      leb-true (b .constants) (length (r .constants) / 72) (t6 .0),
-      leb-true (b .asked) (length (r .asked) / 4) (t7 .0),
-      leb-true (b .relocs) (length (r .relocs) / 24) (t7 .1),
+      leb-true (b .labels) (length (r .labels) / labelSize) (t2 .0),
+      leb-true (b .events) (length (r .events) / eventSize) (t3 .0),
+      leb-true (b .uses) (length (r .uses) / useSize) (t4 .0),
+      leb-true (b .refs) (length (r .refs) / refSize) (t5 .0),
+      leb-true (b .constants) (length (r .constants) / constantSize) (t6 .0),
+      leb-true (b .asked) (length (r .asked) / askedSize) (t7 .0),
+      leb-true (b .relocs) (length (r .relocs) / relocSize) (t7 .1),
     )
 
 -- what is lent is within the limits, of code, labels, constants, the order of asking and the output
 lent : (r : Recording) (segments output : ℕ) → withinLimits r segments output ≡ true
-    → (length (r .code) ≤ 16777216)
-    × (length (r .labels) / 4 ≤ 65536)
-    × (length (r .constants) / 72 ≤ 65536)
-    × (length (r .asked) / 4 ≤ 65536)
-    × (output ≤ 16777216)
+    → (length (r .code) ≤ mostCode)
+    × (length (r .labels) / labelSize ≤ mostEntries)
+    × (length (r .constants) / constantSize ≤ mostEntries)
+    × (length (r .asked) / askedSize ≤ mostEntries)
+    × (output ≤ mostCode)
 unfolding withinLimits
 lent r segments output h =
     let code = leb (length (r .code)) mostCode in
-    let labels = leb (length (r .labels) / 4) mostEntries in
-    let events = leb (length (r .events) / 20) mostEntries in
-    let uses = leb (length (r .uses) / 12) mostEntries in
-    let refs = leb (length (r .refs) / 16) mostEntries in
-    let constants = leb (length (r .constants) / 72) mostEntries in
-    let asked = leb (length (r .asked) / 4) mostEntries in
-    let relocs = leb (length (r .relocs) / 24) mostEntries in
+    let labels = leb (length (r .labels) / labelSize) mostEntries in
+    let events = leb (length (r .events) / eventSize) mostEntries in
+    let uses = leb (length (r .uses) / useSize) mostEntries in
+    let refs = leb (length (r .refs) / refSize) mostEntries in
+    let constants = leb (length (r .constants) / constantSize) mostEntries in
+    let asked = leb (length (r .asked) / askedSize) mostEntries in
+    let relocs = leb (length (r .relocs) / relocSize) mostEntries in
     let ss = leb segments mostEntries in
     let out = leb output mostCode in
     let t1 = both-true code (labels && (events && (uses && (refs && (constants && (asked && (relocs && (ss && out)))))))) h in
@@ -110,18 +112,18 @@ lent r segments output h =
     let t7 = both-true asked (relocs && (ss && out)) (t6 .1) in
     let t8 = both-true relocs (ss && out) (t7 .1) in (
       leb-true (length (r .code)) mostCode (t1 .0),
-      leb-true (length (r .labels) / 4) mostEntries (t2 .0),
-      leb-true (length (r .constants) / 72) mostEntries (t6 .0),
-      leb-true (length (r .asked) / 4) mostEntries (t7 .0),
+      leb-true (length (r .labels) / labelSize) mostEntries (t2 .0),
+      leb-true (length (r .constants) / constantSize) mostEntries (t6 .0),
+      leb-true (length (r .asked) / askedSize) mostEntries (t7 .0),
       leb-true output mostCode (both-true ss out (t8 .1) .1),
     )
 
 -- a recording that is fit: its entries are those that recordings write, and the pooled code and the output are small
 pub record Fit (r : Recording) (ss : List Segment) (output : List ℕ) : Type 0 where
   pub sound : Sound r
-  pub few : r .buffer .asked ≤ 65536
-  pub small : length (pooled (r .buffer .arch) (view r) .code) ≤ 16777216
-  pub room : length output ≤ 16777216
+  pub few : r .buffer .asked ≤ mostEntries
+  pub small : length (pooled (r .buffer .arch) (view r) .code) ≤ mostCode
+  pub room : length output ≤ mostCode
 
 unfit-fit : (r : Recording) (ss : List Segment) (output : List ℕ) → whyUnfit r (length ss) (length output) ≡ 0 → Fit r ss output
 unfolding whyUnfit
@@ -134,8 +136,8 @@ unfit-fit r ss output e =
     let stands = standing-passed (r .buffer) (countsFit r) within (both .0) in
     let counts = counted r (stands .0) in
     let limits = lent r (length ss) (length output) (stands .1) in
-    let one = passed (not (entriesFit r)) 1 rest (λ z. omega arith) (both .1) in
-    let two = passed (poolBoundBefore v) 13 (pick (ltb mostCode len) 14 0) (λ z. omega arith) (one .1) in
+    let one = passed (not (entriesFit r)) refusals.malformed rest (λ z. omega arith) (both .1) in
+    let two = passed (poolBoundBefore v) refusals.poolLabelBound (pick (ltb mostCode len) refusals.poolTooLarge 0) (λ z. omega arith) (one .1) in
     record {
       sound =
           fits-sound r
@@ -153,7 +155,7 @@ unfit-fit r ss output e =
           })
           (not-false (entriesFit r) (one .0));
       few = omega (arith, counts .6, limits .3);
-      small = ltb-false mostCode len (passed (ltb mostCode len) 14 0 (λ z. omega arith) (two .1) .0);
+      small = ltb-false mostCode len (passed (ltb mostCode len) refusals.poolTooLarge 0 (λ z. omega arith) (two .1) .0);
       room = limits .4;
     }
 
@@ -197,12 +199,12 @@ relaxed-leaves p count labels relocs ss output e =
     let first·zero : eqb early 0 ≡ true = chosen-zero (λ (x : Outcome × Left). x .0 .refusal) (eqb early 0) _ _ (λ q. eqb-false early 0 q) e in
     let e2 = subst (λ (x : Outcome × Left). x .0 .refusal ≡ 0) (pick-yes (eqb early 0) _ _ first·zero) e in
     let second·zero : eqb late 0 ≡ true = chosen-zero (λ (x : Outcome × Left). x .0 .refusal) (eqb late 0) _ _ (λ q. eqb-false late 0 q) e2 in
-    let out = passed (ltb (length ss) (length (p .events))) 16 (pick (not (every (refClear p) (p .refs))) 17 0) (λ z. omega arith) (eqb-true early 0 first·zero) in
-    let far = passed (not (every (refReaches p c) (p .refs))) 18 (pick (ltb (length output) (length (assembled p c))) 23 0) (λ z. omega arith) (eqb-true late 0 second·zero) in
-    let fits = ltb-false (length output) (length (assembled p c)) (passed (ltb (length output) (length (assembled p c))) 23 0 (λ z. omega arith) (far .1) .0) in
+    let out = passed (ltb (length ss) (length (p .events))) refusals.tooFewSegments (pick (not (every (refClear p) (p .refs))) refusals.refOverlaps 0) (λ z. omega arith) (eqb-true early 0 first·zero) in
+    let far = passed (not (every (refReaches p c) (p .refs))) refusals.refOutOfReach (pick (ltb (length output) (length (assembled p c))) refusals.outputTooSmall 0) (λ z. omega arith) (eqb-true late 0 second·zero) in
+    let fits = ltb-false (length output) (length (assembled p c)) (passed (ltb (length output) (length (assembled p c))) refusals.outputTooSmall 0 (λ z. omega arith) (far .1) .0) in
     let leaves = pick-yes (eqb early 0) _ _ first·zero ∙ pick-yes (eqb late 0) _ _ second·zero in
     record {
-      clear = not-false (every (refClear p) (p .refs)) (passed (not (every (refClear p) (p .refs))) 17 0 (λ z. omega arith) (out .1) .0);
+      clear = not-false (every (refClear p) (p .refs)) (passed (not (every (refClear p) (p .refs))) refusals.refOverlaps 0 (λ z. omega arith) (out .1) .0);
       reach = not-false (every (refReaches p c) (p .refs)) (far .0);
       fits = fits;
       is = ap codeOf leaves ∙ taken output (assembled p c) (length (assembled p c)) refl fits;
@@ -217,7 +219,7 @@ unrelaxed-leaves p labels relocs ss output e =
     let why = whyNotInPlace p (length output) in
     let zero : eqb why 0 ≡ true = chosen-zero (λ (x : Outcome × Left). x .0 .refusal) (eqb why 0) _ _ (λ q. eqb-false why 0 q) e in
     let both = neither (usesRefusal p (p .uses)) (pick (ltb (length output) (length (p .code))) 23 0) (eqb-true why 0 zero) in
-    let fits = ltb-false (length output) (length (p .code)) (passed (ltb (length output) (length (p .code))) 23 0 (λ z. omega arith) (both .1) .0) in
+    let fits = ltb-false (length output) (length (p .code)) (passed (ltb (length output) (length (p .code))) refusals.outputTooSmall 0 (λ z. omega arith) (both .1) .0) in
     record {
       none-refused = both .0;
       is =

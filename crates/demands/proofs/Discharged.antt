@@ -8,6 +8,7 @@ use native.Mathlib.Omega.{arith}
 use lib.Dec.{eqb, ltb}
 use lib.ListN.{length, getD, take, length-append, List·getD-eq-default}
 use borrow.Author.Tests.{ne-eqb, eqb-false, ltb-false, not-true}
+use Rattle.refusals.specs.Numbers as refusals
 use Rattle.seqs.proofs.Booleans.{both-true, true-is-not-false}
 use Rattle.seqs.proofs.Numbers.{lt-or-ge, eq-or-ne}
 use Rattle.seqs.proofs.Picking.{passed, neither}
@@ -25,6 +26,7 @@ use Rattle.relax.proofs.Columns.{end-at}
 use Rattle.buffer.specs.declared.CodeBuffer.{CodeBuffer}
 use Rattle.buffer.specs.State.{none}
 use Rattle.buffer.specs.Refusals.{foreign}
+use Rattle.buffer.specs.Tables.{mostEntries, refWords}
 use Rattle.recording.specs.Calls.{Recording}
 use Rattle.recording.specs.Sound.{Sound}
 use Rattle.recording.specs.View as tables
@@ -101,12 +103,12 @@ use-fits : (p : Pooled) (u : tables.Use) (k : LabelUse) → decoded (u .code) �
 unfolding useRefusal
 use-fits p u k is e =
     let label = getD (p .labels) (u .label) none in
-    let both = passed (ltb (length (p .code)) (u .offset + sizeOf (decoded (u .code)))) 19 (reachOf (decoded (u .code)) (u .offset) label) (λ z. omega arith) e in (
+    let both = passed (ltb (length (p .code)) (u .offset + sizeOf (decoded (u .code)))) refusals.usePastEnd (reachOf (decoded (u .code)) (u .offset) label) (λ z. omega arith) e in (
       ltb-false (length (p .code)) (u .offset + patchSize k) (subst (λ (d : Decoded). ltb (length (p .code)) (u .offset + sizeOf d) ≡ false) is (both .0)),
       reach-true k (u .offset) label (subst (λ (d : Decoded). reachOf d (u .offset) label ≡ 0) is (both .1)),
     )
 
-module _ (r : Recording) (s : Sound r) (few : r .buffer .asked ≤ 65536) where
+module _ (r : Recording) (s : Sound r) (few : r .buffer .asked ≤ mostEntries) where
   abbrev b : CodeBuffer
   b = r .buffer
 
@@ -253,8 +255,8 @@ module _ (r : Recording) (s : Sound r) (few : r .buffer .asked ≤ 65536) where
     ref-native i k h is =
         let at = ref-is i h in
         let sound = s .refs .entry i (at .0) .native in
-        x86-kind (decoded (wordAt (r .refs) (i * 4 + 2))) k (sym (ap (λ (f : tables.Ref). decoded (f .code)) (at .1)) ∙ is)
-        (subst (λ (a : ℕ). foreign (decoded (wordAt (r .refs) (i * 4 + 2))) a ≡ false) is64 sound)
+        x86-kind (decoded (wordAt (r .refs) (i * refWords + 2))) k (sym (ap (λ (f : tables.Ref). decoded (f .code)) (at .1)) ∙ is)
+        (subst (λ (a : ℕ). foreign (decoded (wordAt (r .refs) (i * refWords + 2))) a ≡ false) is64 sound)
 
     -- with a jump
     pub fitting : (ss : List Segment) (output labels code table : List ℕ) (layouts : ℕ) → Fit r ss output

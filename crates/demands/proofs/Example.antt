@@ -10,6 +10,7 @@ use Rattle.fields.specs.Patch.{patched}
 use Rattle.seqs.specs.Over.{over}
 use Rattle.seqs.specs.Pick.{pick}
 use Rattle.words.specs.Words.{wordAt}
+use Rattle.fields.specs.Kinds.{archX64}
 use Rattle.relax.specs.declared.Segment.{Segment}
 use Rattle.relax.specs.Events.{conditionOf, eventOf, eventAt}
 use Rattle.buffer.specs.Refusals.{standing, lastEnd}
@@ -28,7 +29,7 @@ use Rattle.demands.specs.Demand2.{finishedCode}
 abbrev pub jumping : Recording
 jumping =
     record {
-      buffer = record { arch = 2; symbols = 0; finished = 0; refusal = 0; code = 2; labels = 1; events = 1; uses = 0; refs = 0; constants = 0; asked = 0; relocs = 0 };
+      buffer = record { arch = archX64; symbols = 0; finished = 0; refusal = 0; code = 2; labels = 1; events = 1; uses = 0; refs = 0; constants = 0; asked = 0; relocs = 0 };
       code = 0 ∷ 0 ∷ [];
       labels = 0 ∷ 0 ∷ 0 ∷ 0 ∷ [];
       events = 1 ∷ 0 ∷ 0 ∷ 0 ∷ 0 ∷ 0 ∷ 0 ∷ 0 ∷ 2 ∷ 0 ∷ 0 ∷ 0 ∷ 0 ∷ 0 ∷ 0 ∷ 0 ∷ 16 ∷ 0 ∷ 0 ∷ 0 ∷ [];

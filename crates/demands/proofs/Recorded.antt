@@ -14,6 +14,7 @@ use Rattle.seqs.proofs.Numbers.{eq-or-ne}
 use Rattle.seqs.proofs.Overwrites.{part-before}
 use Rattle.encoder.specs.Padding.{paddingLength}
 use Rattle.relax.specs.declared.Segment.{Segment}
+use Rattle.relax.specs.Events.{eventSize}
 use Rattle.buffer.specs.declared.CodeBuffer.{CodeBuffer}
 use Rattle.buffer.specs.declared.Recorded.{Recorded}
 use Rattle.buffer.specs.declared.Made.{Made}
@@ -152,7 +153,7 @@ aligned : (r : Recording) → Sound r → (m : Word) → answered (align m) r �
     → view (after (align m) r) .code ≡ view r .code ++ padding (r .buffer .arch) (paddingLength (r .buffer .code) (m .value))
 unfolding alignTo
 aligned r s m e =
-    let why = whyAlign (r .buffer) (length (r .code)) (length (r .events) / 20) (m .value) in
+    let why = whyAlign (r .buffer) (length (r .code)) (length (r .events) / eventSize) (m .value) in
     let taken : eqb why 0 ≡ true = chosen-zero (λ (x : Recorded × (List ℕ × List ℕ)). x .0 .refusal) (eqb why 0) _ _ (λ q. eqb-false why 0 q) e in
     let zero = eqb-true why 0 taken in
     ⊎-elim

@@ -16,10 +16,11 @@ use Rattle.fields.specs.declared.Decoded.the-variants.{Use}
 use Rattle.fields.specs.Kinds.{decoded}
 use Rattle.relax.specs.declared.LayoutEvent.{LayoutEvent}
 use Rattle.relax.specs.declared.LayoutEvent.the-variants.{Align}
-use Rattle.relax.specs.Events.{eventOf, eventAt, endOf, startOf}
+use Rattle.relax.specs.Events.{eventOf, eventAt, endOf, startOf, eventWords}
 use Rattle.relax.proofs.Columns.{start-at, end-at}
 use Rattle.relax.specs.declared.Alignment.{Alignment}
 use Rattle.buffer.specs.State.{none}
+use Rattle.buffer.specs.Tables.{useWords, refWords, relocWords}
 use Rattle.recording.specs.Sound.{startAt, endAt}
 use Rattle.recording.specs.View as tables
 use Rattle.recording.proofs.Views.{getD-entries}
@@ -111,7 +112,7 @@ every-aligned f from constants asked (suc n) h =
 pub jumps-bound : (p : Pooled) (labels events constants asked : List ℕ) (count from n m : ℕ)
     → p .labels ≡ tables.entries (wordAt labels) count
     → p .events ≡ tables.entries (eventAt events) n ++ tables.entries (poolEvent from constants asked) m
-    → ((i : ℕ) → i < n → wordAt events (i * 5) ≡ 1 → wordAt events (i * 5 + 3) < count)
+    → ((i : ℕ) → i < n → wordAt events (i * eventWords) ≡ 1 → wordAt events (i * eventWords + 3) < count)
     → every (jumpBound (p .labels)) (p .events) ≡ checked.jumpsBound events n labels
 unfolding checked.jumpsBound eventAt eventOf roleOf
 jumps-bound p labels events constants asked count from n m el ee known =
@@ -121,27 +122,27 @@ jumps-bound p labels events constants asked count from n m el ee known =
     (and-true (every (jumpBound (tables.entries (wordAt labels) count)) (tables.entries (eventAt events) n))
     ∙ every-entries (jumpBound (tables.entries (wordAt labels) count)) (eventAt events) _ n
     (λ i h.
-    jump-at labels count (wordAt events (i * 5)) (wordAt events (i * 5 + 1)) (wordAt events (i * 5 + 2)) (wordAt events (i * 5 + 3)) (wordAt events (i * 5 + 4))
+    jump-at labels count (wordAt events (i * eventWords)) (wordAt events (i * eventWords + 1)) (wordAt events (i * eventWords + 2)) (wordAt events (i * eventWords + 3)) (wordAt events (i * eventWords + 4))
     (known i h))))
 
 -- 15, of the uses and the refs
 pub uses-bound : (p : Pooled) (labels uses : List ℕ) (count n : ℕ) → p .labels ≡ tables.entries (wordAt labels) count
-    → p .uses ≡ tables.entries (tables.useAt uses) n → ((i : ℕ) → i < n → wordAt uses (i * 3 + 1) < count)
+    → p .uses ≡ tables.entries (tables.useAt uses) n → ((i : ℕ) → i < n → wordAt uses (i * useWords + 1) < count)
     → every (λ (u : tables.Use). isBound (p .labels) (u .label)) (p .uses) ≡ checked.usesBound uses n labels
 unfolding checked.usesBound
 uses-bound p labels uses count n el eu known =
-    rw (el, eu) (every-entries _ (tables.useAt uses) _ n (λ i h. bound-entries labels count (wordAt uses (i * 3 + 1)) (known i h)))
+    rw (el, eu) (every-entries _ (tables.useAt uses) _ n (λ i h. bound-entries labels count (wordAt uses (i * useWords + 1)) (known i h)))
 
 pub refs-bound : (p : Pooled) (labels refs : List ℕ) (count n : ℕ) → p .labels ≡ tables.entries (wordAt labels) count
-    → p .refs ≡ tables.entries (tables.refAt refs) n → ((i : ℕ) → i < n → wordAt refs (i * 4 + 1) < count)
+    → p .refs ≡ tables.entries (tables.refAt refs) n → ((i : ℕ) → i < n → wordAt refs (i * refWords + 1) < count)
     → every (λ (f : tables.Ref). isBound (p .labels) (f .label)) (p .refs) ≡ checked.refsBound refs n labels
 unfolding checked.refsBound
 refs-bound p labels refs count n el er known =
-    rw (el, er) (every-entries _ (tables.refAt refs) _ n (λ i h. bound-entries labels count (wordAt refs (i * 4 + 1)) (known i h)))
+    rw (el, er) (every-entries _ (tables.refAt refs) _ n (λ i h. bound-entries labels count (wordAt refs (i * refWords + 1)) (known i h)))
 
 -- 15, of the relocations: a target from 2^31 on is a label
 pub relocs-bound : (p : Pooled) (labels relocs : List ℕ) (count n : ℕ) → p .labels ≡ tables.entries (wordAt labels) count
-    → ((i : ℕ) → i < n → 2147483648 ≤ wordAt relocs (i * 6 + 2) → wordAt relocs (i * 6 + 2) - 2147483648 < count)
+    → ((i : ℕ) → i < n → 2147483648 ≤ wordAt relocs (i * relocWords + 2) → wordAt relocs (i * relocWords + 2) - 2147483648 < count)
     → every (relocBound (p .labels)) (tables.entries (tables.relocAt relocs) n) ≡ checked.relocsBound relocs n labels
 unfolding checked.relocsBound relocBound
 relocs-bound p labels relocs count n el known =
@@ -149,9 +150,9 @@ relocs-bound p labels relocs count n el known =
     (every-entries _ (tables.relocAt relocs) _ n
     (λ i h.
     ⊎-elim
-    (λ (lt : wordAt relocs (i * 6 + 2) < 2147483648). rw (lt-ltb (wordAt relocs (i * 6 + 2)) 2147483648 lt))
-    (λ ge. rw (bound-entries labels count (wordAt relocs (i * 6 + 2) - 2147483648) (known i h ge)))
-    (lt-or-ge (wordAt relocs (i * 6 + 2)) 2147483648)))
+    (λ (lt : wordAt relocs (i * relocWords + 2) < 2147483648). rw (lt-ltb (wordAt relocs (i * relocWords + 2)) 2147483648 lt))
+    (λ ge. rw (bound-entries labels count (wordAt relocs (i * relocWords + 2) - 2147483648) (known i h ge)))
+    (lt-or-ge (wordAt relocs (i * relocWords + 2)) 2147483648)))
 
 -- with and without a jump: the pool's alignments move nothing
 pub moves-is : (p : Pooled) (events constants asked : List ℕ) (from n m : ℕ)
@@ -172,15 +173,15 @@ refs-clear p refs events constants asked count n m from er ee el =
     ap (λ (l : List tables.Ref). every (refClear p) l) er
     ∙ every-entries (refClear p) (tables.refAt refs) _ count
     (λ i h.
-    let to = wordAt refs (i * 4) + checked.sizeOf (decoded (wordAt refs (i * 4 + 2))) in
+    let to = wordAt refs (i * refWords) + checked.sizeOf (decoded (wordAt refs (i * refWords + 2))) in
     rw (el, ee)
     (ap (λ (t : Bool). leb to (poolStart from constants asked m) && t)
-    (every-append (λ (e : LayoutEvent). leb (endOf e) (wordAt refs (i * 4)) || leb to (startOf e)) (tables.entries (eventAt events) n) (tables.entries (poolEvent from constants asked) m)
+    (every-append (λ (e : LayoutEvent). leb (endOf e) (wordAt refs (i * refWords)) || leb to (startOf e)) (tables.entries (eventAt events) n) (tables.entries (poolEvent from constants asked) m)
     ∙ rw (
-      every-entries (λ (e : LayoutEvent). leb (endOf e) (wordAt refs (i * 4)) || leb to (startOf e)) (eventAt events)
-          (λ (j : ℕ). leb (endAt events j) (wordAt refs (i * 4)) || leb to (startAt events j)) n (λ j l. rw (end-at events j, start-at events j)),
-      every-entries (λ (e : LayoutEvent). leb (endOf e) (wordAt refs (i * 4)) || leb to (startOf e)) (poolEvent from constants asked)
-          (λ (j : ℕ). leb (poolOffset from constants asked j) (wordAt refs (i * 4)) || leb to (poolStart from constants asked j)) m (λ j l. refl),
+      every-entries (λ (e : LayoutEvent). leb (endOf e) (wordAt refs (i * refWords)) || leb to (startOf e)) (eventAt events)
+          (λ (j : ℕ). leb (endAt events j) (wordAt refs (i * refWords)) || leb to (startAt events j)) n (λ j l. rw (end-at events j, start-at events j)),
+      every-entries (λ (e : LayoutEvent). leb (endOf e) (wordAt refs (i * refWords)) || leb to (startOf e)) (poolEvent from constants asked)
+          (λ (j : ℕ). leb (poolOffset from constants asked j) (wordAt refs (i * refWords)) || leb to (poolStart from constants asked j)) m (λ j l. refl),
     ))))
 
 -- 19 to 22
@@ -203,7 +204,7 @@ uses-more p [] u = zero-last (useRefusal p u)
 uses-more p (x ∷ us) u = rw (uses-more p us u) (sym (or-else-last (useRefusal p x) (usesRefusal p us) (useRefusal p u)))
 
 pub uses-refused : (p : Pooled) (uses labels : List ℕ) (count len n : ℕ) → p .labels ≡ tables.entries (wordAt labels) count → length (p .code) ≡ len
-    → ((i : ℕ) → i < n → wordAt uses (i * 3 + 1) < count)
+    → ((i : ℕ) → i < n → wordAt uses (i * useWords + 1) < count)
     → usesRefusal p (tables.entries (tables.useAt uses) n) ≡ checked.whyUses uses labels len n
 unfolding checked.whyUses checked.whyUnreached usesRefusal useRefusal
 uses-refused p uses labels count len zero el ec known = refl
@@ -211,4 +212,4 @@ uses-refused p uses labels count len (suc n) el ec known =
     uses-more p (tables.entries (tables.useAt uses) n) (tables.useAt uses n)
     ∙ rw (uses-refused p uses labels count len n el ec (λ i h. known i (omega arith)))
     (ap (λ (x : ℕ). pick (eqb (checked.whyUses uses labels len n) 0) x (checked.whyUses uses labels len n))
-    (rw (ec, el, getD-entries (wordAt labels) count (wordAt uses (n * 3 + 1)) none (known n (omega arith)))))
+    (rw (ec, el, getD-entries (wordAt labels) count (wordAt uses (n * useWords + 1)) none (known n (omega arith)))))

@@ -12,6 +12,7 @@ use Rattle.relax.specs.declared.LayoutEvent.{LayoutEvent}
 use Rattle.relax.specs.Events.{eventAt}
 use Rattle.relax.specs.declared.Segment.{Segment}
 use Rattle.buffer.specs.State.{none}
+use Rattle.buffer.specs.Tables.{useWords, refWords}
 use Rattle.recording.specs.View as tables
 use Rattle.recording.proofs.Views.{length-entries}
 use Rattle.fresh.specs.Pooled.{Placed}
@@ -36,7 +37,7 @@ fillRefs-more at labels (r ∷ rs) f l = fillRefs-more at labels rs f _
 
 -- the refs, where the table of labels holds new offsets
 pub refs-filled : (output refs labels recorded : List ℕ) (ss : List Segment) (made : List Segment) (n count : ℕ) → take n ss ≡ made
-    → ((i : ℕ) → i < count → wordAt labels (wordAt refs (i * 4 + 1)) ≡ mapOffset made (getD recorded (wordAt refs (i * 4 + 1)) none))
+    → ((i : ℕ) → i < count → wordAt labels (wordAt refs (i * refWords + 1)) ≡ mapOffset made (getD recorded (wordAt refs (i * refWords + 1)) none))
     → refsFilled output refs labels ss n count ≡ fillRefs (mapOffset made) recorded (tables.entries (tables.refAt refs) count) output
 unfolding refsFilled fillRefs
 refs-filled output refs labels recorded ss made n zero t known = refl
@@ -52,7 +53,7 @@ fillUses-more labels (x ∷ us) u l = fillUses-more labels us u _
 
 -- the uses
 pub uses-filled : (output uses labels recorded : List ℕ) (count : ℕ)
-    → ((i : ℕ) → i < count → wordAt labels (wordAt uses (i * 3 + 1)) ≡ getD recorded (wordAt uses (i * 3 + 1)) none)
+    → ((i : ℕ) → i < count → wordAt labels (wordAt uses (i * useWords + 1)) ≡ getD recorded (wordAt uses (i * useWords + 1)) none)
     → usesFilled output uses labels count ≡ fillUses recorded (tables.entries (tables.useAt uses) count) output
 unfolding usesFilled fillUses
 uses-filled output uses labels recorded zero known = refl

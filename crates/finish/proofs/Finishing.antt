@@ -8,6 +8,7 @@ use native.Mathlib.Omega.{arith}
 use borrow.Author.Tests.{not-false, eqb-true}
 use lib.Dec.{eqb}
 use lib.ListN.{length, getD}
+use Rattle.refusals.specs.Numbers as refusals
 use Rattle.seqs.specs.Pick.{pick}
 use Rattle.seqs.proofs.Booleans.{both-false}
 use Rattle.seqs.proofs.Numbers.{lt-or-ge, eq-or-ne}
@@ -17,6 +18,7 @@ use Rattle.words.specs.Words.{wordAt, setWord}
 use Rattle.relax.specs.declared.Segment.{Segment}
 use Rattle.buffer.specs.declared.CodeBuffer.{CodeBuffer}
 use Rattle.buffer.specs.State.{none}
+use Rattle.buffer.specs.Tables.{labelSize}
 use Rattle.recording.specs.Calls.{Recording}
 use Rattle.recording.specs.View.{entries, view, relocAt}
 use Rattle.recording.proofs.Views.{word-set}
@@ -50,7 +52,7 @@ words-same t zero small = over-nil t 0
 words-same t (suc n) small = sym (set-over-words (wordAt t) t n) ∙ rw (words-same t n small) (setWord-same t n small)
 
 -- the table with the pool's labels bound is that of the bound offsets
-bound-words : (from : ℕ) (labels constants asked : List ℕ) (count n : ℕ) → ((i : ℕ) → getD labels i 0 < 256) → count * 4 ≤ length labels
+bound-words : (from : ℕ) (labels constants asked : List ℕ) (count n : ℕ) → ((i : ℕ) → getD labels i 0 < 256) → count * labelSize ≤ length labels
     → ((j : ℕ) → j < n → labelAt constants asked j < count) → ((j : ℕ) → j < n → poolOffset from constants asked j < 4294967296)
     → overWords labels (entries (wordAt (poolBound from labels constants asked n)) count) ≡ poolBound from labels constants asked n
 unfolding poolBound
@@ -101,8 +103,8 @@ unrelaxed-refused p labels relocs ss output ne =
     unrelaxed-pick (LeftAlone labels relocs output) (eqb (whyNotInPlace p (length output)) 0) _ _ refl (refl, refl, refl) ne
 
 pub stages-refused : (bound : Bool) (p : Pooled) (count : ℕ) (labels relocs : List ℕ) (ss : List Segment) (output : List ℕ)
-    → pick bound (pick (moves (p .events)) (relaxed p count labels relocs ss output) (unrelaxed p labels relocs ss output)) (refusedWith 15, (labels, (relocs, (ss, output)))) .0 .refusal ≢ 0
-    → LeftAlone labels relocs output (pick bound (pick (moves (p .events)) (relaxed p count labels relocs ss output) (unrelaxed p labels relocs ss output)) (refusedWith 15, (labels, (relocs, (ss, output)))) .1)
+    → pick bound (pick (moves (p .events)) (relaxed p count labels relocs ss output) (unrelaxed p labels relocs ss output)) (refusedWith refusals.unboundLabel, (labels, (relocs, (ss, output)))) .0 .refusal ≢ 0
+    → LeftAlone labels relocs output (pick bound (pick (moves (p .events)) (relaxed p count labels relocs ss output) (unrelaxed p labels relocs ss output)) (refusedWith refusals.unboundLabel, (labels, (relocs, (ss, output)))) .1)
 stages-refused bound p count labels relocs ss output ne =
     placed-picks (LeftAlone labels relocs output) bound (moves (p .events)) _ _ _ (relaxed-refused p count labels relocs ss output) (unrelaxed-refused p labels relocs ss output) (refl, refl, refl) ne
 

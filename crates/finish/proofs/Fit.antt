@@ -7,9 +7,11 @@ use native.Mathlib.Omega.{arith}
 use borrow.Author.Tests.{not-false, ltb-false}
 use lib.Dec.{ltb}
 use lib.ListN.{length, length-append}
+use Rattle.refusals.specs.Numbers as refusals
 use Rattle.seqs.proofs.Picking.{pick-yes, pick-no, yes-eq, no-eq, yes-not, no-not, yes-lt, no-lt, passed, neither}
 use Rattle.buffer.specs.Refusals.{standing}
 use Rattle.buffer.proofs.Standing.{stands}
+use Rattle.buffer.specs.Tables.{mostEntries, mostCode}
 use Rattle.recording.specs.Calls.{Recording}
 use Rattle.recording.specs.Sound.{CodeSound, Sound}
 use Rattle.recording.specs.View.{view}
@@ -48,7 +50,7 @@ module _ (r : Recording) (segments output : ℕ) (stood : standing (r .buffer) (
   pub code-fits : CodeSound (r .code) (r .buffer .code)
   code-fits = record { room = limits .code; limit = omega (arith, limits .code, limits .code-limit) }
 
-  pub asked-few : r .buffer .asked ≤ 65536
+  pub asked-few : r .buffer .asked ≤ mostEntries
   asked-few = omega (arith, limits .asked, limits .asked-limit)
 
   module _ (fit : entriesFit r ≡ true) where
@@ -84,51 +86,51 @@ module _ (r : Recording) (segments output : ℕ) where
   unfit-standing why e ne = rw (← e) (sym (no-eq why 0 _ _ ne))
 
   module _ (stood : standing (r .buffer) (countsFit r) (withinLimits r segments output) ≡ 0) where
-    pub unfit-entries : entriesFit r ≡ false → 1 ≡ whyUnfit r segments output
+    pub unfit-entries : entriesFit r ≡ false → refusals.malformed ≡ whyUnfit r segments output
     unfolding whyUnfit
     unfit-entries e = sym (yes-eq _ 0 _ _ stood ∙ yes-not (entriesFit r) 1 _ e)
 
     module _ (fit : entriesFit r ≡ true) where
-      pub unfit-bound : poolIsBound (r .labels) (r .constants) (r .asked) (r .buffer .asked) ≡ true → 13 ≡ whyUnfit r segments output
+      pub unfit-bound : poolIsBound (r .labels) (r .constants) (r .asked) (r .buffer .asked) ≡ true → refusals.poolLabelBound ≡ whyUnfit r segments output
       unfolding whyUnfit
       unfit-bound e =
           sym (yes-eq _ 0 _ _ stood ∙ no-not (entriesFit r) 1 _ fit ∙ pick-yes (poolBoundBefore (view r)) 13 _ (bound-before r segments output stood fit ∙ e))
 
       module _ (free : poolIsBound (r .labels) (r .constants) (r .asked) (r .buffer .asked) ≡ false) where
-        pub unfit-long : 16777216 < poolStart (r .buffer .code) (r .constants) (r .asked) (r .buffer .asked) → 14 ≡ whyUnfit r segments output
+        pub unfit-long : mostCode < poolStart (r .buffer .code) (r .constants) (r .asked) (r .buffer .asked) → refusals.poolTooLarge ≡ whyUnfit r segments output
         unfolding whyUnfit
         unfit-long h =
             sym (yes-eq _ 0 _ _ stood
             ∙ no-not (entriesFit r) 1 _ fit
             ∙ pick-no (poolBoundBefore (view r)) 13 _ (bound-before r segments output stood fit ∙ free)
-            ∙ yes-lt 16777216 (length (pooled (r .buffer .arch) (view r) .code)) 14 0 (omega (arith, h, pooled-ends r segments output stood fit)))
+            ∙ yes-lt mostCode (length (pooled (r .buffer .arch) (view r) .code)) refusals.poolTooLarge 0 (omega (arith, h, pooled-ends r segments output stood fit)))
 
-        pub unfit-none : poolStart (r .buffer .code) (r .constants) (r .asked) (r .buffer .asked) ≤ 16777216 → 0 ≡ whyUnfit r segments output
+        pub unfit-none : poolStart (r .buffer .code) (r .constants) (r .asked) (r .buffer .asked) ≤ mostCode → 0 ≡ whyUnfit r segments output
         unfolding whyUnfit
         unfit-none h =
             sym (yes-eq _ 0 _ _ stood
             ∙ no-not (entriesFit r) 1 _ fit
             ∙ pick-no (poolBoundBefore (view r)) 13 _ (bound-before r segments output stood fit ∙ free)
-            ∙ no-lt 16777216 (length (pooled (r .buffer .arch) (view r) .code)) 14 0 (omega (arith, h, pooled-ends r segments output stood fit)))
+            ∙ no-lt mostCode (length (pooled (r .buffer .arch) (view r) .code)) refusals.poolTooLarge 0 (omega (arith, h, pooled-ends r segments output stood fit)))
 
 -- What a recording that passes knows.
 pub record Passed (r : Recording) (segments output : ℕ) : Type 0 where
   pub stood : standing (r .buffer) (countsFit r) (withinLimits r segments output) ≡ 0
   pub fit : entriesFit r ≡ true
   pub free : poolIsBound (r .labels) (r .constants) (r .asked) (r .buffer .asked) ≡ false
-  pub short : poolStart (r .buffer .code) (r .constants) (r .asked) (r .buffer .asked) ≤ 16777216
+  pub short : poolStart (r .buffer .code) (r .constants) (r .asked) (r .buffer .asked) ≤ mostCode
 
 pub passed-unfit : (r : Recording) (segments output : ℕ) → whyUnfit r segments output ≡ 0 → Passed r segments output
 unfolding whyUnfit
 passed-unfit r segments output h =
     let a = neither (standing (r .buffer) (countsFit r) (withinLimits r segments output)) _ h in
-    let b = passed (not (entriesFit r)) 1 _ (λ e. omega arith) (a .1) in
+    let b = passed (not (entriesFit r)) refusals.malformed _ (λ e. omega arith) (a .1) in
     let fit = not-false (entriesFit r) (b .0) in
-    let d = passed (poolBoundBefore (view r)) 13 _ (λ e. omega arith) (b .1) in
-    let e = passed (ltb 16777216 (length (pooled (r .buffer .arch) (view r) .code))) 14 0 (λ e. omega arith) (d .1) in
+    let d = passed (poolBoundBefore (view r)) refusals.poolLabelBound _ (λ e. omega arith) (b .1) in
+    let e = passed (ltb mostCode (length (pooled (r .buffer .arch) (view r) .code))) refusals.poolTooLarge 0 (λ e. omega arith) (d .1) in
     record {
       stood = a .0;
       fit = fit;
       free = sym (bound-before r segments output (a .0) fit) ∙ d .0;
-      short = omega (arith, ltb-false 16777216 (length (pooled (r .buffer .arch) (view r) .code)) (e .0), pooled-ends r segments output (a .0) fit);
+      short = omega (arith, ltb-false mostCode (length (pooled (r .buffer .arch) (view r) .code)) (e .0), pooled-ends r segments output (a .0) fit);
     }

@@ -30,6 +30,7 @@ use Rattle.fresh.specs.Forms.{Branch, pads, branches, branchOf, roleOf}
 use Rattle.pool.specs.Pool.{sizeAt, bytesAt, poolStart, poolOffset, poolEvent, poolBytes, PoolFits}
 use Rattle.pool.proofs.Pool.{length-poolBytes, poolStart-grows, from-poolStart, poolStart-suc, poolOffset-bound}
 use Rattle.fields.specs.Kinds.{decoded}
+use Rattle.buffer.specs.Tables.{constantSize, constantHead}
 use Rattle.emit.specs.Emit.{Encodes, Writes}
 use Rattle.checks.specs.Fields.{sizeOf}
 use Rattle.finish.specs.Refusals.{every, refClear}
@@ -285,8 +286,8 @@ ref-apart p f h =
 -- a constant has as many bytes as its entry says
 pub constant-size : (constants asked : List ℕ) (m : ℕ) → PoolFits constants asked m → (j : ℕ) → j < m → length (bytesAt constants asked j) ≡ sizeAt constants asked j
 constant-size constants asked m pool j h =
-    length-take-le (sizeAt constants asked j) (drop (wordAt asked j * 72 + 8) constants)
-    (omega (arith, length-drop (wordAt asked j * 72 + 8) constants, pool .listed j h, pool .sized j h))
+    length-take-le (sizeAt constants asked j) (drop (wordAt asked j * constantSize + constantHead) constants)
+    (omega (arith, length-drop (wordAt asked j * constantSize + constantHead) constants, pool .listed j h, pool .sized j h))
 
 module _ (code labels events constants asked : List ℕ) (len count n m : ℕ) (ready : Ready code labels events constants asked 2 len count n m)
     (us : List Use) (rs : List Ref) where

@@ -12,11 +12,12 @@ use Rattle.seqs.specs.Over.{over}
 use Rattle.words.specs.Words.{wordAt}
 use Rattle.fields.specs.declared.Decoded.{Decoded}
 use Rattle.fields.specs.declared.Decoded.the-variants.{Use, Unsupported, Unknown}
-use Rattle.fields.specs.Kinds.{decoded}
+use Rattle.fields.specs.Kinds.{decoded, archX64}
 use Rattle.relax.specs.declared.LayoutEvent.{LayoutEvent}
 use Rattle.relax.specs.declared.Segment.{Segment}
 use Rattle.relax.specs.Events.{eventAt, endOf, noEvent}
 use Rattle.buffer.specs.State.{none}
+use Rattle.buffer.specs.Tables.{mostEntries, mostCode, refWords, refSize, relocWords}
 use Rattle.recording.specs.Sound.{FormOf, RefsSound}
 use Rattle.recording.specs.View as tables
 use Rattle.recording.proofs.Views.{length-entries, getD-entries}
@@ -28,7 +29,7 @@ use Rattle.fresh.proofs.Segments.{placed-runs, length-placed}
 use Rattle.fresh.proofs.Loops.{length-runs}
 use Rattle.fresh.proofs.Within.{mapped-within, field-within}
 use Rattle.fresh.specs.Forms.{roleOf}
-use Rattle.pool.specs.Pool.{labelAt, bytesAt, poolStart, poolOffset, poolEvent, PoolRoom}
+use Rattle.pool.specs.Pool.{labelAt, bytesAt, poolStart, poolOffset, poolEvent, PoolRoom, pooledBound}
 use Rattle.pool.proofs.Pool.{from-poolStart, poolStart-bound, poolOffset-bound}
 use Rattle.layout.specs.Layout.{allEvents, finishedLength, Recorded, Rising, Labelled}
 use Rattle.layout.proofs.Pooling.{all-ordered, all-modest, length-all}
@@ -62,7 +63,7 @@ take-segments (x ∷ xs) ys o n c = ap (λ l. segment o n x (isLong c) ∷ l) (t
 
 module _ {code labels events constants asked : List ℕ} {len count n m : ℕ} (ready : Ready code labels events constants asked 2 len count n m)
     (before ss : List Segment) (c : Choice) (laid : ss ≡ over before 0 (segments 0 0 (allEvents events n len constants asked m) c))
-    (few : n + m ≤ 65536) (room : n + m ≤ length before) where
+    (few : n + m ≤ mostEntries) (room : n + m ≤ length before) where
   abbrev es : List LayoutEvent
   es = allEvents events n len constants asked m
 
@@ -109,7 +110,7 @@ module _ {code labels events constants asked : List ℕ} {len count n m : ℕ} (
 
   -- the recorded code alone, in good order
   alone : Pooled
-  alone = record { arch = 2; code = take len code; events = tables.entries (eventAt events) n; labels = []; uses = []; refs = []; pool = [] }
+  alone = record { arch = archX64; code = take len code; events = tables.entries (eventAt events) n; labels = []; uses = []; refs = []; pool = [] }
 
   alone-formed : WellFormed alone
   unfolding alone RefsLie PoolLies
@@ -133,7 +134,7 @@ module _ {code labels events constants asked : List ℕ} {len count n m : ℕ} (
 
 -- a bound label's offset is small
 pub landed-small : (code labels events constants asked : List ℕ) (arch len count n m : ℕ) (ready : Ready code labels events constants asked arch len count n m)
-    → (l : ℕ) → l < count → wordAt labels l ≢ none → wordAt labels l ≤ 22000000
+    → (l : ℕ) → l < count → wordAt labels l ≢ none → wordAt labels l ≤ pooledBound
 landed-small code labels events constants asked arch len count n m ready l h bound =
     omega (
       arith,
@@ -147,7 +148,7 @@ module _ {code labels events constants asked : List ℕ} {arch len count n m : �
   abbrev ends : ℕ
   ends = poolStart len constants asked m
 
-  pub end-small : poolStart len constants asked m ≤ 22000000
+  pub end-small : poolStart len constants asked m ≤ pooledBound
   end-small = omega (arith, ready .bytes .limit, ready .pool .few, poolStart-bound len constants asked m (ready .pool) m (omega arith))
 
   -- the jumps' labels, for the rounds
@@ -161,7 +162,7 @@ module _ {code labels events constants asked : List ℕ} {arch len count n m : �
   }
 
   -- the events and the pool, for 17
-  pub clearing : (refs : List ℕ) (f end : ℕ) → f * 16 ≤ length refs → n ≤ 65536 → end ≡ poolStart len constants asked m
+  pub clearing : (refs : List ℕ) (f end : ℕ) → f * refSize ≤ length refs → n ≤ mostEntries → end ≡ poolStart len constants asked m
       → Clearing refs events labels constants asked f n m len end
   clearing refs f end room few e = record {
     refs-room = room;
@@ -211,7 +212,7 @@ module _ {code labels events constants asked refs : List ℕ} {len count n m f :
   pub formed : (us : List tables.Use) → WellFormed (pooled·of us)
   formed us = well-formed code labels events constants asked len count n m ready us (tables.entries (tables.refAt refs) f) (clear-all us)
 
-  pub ref-beside : (us : List tables.Use) (i : ℕ) → i < f → Apart (pooled·of us) (wordAt refs (i * 4)) (sizeOf (decoded (wordAt refs (i * 4 + 2))))
+  pub ref-beside : (us : List tables.Use) (i : ℕ) → i < f → Apart (pooled·of us) (wordAt refs (i * refWords)) (sizeOf (decoded (wordAt refs (i * refWords + 2))))
   ref-beside us i h =
       let k : i < length (tables.entries (tables.refAt refs) f) = omega (arith, length-entries (tables.refAt refs) f) in
       let e = getD-entries (tables.refAt refs) f i any·ref h in
@@ -219,7 +220,7 @@ module _ {code labels events constants asked refs : List ℕ} {len count n m f :
       (ref-apart (pooled·of us) (getD (tables.entries (tables.refAt refs) f) i any·ref)
       (every-at (refClear (pooled·of us)) (tables.entries (tables.refAt refs) f) any·ref (clear-all us) i k))
 
-  ref-small : (i : ℕ) → i < f → wordAt refs (i * 4) ≤ 22000000
+  ref-small : (i : ℕ) → i < f → wordAt refs (i * refWords) ≤ pooledBound
   ref-small i h =
       omega (
         arith,
@@ -235,14 +236,14 @@ module _ {code labels events constants asked refs : List ℕ} {len count n m f :
       entry = omega (arith, referred .room);
       known = omega (arith, referred .entry i h .label, ready .room);
       recorded = λ bound. omega (arith, ref-small i h);
-      bound = λ bound. omega (arith, landed-small code labels events constants asked 2 len count n m ready (wordAt refs (i * 4 + 1)) (referred .entry i h .label) bound);
+      bound = λ bound. omega (arith, landed-small code labels events constants asked 2 len count n m ready (wordAt refs (i * refWords + 1)) (referred .entry i h .label) bound);
     };
   }
 
   module _ (before ss : List Segment) (c : Choice) (laid : ss ≡ over before 0 (segments 0 0 (allEvents events n len constants asked m) c))
-      (few : n + m ≤ 65536) (room : n + m ≤ length before) (chosen : length c ≡ n + m) (final output : List ℕ)
+      (few : n + m ≤ mostEntries) (room : n + m ≤ length before) (chosen : length c ≡ n + m) (final output : List ℕ)
       (moved : (l : ℕ) → l < count → wordAt final l ≡ mapOffset (take (n + m) ss) (wordAt labels l)) (same : length final ≡ length labels)
-      (fits : finishedLength (allEvents events n len constants asked m) c (poolStart len constants asked m) ≤ length output) (limit : length output ≤ 16777216) where
+      (fits : finishedLength (allEvents events n len constants asked m) c (poolStart len constants asked m) ≤ length output) (limit : length output ≤ mostCode) where
     abbrev p : Pooled
     p = pooled·of []
 
@@ -266,11 +267,11 @@ module _ {code labels events constants asked refs : List ℕ} {len count n m f :
         entry = omega (arith, referred .room);
         known = omega (arith, same, referred .entry i h .label, ready .room);
         within =
-            within-size (decoded (wordAt refs (i * 4 + 2))) (mapOffset (take (n + m) ss) (wordAt refs (i * 4))) (length output)
+            within-size (decoded (wordAt refs (i * refWords + 2))) (mapOffset (take (n + m) ss) (wordAt refs (i * refWords))) (length output)
             (omega (
               arith,
-              ap (λ (ss : List Segment). mapOffset ss (wordAt refs (i * 4))) table,
-              mapped-within p c (formed []) (wordAt refs (i * 4)) (sizeOf (decoded (wordAt refs (i * 4 + 2)))) (omega (arith, ref-small i h)) (ref-beside [] i h),
+              ap (λ (ss : List Segment). mapOffset ss (wordAt refs (i * refWords))) table,
+              mapped-within p c (formed []) (wordAt refs (i * refWords)) (sizeOf (decoded (wordAt refs (i * refWords + 2)))) (omega (arith, ref-small i h)) (ref-beside [] i h),
               length-all-runs,
             ));
       };
@@ -369,8 +370,8 @@ module _ {labels events uses refs relocs : List ℕ} {arch symbols len count n u
   targets-named = record {
     known = λ i h ge.
         ⊎-elim
-        (λ (a : (wordAt relocs (i * 6 + 2) < 2147483648) × (wordAt relocs (i * 6 + 2) < symbols)). absurd (omega (arith, a .0, ge)))
-        (λ (b : (2147483648 ≤ wordAt relocs (i * 6 + 2)) × (wordAt relocs (i * 6 + 2) < 2147483648 + count)). omega (arith, b .1, ge, e .room))
+        (λ (a : (wordAt relocs (i * relocWords + 2) < 2147483648) × (wordAt relocs (i * relocWords + 2) < symbols)). absurd (omega (arith, a .0, ge)))
+        (λ (b : (2147483648 ≤ wordAt relocs (i * relocWords + 2)) × (wordAt relocs (i * relocWords + 2) < 2147483648 + count)). omega (arith, b .1, ge, e .room))
         (e .relocated .entry i h .target);
   }
 

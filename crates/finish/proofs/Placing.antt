@@ -7,6 +7,7 @@ use Prim.Native.Nat.{ℕ, _+_, _*_, _≤_, _<_}
 use native.Mathlib.Omega.{arith}
 use lib.Dec.{eqb, ltb}
 use lib.ListN.{length, take}
+use Rattle.refusals.specs.Numbers as refusals
 use Rattle.seqs.specs.Pick.{pick, first}
 use Rattle.seqs.proofs.Booleans.{true-is-not-false}
 use Rattle.seqs.proofs.Picking.{pick-yes, pick-no}
@@ -15,6 +16,7 @@ use Rattle.relax.specs.declared.LayoutEvent.{LayoutEvent}
 use Rattle.relax.specs.Events.{eventAt}
 use Rattle.relax.specs.declared.Segment.{Segment}
 use Rattle.buffer.specs.declared.CodeBuffer.{CodeBuffer}
+use Rattle.buffer.specs.Tables.{relocWords}
 use Rattle.recording.specs.Sound.{RefsSound}
 use Rattle.recording.specs.View as tables
 use Rattle.fresh.specs.Pooled.{Pooled}
@@ -69,8 +71,8 @@ module _ {b : CodeBuffer} {code labels events uses refs constants asked relocs o
         relocs-bound p labels relocs (b .labels) (b .relocs) refl
             (λ i h ge.
             ⊎-elim
-            (λ (a : (wordAt relocs (i * 6 + 2) < 2147483648) × (wordAt relocs (i * 6 + 2) < b .symbols)). absurd (omega (arith, a .0, ge)))
-            (λ (k : (2147483648 ≤ wordAt relocs (i * 6 + 2)) × (wordAt relocs (i * 6 + 2) < 2147483648 + b .labels)). omega (arith, k .1, ge))
+            (λ (a : (wordAt relocs (i * relocWords + 2) < 2147483648) × (wordAt relocs (i * relocWords + 2) < b .symbols)). absurd (omega (arith, a .0, ge)))
+            (λ (k : (2147483648 ≤ wordAt relocs (i * relocWords + 2)) × (wordAt relocs (i * relocWords + 2) < 2147483648 + b .labels)). omega (arith, k .1, ge))
             (x .entered .relocated .entry i h .target)),
         refs-bound p labels refs (b .labels) (b .refs) refl refl (λ i h. x .entered .referred .entry i h .label),
         jumps-bound p labels events constants asked (b .labels) (b .code) (b .events) (cond (eqb (b .arch) 2) (b .asked) 0) refl events-are
@@ -122,7 +124,7 @@ module _ {b : CodeBuffer} {code labels events uses refs constants asked relocs o
   module _ {bound : Bool}
       (bound·answer : bound ≡ (checked.usesBound uses (b .uses) labels
       && (checked.relocsBound relocs (b .relocs) labels && (checked.refsBound refs (b .refs) labels && checked.jumpsBound events (b .events) labels)))) where
-    pub placed-unbound : {r : Outcome} → bound ≡ false → r ≡ refusedWith 15 → (ss : List Segment) → (r, (labels, (relocs, (ss, output)))) ≡ placedAs p b labels relocs ss output
+    pub placed-unbound : {r : Outcome} → bound ≡ false → r ≡ refusedWith refusals.unboundLabel → (ss : List Segment) → (r, (labels, (relocs, (ss, output)))) ≡ placedAs p b labels relocs ss output
     unfolding placedAs
     placed-unbound e er ss = rw (er, bound-is ∙ sym bound·answer) (sym (pick-no bound _ _ e))
 
@@ -137,7 +139,7 @@ module _ {b : CodeBuffer} {code labels events uses refs constants asked relocs o
 
       -- with a jump: 16 and 17, or a layout
       module _ (jumps : jump ≡ true) {why : ℕ}
-          (why·answer : why ≡ first ((ltb segments (b .events + b .asked), 16) ∷ (not (checked.refsClear refs (b .refs) events (b .events) (b .code) constants asked (b .asked)), 17) ∷ [])) where
+          (why·answer : why ≡ first ((ltb segments (b .events + b .asked), refusals.tooFewSegments) ∷ (not (checked.refsClear refs (b .refs) events (b .events) (b .code) constants asked (b .asked)), refusals.refOverlaps) ∷ [])) where
         relaxes : Relaxable code labels events refs constants asked relocs output segments (b .code) (b .labels) (b .events) (b .asked) (b .refs) (b .relocs)
         relaxes = relaxable (sym jump·answer ∙ jumps)
 

@@ -9,6 +9,7 @@ use lib.ListN.{length, replicate, length-append}
 use Rattle.words.specs.Words.{wordAt}
 use Rattle.relax.specs.declared.LayoutEvent.{LayoutEvent}
 use Rattle.buffer.specs.Calls.{padding}
+use Rattle.buffer.specs.Tables.{labelSize}
 use Rattle.recording.specs.View.{entries, View}
 use Rattle.recording.proofs.Views.{word-set}
 use Rattle.fresh.specs.Pooled.{Pooled, pooledOne, askedConstant, pooledTo}
@@ -19,7 +20,7 @@ use Rattle.finish.specs.Tables.{poolPlaced, tablesPooled}
 -- what ties the tables to the view: of each of the first n constants asked for, its entry, its size, its label's place, and an offset of 32 bits
 pub record Tied (v : View) (labels constants asked : List ℕ) (count n : ℕ) : Type 0 where
   pub labelled : v .labels ≡ entries (wordAt labels) count
-  pub room : count * 4 ≤ length labels
+  pub room : count * labelSize ≤ length labels
   pub constant : (j : ℕ) → j < n → askedConstant v j ≡ record { bytes = bytesAt constants asked j; label = labelAt constants asked j }
   pub sized : (j : ℕ) → j < n → length (bytesAt constants asked j) ≡ sizeAt constants asked j
   pub known : (j : ℕ) → j < n → labelAt constants asked j < count
@@ -54,7 +55,7 @@ one-more : (arch : ℕ) (code : List ℕ) (events : List LayoutEvent) (labels co
     → p .pool ≡ entries (poolPlaced from constants asked) n
     → length (p .code) ≡ poolStart from constants asked n
     → length (bytesAt constants asked n) ≡ sizeAt constants asked n
-    → count * 4 ≤ length labels → labelAt constants asked n < count → poolOffset from constants asked n < 4294967296
+    → count * labelSize ≤ length labels → labelAt constants asked n < count → poolOffset from constants asked n < 4294967296
     → pooledOne p (record { bytes = bytesAt constants asked n; label = labelAt constants asked n })
     ≡ record {
       arch = arch;

@@ -9,6 +9,7 @@ use lib.Seq.{length-take-le}
 use Rattle.seqs.proofs.Numbers.{lt-or-ge, eq-or-ne}
 use Rattle.words.specs.Words.{wordAt}
 use Rattle.buffer.specs.State.{none}
+use Rattle.buffer.specs.Tables.{mostEntries, constantSize, constantHead}
 use Rattle.recording.specs.Calls.{Recording}
 use Rattle.recording.specs.Sound.{Sound}
 use Rattle.recording.specs.View.{entries, constantAt, view}
@@ -34,7 +35,7 @@ owner constants asked l (suc n) =
     (owner constants asked l n))
     (eq-or-ne l (labelAt constants asked n))
 
-module _ (r : Recording) (s : Sound r) (few : r .buffer .asked ≤ 65536) where
+module _ (r : Recording) (s : Sound r) (few : r .buffer .asked ≤ mostEntries) where
   -- a constant that was asked for lies in its table and has a label
   known-constant : (j : ℕ) → j < r .buffer .asked → wordAt (r .asked) j < r .buffer .constants
   known-constant j h = s .asked .listed j h .0
@@ -71,8 +72,8 @@ module _ (r : Recording) (s : Sound r) (few : r .buffer .asked ≤ 65536) where
         room = omega (arith, s .labels .room);
         constant = λ j h. rw (getD-entries (wordAt (r .asked)) (r .buffer .asked) j 0 h) (getD-entries (constantAt (r .constants)) (r .buffer .constants) (wordAt (r .asked) j) _ (known-constant j h));
         sized = λ j h.
-            length-take-le (sizeAt (r .constants) (r .asked) j) (drop (wordAt (r .asked) j * 72 + 8) (r .constants))
-            (omega (arith, length-drop (wordAt (r .asked) j * 72 + 8) (r .constants), pool-fits .listed j h, pool-fits .sized j h));
+            length-take-le (sizeAt (r .constants) (r .asked) j) (drop (wordAt (r .asked) j * constantSize + constantHead) (r .constants))
+            (omega (arith, length-drop (wordAt (r .asked) j * constantSize + constantHead) (r .constants), pool-fits .listed j h, pool-fits .sized j h));
         known = known-label;
         small = λ j h. rw code-length (omega (arith, s .code .limit, poolOffset-bound (r .buffer .code) (r .constants) (r .asked) (r .buffer .asked) pool-fits j h, few));
       }

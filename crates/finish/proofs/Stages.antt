@@ -8,6 +8,7 @@ use native.Mathlib.Omega.{arith}
 use borrow.Author.Tests.{ltb-false, not-false}
 use lib.Dec.{ltb}
 use lib.ListN.{length, take, drop, replicate}
+use Rattle.refusals.specs.Numbers as refusals
 use Rattle.seqs.specs.Over.{over}
 use Rattle.seqs.specs.Pick.{first, orElse}
 use Rattle.seqs.proofs.Numbers.{lt-or-ge, eq-or-ne}
@@ -22,6 +23,7 @@ use Rattle.relax.specs.declared.LayoutEvent.{LayoutEvent}
 use Rattle.relax.specs.declared.Segment.{Segment}
 use Rattle.relax.specs.Events.{eventAt}
 use Rattle.buffer.specs.State.{none}
+use Rattle.buffer.specs.Tables.{mostEntries, useWords, refWords}
 use Rattle.recording.specs.View as tables
 use Rattle.recording.proofs.Views.{getD-entries}
 use Rattle.fresh.specs.Pooled.{Pooled}
@@ -62,13 +64,13 @@ each-reached uses labels len (suc n) h i k =
     let both = neither (whyUses uses labels len n) (whyUnreached uses labels len n) h in
     ⊎-elim (λ (lt : i < n). each-reached uses labels len n (both .0) i lt) (λ ge. let e : i ≡ n = omega arith in rw e (both .1)) (lt-or-ge i n)
 
-field-within : (uses labels : List ℕ) (len i : ℕ) → whyUnreached uses labels len i ≡ 0 → wordAt uses (i * 3) + sizeOf (decoded (wordAt uses (i * 3 + 2))) ≤ len
+field-within : (uses labels : List ℕ) (len i : ℕ) → whyUnreached uses labels len i ≡ 0 → wordAt uses (i * useWords) + sizeOf (decoded (wordAt uses (i * useWords + 2))) ≤ len
 unfolding whyUnreached
-field-within uses labels len i h = ltb-false _ _ (passed _ 19 _ (λ e. omega arith) h .0)
+field-within uses labels len i h = ltb-false _ _ (passed _ refusals.usePastEnd _ (λ e. omega arith) h .0)
 
 module _ (code labels uses constants asked : List ℕ) (arch len count u m : ℕ) (es : List LayoutEvent) (rs : List tables.Ref)
     (k : Keepable code labels uses constants asked len count u m) (output : List ℕ) (end why : ℕ) (ends : end ≡ poolStart len constants asked m)
-    (answer : why ≡ orElse (whyUses uses labels end u) (first ((ltb (length output) end, 23) ∷ []))) where
+    (answer : why ≡ orElse (whyUses uses labels end u) (first ((ltb (length output) end, refusals.outputTooSmall) ∷ []))) where
   abbrev q : Pooled
   q = tablesPooled arch len (take len code) (tables.entries (wordAt labels) count) es (tables.entries (tables.useAt uses) u) rs constants asked m
 
@@ -84,13 +86,13 @@ module _ (code labels uses constants asked : List ℕ) (arch len count u m : ℕ
   kept-refused r ne e = rw (e, why-is) (sym (no-eq why 0 _ _ ne))
 
   module _ (none·wrong : why ≡ 0) where
-    passed·all : (whyUses uses labels end u ≡ 0) × (first ((ltb (length output) end, 23) ∷ []) ≡ 0)
-    passed·all = neither (whyUses uses labels end u) (first ((ltb (length output) end, 23) ∷ [])) (sym answer ∙ none·wrong)
+    passed·all : (whyUses uses labels end u ≡ 0) × (first ((ltb (length output) end, refusals.outputTooSmall) ∷ []) ≡ 0)
+    passed·all = neither (whyUses uses labels end u) (first ((ltb (length output) end, refusals.outputTooSmall) ∷ [])) (sym answer ∙ none·wrong)
 
     fits : end ≤ length output
-    fits = ltb-false (length output) end (passed (ltb (length output) end) 23 0 (λ e. omega arith) (passed·all .1) .0)
+    fits = ltb-false (length output) end (passed (ltb (length output) end) refusals.outputTooSmall 0 (λ e. omega arith) (passed·all .1) .0)
 
-    within : (i : ℕ) → i < u → wordAt uses (i * 3) + sizeOf (decoded (wordAt uses (i * 3 + 2))) ≤ end
+    within : (i : ℕ) → i < u → wordAt uses (i * useWords) + sizeOf (decoded (wordAt uses (i * useWords + 2))) ≤ end
     within i h = field-within uses labels end i (each-reached uses labels end u (passed·all .0) i h)
 
     -- what the code is copied from
@@ -105,7 +107,7 @@ module _ (code labels uses constants asked : List ℕ) (arch len count u m : ℕ
         each = λ i h. record {
           entry = omega (arith, k .used-room);
           known = omega (arith, k .known i h, k .room);
-          within = within-size (decoded (wordAt uses (i * 3 + 2))) (wordAt uses (i * 3)) (length output) (omega (arith, within i h, fits));
+          within = within-size (decoded (wordAt uses (i * useWords + 2))) (wordAt uses (i * useWords)) (length output) (omega (arith, within i h, fits));
         };
       };
       named = k .named;
@@ -136,17 +138,17 @@ reach-all refs labels ss k (suc f) = rw (reach-all refs labels ss k f)
 -- what nothing refused before the layout says
 module _ {code labels events refs constants asked relocs output : List ℕ} {cap len count n m f l : ℕ}
     (x : Layable code labels events refs constants asked relocs output cap len count n m f l) where
-  early·passed : (ltb cap (n + m) ≡ false) × (first ((not (refsClear refs f events n len constants asked m), 17) ∷ []) ≡ 0)
-  early·passed = passed (ltb cap (n + m)) 16 _ (λ e. omega arith) (sym (x .unrefused))
+  early·passed : (ltb cap (n + m) ≡ false) × (first ((not (refsClear refs f events n len constants asked m), refusals.refOverlaps) ∷ []) ≡ 0)
+  early·passed = passed (ltb cap (n + m)) refusals.tooFewSegments _ (λ e. omega arith) (sym (x .unrefused))
 
   pub room : n + m ≤ cap
   room = ltb-false cap (n + m) (early·passed .0)
 
-  pub few : n + m ≤ 65536
+  pub few : n + m ≤ mostEntries
   few = omega (arith, room, x .relaxable .segments-limit)
 
   pub clear : refsClear refs f events n len constants asked m ≡ true
-  clear = not-false _ (passed (not (refsClear refs f events n len constants asked m)) 17 0 (λ e. omega arith) (early·passed .1) .0)
+  clear = not-false _ (passed (not (refsClear refs f events n len constants asked m)) refusals.refOverlaps 0 (λ e. omega arith) (early·passed .1) .0)
 
 pub segments-are : {es : List LayoutEvent} {labels : ℕ → ℕ} {from layouts len : ℕ} {ss ss′ : List Segment} {initial c : Choice}
     → Relaxed es labels initial from ss ss′ c layouts len → ss′ ≡ over ss 0 (segments 0 0 es c)
@@ -166,11 +168,11 @@ module _ {code labels events refs constants asked relocs output : List ℕ} {len
   p-length : length (p .code) ≡ poolStart len constants asked m
   p-length = pooled-length code labels events constants asked len count n m (x .ready) us (tables.entries (tables.refAt refs) f)
 
-  early-is : whyNotLaid p (length ss) ≡ first ((ltb (length ss) (n + m), 16) ∷ (not (refsClear refs f events n len constants asked m), 17) ∷ [])
+  early-is : whyNotLaid p (length ss) ≡ first ((ltb (length ss) (n + m), refusals.tooFewSegments) ∷ (not (refsClear refs f events n len constants asked m), refusals.refOverlaps) ∷ [])
   unfolding whyNotLaid
   early-is = rw (length-all events n len constants asked m, refs-clear p refs events constants asked f n m len refl refl p-length)
 
-  module _ {early : ℕ} (early·answer : early ≡ first ((ltb (length ss) (n + m), 16) ∷ (not (refsClear refs f events n len constants asked m), 17) ∷ [])) where
+  module _ {early : ℕ} (early·answer : early ≡ first ((ltb (length ss) (n + m), refusals.tooFewSegments) ∷ (not (refsClear refs f events n len constants asked m), refusals.refOverlaps) ∷ [])) where
     pub refused-early : {r : Outcome} → early ≢ 0 → r ≡ refusedWith early
         → (r, (labels, (relocs, (ss, output)))) ≡ relaxed p l labels relocs ss output
     unfolding relaxed
@@ -213,22 +215,22 @@ module _ {code labels events refs constants asked relocs output : List ℕ} {len
             every-entries (refReaches p c) (tables.refAt refs) (λ (i : ℕ). emit.refReaches refs labels ss′ (n + m) i) f
             (λ i h.
             rw (
-              target-map p c wf (wordAt refs (i * 4 + 1)),
-              getD-entries (wordAt labels) count (wordAt refs (i * 4 + 1)) none (x .referred .entry i h .label),
-              moved-map p c wf (wordAt refs (i * 4)) (apart-lies p (wordAt refs (i * 4)) _ (ref-beside (x .ready) (x .referred) (clear y) us i h)),
+              target-map p c wf (wordAt refs (i * refWords + 1)),
+              getD-entries (wordAt labels) count (wordAt refs (i * refWords + 1)) none (x .referred .entry i h .label),
+              moved-map p c wf (wordAt refs (i * refWords)) (apart-lies p (wordAt refs (i * refWords)) _ (ref-beside (x .ready) (x .referred) (clear y) us i h)),
               table-is,
             )
-            (field-reaches (decoded (wordAt refs (i * 4 + 2))) _ _ _))
+            (field-reaches (decoded (wordAt refs (i * refWords + 2))) _ _ _))
             ∙ reach-all refs labels ss′ (n + m) f
 
-        late-is : whyNotWritten p (length output) ≡ first ((not (emit.refsReach refs labels ss′ (n + m) f), 18) ∷ (ltb (length output) len′, 23) ∷ [])
+        late-is : whyNotWritten p (length output) ≡ first ((not (emit.refsReach refs labels ss′ (n + m) f), refusals.refOutOfReach) ∷ (ltb (length output) len′, refusals.outputTooSmall) ∷ [])
         unfolding whyNotWritten
         late-is = rw (← choice-is, reach-is, ← len-is)
 
         segments-settled : ss′ ≡ settledSegments p ss
         segments-settled = rw (← choice-is) (segments-are laid)
 
-        module _ {late : ℕ} (late·answer : late ≡ first ((not (emit.refsReach refs labels ss′ (n + m) f), 18) ∷ (ltb (length output) len′, 23) ∷ [])) where
+        module _ {late : ℕ} (late·answer : late ≡ first ((not (emit.refsReach refs labels ss′ (n + m) f), refusals.refOutOfReach) ∷ (ltb (length output) len′, refusals.outputTooSmall) ∷ [])) where
           pub refused-late : {r : Outcome} → late ≢ 0 → r ≡ refusedWith late
               → (r, (labels, (relocs, (ss′, output)))) ≡ relaxed p l labels relocs ss output
           unfolding relaxed
@@ -242,8 +244,8 @@ module _ {code labels events refs constants asked relocs output : List ℕ} {len
             code-fits =
                 rw (← len-is)
                 (ltb-false (length output) len′
-                (passed (ltb (length output) len′) 23 0 (λ e. omega arith)
-                (passed (not (emit.refsReach refs labels ss′ (n + m) f)) 18 _ (λ e. omega arith) (sym late·answer ∙ none·late) .1) .0))
+                (passed (ltb (length output) len′) refusals.outputTooSmall 0 (λ e. omega arith)
+                (passed (not (emit.refsReach refs labels ss′ (n + m) f)) refusals.refOutOfReach _ (λ e. omega arith) (sym late·answer ∙ none·late) .1) .0))
 
             label-small : (i : ℕ) → i < count → mapOffset (take (n + m) ss′) (wordAt labels i) < 4294967296
             unfolding mapOffset

@@ -15,6 +15,7 @@ use Rattle.relax.specs.declared.LayoutEvent.{LayoutEvent}
 use Rattle.relax.specs.declared.Segment.{Segment}
 use Rattle.relax.specs.Events.{eventAt}
 use Rattle.buffer.specs.State.{none}
+use Rattle.buffer.specs.Tables.{useWords, refWords}
 use Rattle.recording.specs.View as tables
 use Rattle.recording.proofs.Views.{length-entries, getD-entries}
 use Rattle.fresh.specs.Pooled.{Placed, Pooled}
@@ -42,7 +43,7 @@ pub record Placing (code labels final events refs constants asked : List ℕ) (l
   pub ready : Ready code labels events constants asked 2 len count n m
   pub clear : every (refClear (tablesPooled 2 len (take len code) (tables.entries (wordAt labels) count) (tables.entries (eventAt events) n) us (tables.entries (tables.refAt refs) f) constants asked m)) (tables.entries (tables.refAt refs) f) ≡ true
   pub laid : take (n + m) ss ≡ segmentsOf (tablesPooled 2 len (take len code) (tables.entries (wordAt labels) count) (tables.entries (eventAt events) n) us (tables.entries (tables.refAt refs) f) constants asked m) c
-  pub known : (i : ℕ) → i < f → wordAt refs (i * 4 + 1) < count
+  pub known : (i : ℕ) → i < f → wordAt refs (i * refWords + 1) < count
   pub named : (i : ℕ) (b : Branch) → i < n → roleOf (eventAt events i) ≡ branches b → b .label < count
   pub moved : (l : ℕ) → l < count → wordAt final l ≡ mapOffset (take (n + m) ss) (wordAt labels l)
 
@@ -121,7 +122,7 @@ module _ (code labels final events refs constants asked : List ℕ) (len count n
       let whole : laid ≡ over output 0 (runs 2 0 0 (p .code) (p .events) c)
       = rw (el, ep, et, all-runs) (over-at output recorded (poolBytes 2 (length recorded) constants asked m) (length recorded) refl) in
       rw (
-        refs-filled laid refs final (p .labels) ss (segmentsOf p c) (n + m) f (pl .laid) (λ i h. label-at (wordAt refs (i * 4 + 1)) (pl .known i h)),
+        refs-filled laid refs final (p .labels) ss (segmentsOf p c) (n + m) f (pl .laid) (λ i h. label-at (wordAt refs (i * refWords + 1)) (pl .known i h)),
         jumps-filled (fillRefs at (p .labels) (p .refs) laid) events final constants asked c ss named (newStarts (segmentsOf p c)) n len m starts-at
             (λ i b h r. label-at (b .label) (pl .named i b h r)),
         pool-filled (fillJumps named (p .events) c (newStarts (segmentsOf p c)) (fillRefs at (p .labels) (p .refs) laid)) final constants asked at len m pool-at,
@@ -152,13 +153,13 @@ module _ (code labels uses constants asked : List ℕ) (arch len count u m : ℕ
       → placed ≡ over output 0 (take len code)
       → laid ≡ over placed len (poolBytes arch len constants asked m)
       → poolStart len constants asked m ≤ length output
-      → ((i : ℕ) → i < u → wordAt uses (i * 3) + sizeOf (decoded (wordAt uses (i * 3 + 2))) ≤ poolStart len constants asked m)
+      → ((i : ℕ) → i < u → wordAt uses (i * useWords) + sizeOf (decoded (wordAt uses (i * useWords + 2))) ≤ poolStart len constants asked m)
       → poolWritten (usesFilled laid uses labels u) labels constants asked m ≡ over output 0 (inPlace q)
   unfolding inPlace
   code-kept output placed laid ep el fits within =
       let front : laid ≡ over output 0 (q .code) = rw (el, ep) (over-at output (take len code) (poolBytes arch len constants asked m) len (length-take-le len code (k .bytes .room))) in
       rw (
-        uses-filled laid uses labels (q .labels) u (λ i h. sym (getD-entries (wordAt labels) count (wordAt uses (i * 3 + 1)) none (k .known i h))),
+        uses-filled laid uses labels (q .labels) u (λ i h. sym (getD-entries (wordAt labels) count (wordAt uses (i * useWords + 1)) none (k .known i h))),
         pool-filled (fillUses (q .labels) (q .uses) laid) labels constants asked (λ (offset : ℕ). offset) len m (k .stands),
         front,
       )
@@ -166,7 +167,7 @@ module _ (code labels uses constants asked : List ℕ) (arch len count u m : ℕ
       (λ i h kind e.
       let lt : i < u = omega (arith, length-entries (tables.useAt uses) u) in
       let same = getD-entries (tables.useAt uses) u i any·use lt in
-      rw (same, kept-length) (subst (λ (s : ℕ). wordAt uses (i * 3) + s ≤ poolStart len constants asked m) (ap sizeOf (ap (λ (x : tables.Use). decoded (x .code)) (sym same) ∙ e)) (within i lt)))
+      rw (same, kept-length) (subst (λ (s : ℕ). wordAt uses (i * useWords) + s ≤ poolStart len constants asked m) (ap sizeOf (ap (λ (x : tables.Use). decoded (x .code)) (sym same) ∙ e)) (within i lt)))
       (λ i h.
       let lt : i < m = omega (arith, length-entries (poolPlaced len constants asked) m) in
       rw (getD-entries (poolPlaced len constants asked) m i any·constant lt, kept-length, constant-size constants asked m (k .pool) i lt)

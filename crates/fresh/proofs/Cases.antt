@@ -9,6 +9,7 @@ use lib.Dec.{lit≤}
 use lib.ListN.{getD, replicate}
 use borrow.Author.Tests.{eqb-false}
 use Rattle.encoder.specs.Padding.{paddingLength}
+use Rattle.fields.specs.Kinds.{archX64}
 use Rattle.relax.specs.declared.Condition.the-variants.{Always}
 use Rattle.relax.specs.declared.LayoutEvent.{LayoutEvent}
 use Rattle.relax.specs.declared.LayoutEvent.the-variants.{Jump, Align}
@@ -26,7 +27,7 @@ jmp start label = Jump (record { start = start; len = 5; label = label; cc = Alw
 
 -- events over zeros
 abbrev zeros : ℕ → List LayoutEvent → List ℕ → Pooled
-zeros n es labels = record { arch = 2; code = replicate n 0; events = es; labels = labels; uses = []; refs = []; pool = [] }
+zeros n es labels = record { arch = archX64; code = replicate n 0; events = es; labels = labels; uses = []; refs = []; pool = [] }
 
 -- A label at an alignment of length 0 goes behind the padding that it gains: 2 bytes of jump, 11 plain ones, 3 of padding.
 pub behind-gained-padding : moved (zeros 16 (jmp 0 0 ∷ Align (record { start = 16; len = 0; align = 16 }) ∷ []) (16 ∷ [])) (false ∷ false ∷ []) 16 ≡ 16

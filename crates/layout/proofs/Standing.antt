@@ -11,6 +11,7 @@ use Rattle.seqs.proofs.Overwrites.{length-over, take-over-end, getD-over-after}
 use Rattle.relax.specs.declared.LayoutEvent.{LayoutEvent}
 use Rattle.relax.specs.declared.Segment.{Segment}
 use Rattle.relax.specs.Events.{eventAt}
+use Rattle.buffer.specs.Tables.{mostEntries}
 use Rattle.recording.specs.View.{entries}
 use Rattle.fresh.specs.Forms.{pads, roleOf}
 use Rattle.fresh.specs.Fresh.{Choice, isLong, others}
@@ -201,7 +202,7 @@ module _ (events : List ℕ) (n code : ℕ) (constants asked : List ℕ) (m : �
 
 -- The table of a layout is as the scan wants it.
 pub rising-all : (events : List ℕ) (n code : ℕ) (constants asked : List ℕ) (m : ℕ) (c : Choice) (ss ss′ : List Segment) → Recorded events n code
-    → PoolFits constants asked m → n + m ≤ 65536 → n + m ≤ length ss → ss′ ≡ over ss 0 (segments 0 0 (allEvents events n code constants asked m) c)
+    → PoolFits constants asked m → n + m ≤ mostEntries → n + m ≤ length ss → ss′ ≡ over ss 0 (segments 0 0 (allEvents events n code constants asked m) c)
     → Rising ss′ (n + m)
 rising-all events n code constants asked m c ss ss′ rec fits few room laid =
     let size = length-all events n code constants asked m in

@@ -10,12 +10,14 @@ use Rattle.seqs.proofs.Overwrites.{length-over, getD-over-in, take-over-end}
 use Rattle.relax.specs.declared.LayoutEvent.{LayoutEvent}
 use Rattle.relax.specs.declared.Segment.{Segment}
 use Rattle.relax.specs.Events.{startOf, noEvent}
+use Rattle.buffer.specs.Tables.{mostEntries}
 use Rattle.fresh.specs.Fresh.{Choice}
 use Rattle.fresh.specs.Segments.{segments}
 use Rattle.fresh.proofs.Shape.{Ordered, Modest, after, segmentAt}
 use Rattle.fresh.proofs.Events.{starts-rise}
 use Rattle.fresh.proofs.Forms.{width-small}
 use Rattle.fresh.proofs.Loops.{length-segments, segments-getD, after-le, after-start, modest-at}
+use Rattle.pool.specs.Pool.{pooledBound}
 use Rattle.layout.specs.Layout.{zeroSegment, Rising}
 
 module _ (before ss : List Segment) (es : List LayoutEvent) (c : Choice) (laid : ss ≡ over before 0 (segments 0 0 es c)) (room : length es ≤ length before) where
@@ -38,7 +40,7 @@ module _ (before ss : List Segment) (es : List LayoutEvent) (c : Choice) (laid :
       ∙ segments-getD es 0 0 c i zeroSegment h)
 
   -- It is as `map` wants it.
-  pub rising-laid : (len : ℕ) → Ordered 0 len es → Modest es → len ≤ 22000000 → length es ≤ 65536 → Rising ss (length es)
+  pub rising-laid : (len : ℕ) → Ordered 0 len es → Modest es → len ≤ pooledBound → length es ≤ mostEntries → Rising ss (length es)
   unfolding segmentAt
   rising-laid len o m small few = record {
     fits = omega (arith, length-laid);

@@ -10,6 +10,7 @@ use Rattle.seqs.proofs.Overwrites.{over-nil, over-snoc}
 use Rattle.relax.specs.declared.LayoutEvent.{LayoutEvent}
 use Rattle.relax.specs.declared.Segment.{Segment}
 use Rattle.relax.specs.Events.{eventAt, endOf, startOf}
+use Rattle.buffer.specs.Tables.{mostEntries, mostCode}
 use Rattle.recording.specs.View.{entries}
 use Rattle.fresh.specs.Fresh.{Choice, others}
 use Rattle.fresh.specs.Segments.{segment, segments}
@@ -17,7 +18,7 @@ use Rattle.fresh.proofs.Shape.{Ordered, Small, Modest, Cursor, after}
 use Rattle.fresh.proofs.Events.{ordered-le}
 use Rattle.fresh.proofs.Choices.{isLong-getD, others-getD}
 use Rattle.fresh.proofs.Loops.{length-segments, segments-snoc, after-le}
-use Rattle.pool.specs.Pool.{offsetBound}
+use Rattle.pool.specs.Pool.{offsetBound, pooledBound}
 use Rattle.layout.specs.Layout.{Follows, Recorded, Laid}
 use Rattle.recording.proofs.Views.{length-entries}
 use Rattle.layout.proofs.Entries.{entries-split}
@@ -57,7 +58,7 @@ after-snoc [] o n c e = rw (isLong-getD c) refl
 after-snoc (x ∷ es) o n c e = after-snoc es (endOf x) _ (others c) e ∙ rw (others-getD c (length es)) refl
 
 module _ (before ss : List Segment) (es : List LayoutEvent) (c : Choice) (old new : ℕ) (laid : Laid before ss es c old new) (e : LayoutEvent) where
-  follows : (len : ℕ) → Ordered 0 len (es ++ (e ∷ [])) → Modest (es ++ (e ∷ [])) → len ≤ 22000000 → length es ≤ 65536 → Follows e old new
+  follows : (len : ℕ) → Ordered 0 len (es ++ (e ∷ [])) → Modest (es ++ (e ∷ [])) → len ≤ pooledBound → length es ≤ mostEntries → Follows e old new
   follows len o m l k =
       let low = last-ordered es 0 0 len c e o in
       let sum = after-le es 0 0 len c (length es) (prefix-modest es (e ∷ []) m) (prefix-ordered es (e ∷ []) 0 len o) (omega arith) in
@@ -85,7 +86,7 @@ unfolding after segments
 laid-none before c = record { table = sym (over-nil before 0); here = refl }
 
 -- The recorded events.
-module _ {before ss : List Segment} {events : List ℕ} {n code : ℕ} {c : Choice} {old new i : ℕ} (rec : Recorded events n code) (few : n ≤ 65536)
+module _ {before ss : List Segment} {events : List ℕ} {n code : ℕ} {c : Choice} {old new i : ℕ} (rec : Recorded events n code) (few : n ≤ mostEntries)
     (laid : Laid before ss (entries (eventAt events) i) c old new) (more : i < n) where
   rest : entries (eventAt events) n ≡ entries (eventAt events) (suc i) ++ entries (λ (j : ℕ). eventAt events (suc i + j)) (n - suc i)
   rest = let e : n ≡ suc i + (n - suc i) = omega arith in ap (λ (k : ℕ). entries (eventAt events) k) e ∙ entries-split (eventAt events) (suc i) (n - suc i)
@@ -106,16 +107,16 @@ unfolding Ordered
 ordered-more [] o n m h k = omega arith
 ordered-more (e ∷ es) o n m h k = (h .0, ordered-more es (endOf e) n m (h .1) k)
 
-pub recorded-more : (events : List ℕ) (n code : ℕ) → Recorded events n code → Recorded events n 16777216
+pub recorded-more : (events : List ℕ) (n code : ℕ) → Recorded events n code → Recorded events n mostCode
 recorded-more events n code rec = record {
   room = rec .room;
-  ordered = ordered-more (entries (eventAt events) n) 0 code 16777216 (rec .ordered) (rec .small);
+  ordered = ordered-more (entries (eventAt events) n) 0 code mostCode (rec .ordered) (rec .small);
   modest = rec .modest;
   small = omega arith;
 }
 
 -- What follows the recorded events stands at a small new offset.
-pub events-end : {before ss : List Segment} {events : List ℕ} {n code : ℕ} {c : Choice} {old new : ℕ} → Recorded events n code → n ≤ 65536
+pub events-end : {before ss : List Segment} {events : List ℕ} {n code : ℕ} {c : Choice} {old new : ℕ} → Recorded events n code → n ≤ mostEntries
     → Laid before ss (entries (eventAt events) n) c old new → (old ≤ code) × (new + (code - old) ≤ offsetBound)
 events-end {events = events} {n} {code} {c} rec few laid =
     let es = entries (eventAt events) n in

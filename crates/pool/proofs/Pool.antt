@@ -19,6 +19,7 @@ use Rattle.encoder.proofs.Padding.{padding-below}
 use Rattle.buffer.specs.State.{none}
 use Rattle.buffer.specs.Calls.{padding}
 use Rattle.buffer.proofs.Appends.{padding-length, over-padded}
+use Rattle.buffer.specs.Tables.{labelSize, constantSize, constantHead}
 use Rattle.fresh.specs.Pooled.{constantAlignment}
 use Rattle.pool.specs.Pool.{sizeAt, labelAt, bytesAt, poolStart, poolPadding, poolOffset, poolBytes, poolBound, poolUnbound, poolWritten, poolIsBound, PoolFits, PoolRoom}
 
@@ -187,18 +188,18 @@ pub room-turn : {output labels constants asked : List ℕ} {n j label offset siz
 room-turn {j = j} room h l o s = rw (o, l, s) (room .within j h)
 
 pub from-turn : {constants asked : List ℕ} {n j number size : ℕ} → PoolFits constants asked n → j < n
-    → number ≡ wordAt asked j → size ≡ sizeAt constants asked j → number * 72 + 8 + size ≤ length constants
+    → number ≡ wordAt asked j → size ≡ sizeAt constants asked j → number * constantSize + constantHead + size ≤ length constants
 from-turn {j = j} fits h e s = omega (arith, fits .listed j h, fits .sized j h)
 
 -- a turn of the loop that writes the constants' bytes
 pub written-turn : (output labels constants asked : List ℕ) (j : ℕ) (now : List ℕ) (size label offset number : ℕ) (part : List ℕ)
     → now ≡ poolWritten output labels constants asked j → size ≡ sizeAt constants asked j → label ≡ labelAt constants asked j → offset ≡ wordAt labels label
-    → number ≡ wordAt asked j → number * 72 + 8 + size ≤ length constants → offset + size ≤ length now
-    → let a = number * 72 + 8 in let k = a + size - a in let m = offset + size - offset in part ≡ over (take m (drop offset now)) 0 (take k (drop a constants))
+    → number ≡ wordAt asked j → number * constantSize + constantHead + size ≤ length constants → offset + size ≤ length now
+    → let a = number * constantSize + constantHead in let k = a + size - a in let m = offset + size - offset in part ≡ over (take m (drop offset now)) 0 (take k (drop a constants))
     → take offset now ++ (part ++ drop m (drop offset now)) ≡ poolWritten output labels constants asked (j + 1)
 unfolding poolWritten
 written-turn output labels constants asked j now size label offset number part e s l o n ha hb f =
-    let a = number * 72 + 8 in
+    let a = number * constantSize + constantHead in
     let k : a + size - a ≡ size = omega arith in
     let m : offset + size - offset ≡ size = omega arith in
     let bytes = take size (drop a constants) in
@@ -297,7 +298,7 @@ fewer constants asked n d = record { apart = λ i j h k. d .apart i j h (omega a
 
 -- a constant's label is where the constant stands
 pub poolBound-at : (from : ℕ) (labels constants asked : List ℕ) (n : ℕ) → Distinct constants asked n
-    → ((j : ℕ) → j < n → labelAt constants asked j * 4 + 4 ≤ length labels) → ((j : ℕ) → j < n → poolOffset from constants asked j < 4294967296)
+    → ((j : ℕ) → j < n → labelAt constants asked j * labelSize + labelSize ≤ length labels) → ((j : ℕ) → j < n → poolOffset from constants asked j < 4294967296)
     → (j : ℕ) → j < n → wordAt (poolBound from labels constants asked n) (labelAt constants asked j) ≡ poolOffset from constants asked j
 unfolding poolBound
 poolBound-at from labels constants asked zero d known small j h = absurd (not-suc-le-zero h)

@@ -20,6 +20,10 @@ use Rattle.fresh.specs.Pooled.{constantAlignment}
 abbrev pub offsetBound : ℕ
 offsetBound = 300000000
 
+-- nor in the recording and its pool, before any layout: the code and the constants alone
+abbrev pub pooledBound : ℕ
+pooledBound = 22000000
+
 -- the size, the label and the bytes of the constant that was asked for as number j
 abbrev pub sizeAt : List ℕ → List ℕ → ℕ → ℕ
 sizeAt constants asked j = wordAt constants (wordAt asked j * constantWords)

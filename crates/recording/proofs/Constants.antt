@@ -9,26 +9,27 @@ use Rattle.seqs.proofs.Numbers.{lt-or-ge, eq-or-ne}
 use Rattle.words.specs.Words.{wordAt, setWord}
 use Rattle.words.proofs.Laws.{length-setWord, wordAt-same, wordAt-other}
 use Rattle.buffer.specs.State.{none}
+use Rattle.buffer.specs.Tables.{mostEntries, askedSize, constantWords, constantSize}
 use Rattle.recording.specs.Sound.{ConstantSound, ConstantsSound, AskedSound, labelOf}
 use Rattle.recording.proofs.Tables.{Appended, one-more}
 
-module _ (t u : List ℕ) (n size : ℕ) (a : Appended t u (n * 18) (size ∷ none ∷ [])) where
+module _ (t u : List ℕ) (n size : ℕ) (a : Appended t u (n * constantWords) (size ∷ none ∷ [])) where
   old-label : (i : ℕ) → i < n → labelOf u i ≡ labelOf t i
-  old-label i l = a .below (i * 18 + 1) (omega arith)
+  old-label i l = a .below (i * constantWords + 1) (omega arith)
 
   new-label : labelOf u n ≡ none
   new-label = a .written 1 (omega arith)
 
-  pub append-constant : (labels : ℕ) → n < length t / 72 → length t / 72 ≤ 65536 → size ≤ 64 → ConstantsSound t n labels → ConstantsSound u (n + 1) labels
+  pub append-constant : (labels : ℕ) → n < length t / constantSize → length t / constantSize ≤ mostEntries → size ≤ 64 → ConstantsSound t n labels → ConstantsSound u (n + 1) labels
   append-constant labels room limit le s =
-      let at : n * 18 + 0 ≡ n * 18 = omega arith in
-      let w0 : wordAt u (n * 18) ≡ size = ap (λ (x : ℕ). wordAt u x) (sym at) ∙ a .written 0 (omega arith) in
+      let at : n * constantWords + 0 ≡ n * constantWords = omega arith in
+      let w0 : wordAt u (n * constantWords) ≡ size = ap (λ (x : ℕ). wordAt u x) (sym at) ∙ a .written 0 (omega arith) in
       record {
         room = rw (a .size) (omega arith);
         limit = omega arith;
         entry =
             one-more n (ConstantSound u labels)
-            (λ i l. let e = s .entry i l in record { size = rw (a .below (i * 18) (omega arith)) (e .size); label = rw (old-label i l) (e .label) })
+            (λ i l. let e = s .entry i l in record { size = rw (a .below (i * constantWords) (omega arith)) (e .size); label = rw (old-label i l) (e .label) })
             (record { size = rw w0 le; label = inl new-label });
       }
 
@@ -52,26 +53,26 @@ module _ (t u : List ℕ) (n size : ℕ) (a : Appended t u (n * 18) (size ∷ no
             (lt-or-ge c n);
       }
 
-module _ (t : List ℕ) (known labels c : ℕ) (is-known : c < known) (room : known ≤ length t / 72) (limit : labels ≤ 65536) (none-yet : labelOf t c ≡ none) where
+module _ (t : List ℕ) (known labels c : ℕ) (is-known : c < known) (room : known ≤ length t / constantSize) (limit : labels ≤ mostEntries) (none-yet : labelOf t c ≡ none) where
   abbrev labelled : List ℕ
-  labelled = setWord t (c * 18 + 1) labels
+  labelled = setWord t (c * constantWords + 1) labels
 
   its-label : labelOf labelled c ≡ labels
-  its-label = wordAt-same t (c * 18 + 1) labels (omega arith) (omega arith)
+  its-label = wordAt-same t (c * constantWords + 1) labels (omega arith) (omega arith)
 
   other-label : (i : ℕ) → i ≢ c → labelOf labelled i ≡ labelOf t i
-  other-label i h = wordAt-other t (c * 18 + 1) labels (i * 18 + 1) (λ e. let f : i ≡ c = omega arith in h f)
+  other-label i h = wordAt-other t (c * constantWords + 1) labels (i * constantWords + 1) (λ e. let f : i ≡ c = omega arith in h f)
 
   pub label-constant : ConstantsSound t known labels → ConstantsSound labelled known (labels + 1)
   label-constant s =
       record {
-        room = rw (length-setWord t (c * 18 + 1) labels) (s .room);
+        room = rw (length-setWord t (c * constantWords + 1) labels) (s .room);
         limit = s .limit;
         entry =
             λ i l.
             let e = s .entry i l in
             record {
-              size = rw (wordAt-other t (c * 18 + 1) labels (i * 18) (λ z. omega arith)) (e .size);
+              size = rw (wordAt-other t (c * constantWords + 1) labels (i * constantWords) (λ z. omega arith)) (e .size);
               label =
                   ⊎-elim
                   (λ same. inr (omega (arith, ap (λ (x : ℕ). labelOf labelled x) same, its-label)))
@@ -80,7 +81,7 @@ module _ (t : List ℕ) (known labels c : ℕ) (is-known : c < known) (room : kn
             };
       }
 
-  module _ (asked : List ℕ) (count : ℕ) (asked-room : count < length asked / 4) (constants : ConstantsSound t known labels) (s : AskedSound asked count t known) where
+  module _ (asked : List ℕ) (count : ℕ) (asked-room : count < length asked / askedSize) (constants : ConstantsSound t known labels) (s : AskedSound asked count t known) where
     abbrev listed-now : List ℕ
     listed-now = setWord asked count c
 

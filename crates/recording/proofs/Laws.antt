@@ -14,7 +14,7 @@ use Rattle.seqs.proofs.Booleans.{both-false}
 use Rattle.seqs.proofs.Picking.{pick-no, yes-eq, no-eq}
 use Rattle.words.proofs.Entries.{three-words, four-words, five-words, six-words}
 use Rattle.encoder.specs.Padding.{paddingLength}
-use Rattle.relax.specs.Events.{eventOf, setEvent}
+use Rattle.relax.specs.Events.{eventOf, setEvent, eventSize, eventWords}
 use Rattle.buffer.specs.declared.CodeBuffer.{CodeBuffer}
 use Rattle.buffer.specs.declared.Recorded.{Recorded}
 use Rattle.buffer.specs.declared.Made.{Made}
@@ -34,6 +34,7 @@ use Rattle.buffer.proofs.Accepted.{
   constant-label-accepted,
   reloc-accepted,
 }
+use Rattle.buffer.specs.Tables.{labelSize, useSize, refSize, constantSize, askedSize, relocSize, useWords, refWords, constantWords, constantHead, relocWords}
 use Rattle.recording.specs.Calls.{Recording, Word, Word64, bytes, newLabel, bind, align, use-label, ref, jump, constant, constant-label, relocation, withBuffer, withCodeTable, withLabelTable, withEventTable, withUseTable, withRefTable, withConstantTable, withAskedTable, withRelocTable, after, Call, answered}
 use Rattle.recording.specs.Sound.{labelOf, Sound}
 use Rattle.recording.specs.View.{constantAt, view, seeCode, seeLabels, seeEvents, seeUses, seeRefs, seeConstants, seeAsked, seeRelocs}
@@ -93,11 +94,11 @@ module _ (r : Recording) (s : Sound r) where
       ap (λ (a : Recorded × List ℕ). view (withCodeTable r (a .0 .buffer) (a .1))) (yes-eq _ 0 _ _ h)
       ∙ rw (take-over-end (r .code) (b .code) l (f .room))
 
-  pub see-new-label : whyLabel (r .buffer) (length (r .labels) / 4) ≡ 0 → view (after newLabel r) ≡ seeLabels (view r) (view r .labels ++ (none ∷ []))
+  pub see-new-label : whyLabel (r .buffer) (length (r .labels) / labelSize) ≡ 0 → view (after newLabel r) ≡ seeLabels (view r) (view r .labels ++ (none ∷ []))
   unfolding getLabel
   see-new-label h =
       let n = r .buffer .labels in
-      let f = label-accepted (r .buffer) (length (r .labels) / 4) h in
+      let f = label-accepted (r .buffer) (length (r .labels) / labelSize) h in
       let fits = f .fits in
       ap (λ (a : Made × List ℕ). view (withLabelTable r (a .0 .buffer) (a .1))) (yes-eq _ 0 _ _ h)
       ∙ rw (one-word-more (r .labels) _ n none (appended (r .labels) _ n (none ∷ []) refl (omega arith) (omega arith, tt)))
@@ -112,32 +113,32 @@ module _ (r : Recording) (s : Sound r) where
       ap (λ (a : Recorded × List ℕ). view (withLabelTable r (a .0 .buffer) (a .1))) (yes-eq _ 0 _ _ h)
       ∙ rw (word-set (r .labels) (l .value) (r .buffer .code) (r .buffer .labels) (f .known) (omega arith) (omega arith))
 
-  pub see-use : (o l c : Word) → whyUse (r .buffer) (length (r .uses) / 12) (l .value) (c .value) ≡ 0
+  pub see-use : (o l c : Word) → whyUse (r .buffer) (length (r .uses) / useSize) (l .value) (c .value) ≡ 0
       → view (after (use-label o l c) r) ≡ seeUses (view r) (view r .uses ++ (record { offset = o .value; label = l .value; code = c .value } ∷ []))
   unfolding useLabel
   see-use o l c h =
       let n = r .buffer .uses in
-      let f = use-accepted (r .buffer) (length (r .uses) / 12) (l .value) (c .value) h in
+      let f = use-accepted (r .buffer) (length (r .uses) / useSize) (l .value) (c .value) h in
       let fits = f .fits in
       ap (λ (a : Recorded × List ℕ). view (withUseTable r (a .0 .buffer) (a .1))) (yes-eq _ 0 _ _ h)
       ∙ rw (one-use-more (r .uses) _ n (o .value) (l .value) (c .value)
-      (appended (r .uses) _ (n * 3) (o .value ∷ l .value ∷ c .value ∷ []) (three-words (r .uses) (n * 3) (o .value) (l .value) (c .value)) (omega arith)
+      (appended (r .uses) _ (n * useWords) (o .value ∷ l .value ∷ c .value ∷ []) (three-words (r .uses) (n * useWords) (o .value) (l .value) (c .value)) (omega arith)
       (o .small, (l .small, (c .small, tt)))))
 
   -- refs and jumps are kept on X64
-  pub see-ref : (o l c d : Word) → whyRef (r .buffer) (length (r .refs) / 16) (l .value) (c .value) ≡ 0 → r .buffer .arch ≡ 2
+  pub see-ref : (o l c d : Word) → whyRef (r .buffer) (length (r .refs) / refSize) (l .value) (c .value) ≡ 0 → r .buffer .arch ≡ 2
       → view (after (ref o l c d) r) ≡ seeRefs (view r) (view r .refs ++ (record { offset = o .value; label = l .value; code = c .value; addend = d .value } ∷ []))
   unfolding recordRef
   see-ref o l c d h x64 =
       let n = r .buffer .refs in
-      let f = ref-accepted (r .buffer) (length (r .refs) / 16) (l .value) (c .value) h x64 in
+      let f = ref-accepted (r .buffer) (length (r .refs) / refSize) (l .value) (c .value) h x64 in
       let fits = f .fits in
       ap (λ (a : Recorded × List ℕ). view (withRefTable r (a .0 .buffer) (a .1))) (yes-eq _ 0 _ _ h ∙ yes-eq _ 2 _ _ x64)
       ∙ rw (one-ref-more (r .refs) _ n (o .value) (l .value) (c .value) (d .value)
-      (appended (r .refs) _ (n * 4) (o .value ∷ l .value ∷ c .value ∷ d .value ∷ []) (four-words (r .refs) (n * 4) (o .value) (l .value) (c .value) (d .value))
+      (appended (r .refs) _ (n * refWords) (o .value ∷ l .value ∷ c .value ∷ d .value ∷ []) (four-words (r .refs) (n * refWords) (o .value) (l .value) (c .value) (d .value))
       (omega arith) (o .small, (l .small, (c .small, (d .small, tt))))))
 
-  pub see-ref-elsewhere : (o l c d : Word) → whyRef (r .buffer) (length (r .refs) / 16) (l .value) (c .value) ≡ 0 → r .buffer .arch ≢ 2
+  pub see-ref-elsewhere : (o l c d : Word) → whyRef (r .buffer) (length (r .refs) / refSize) (l .value) (c .value) ≡ 0 → r .buffer .arch ≢ 2
       → view (after (ref o l c d) r) ≡ view r
   unfolding recordRef
   see-ref-elsewhere o l c d h other =
@@ -152,7 +153,7 @@ module _ (r : Recording) (s : Sound r) where
       let fits = f .fits in
       ap (λ (a : Recorded × List ℕ). view (withEventTable r (a .0 .buffer) (a .1))) (yes-eq _ 0 _ _ h ∙ yes-eq _ 2 _ _ x64)
       ∙ rw (one-event-more (r .events) _ k 1 (p .value) (n .value) (l .value) (c .value)
-      (appended (r .events) _ (k * 5) (1 ∷ p .value ∷ n .value ∷ l .value ∷ c .value ∷ []) (five-words (r .events) (k * 5) 1 (p .value) (n .value) (l .value) (c .value))
+      (appended (r .events) _ (k * eventWords) (1 ∷ p .value ∷ n .value ∷ l .value ∷ c .value ∷ []) (five-words (r .events) (k * eventWords) 1 (p .value) (n .value) (l .value) (c .value))
       (omega arith) (omega arith, (p .small, (n .small, (l .small, (c .small, tt)))))))
 
   pub see-jump-elsewhere : (p n l c : Word) → whyJump (r .buffer) (r .labels) (r .events) (p .value) (n .value) (l .value) (c .value) ≡ 0 → r .buffer .arch ≢ 2
@@ -161,7 +162,7 @@ module _ (r : Recording) (s : Sound r) where
   see-jump-elsewhere p n l c h other =
       ap (λ (a : Recorded × List ℕ). view (withEventTable r (a .0 .buffer) (a .1))) (yes-eq _ 0 _ _ h ∙ no-eq _ 2 _ _ other)
 
-  pub see-reloc : (o k t : Word) (d : Word64) → whyReloc (r .buffer) (length (r .relocs) / 24) (o .value) (k .value) (t .value) ≡ 0
+  pub see-reloc : (o k t : Word) (d : Word64) → whyReloc (r .buffer) (length (r .relocs) / relocSize) (o .value) (k .value) (t .value) ≡ 0
       → view (after (relocation o k t d) r)
       ≡ seeRelocs (view r) (view r .relocs ++ (record { offset = o .value; kind = k .value; target = t .value; addend = d .value } ∷ []))
   unfolding addReloc
@@ -169,41 +170,41 @@ module _ (r : Recording) (s : Sound r) where
       let n = r .buffer .relocs in
       let low = d .value % 4294967296 in
       let high = d .value / 4294967296 in
-      let f = reloc-accepted (r .buffer) (length (r .relocs) / 24) (o .value) (k .value) (t .value) h in
+      let f = reloc-accepted (r .buffer) (length (r .relocs) / relocSize) (o .value) (k .value) (t .value) h in
       let fits = f .fits in
       let wide = d .small in
       ap (λ (a : Recorded × List ℕ). view (withRelocTable r (a .0 .buffer) (a .1))) (yes-eq _ 0 _ _ h)
       ∙ rw (one-reloc-more (r .relocs) _ n (o .value) (k .value) (t .value) (d .value)
-      (appended (r .relocs) _ (n * 6) (o .value ∷ k .value ∷ t .value ∷ 0 ∷ low ∷ high ∷ []) (six-words (r .relocs) (n * 6) (o .value) (k .value) (t .value) 0 low high)
+      (appended (r .relocs) _ (n * relocWords) (o .value ∷ k .value ∷ t .value ∷ 0 ∷ low ∷ high ∷ []) (six-words (r .relocs) (n * relocWords) (o .value) (k .value) (t .value) 0 low high)
       (omega arith) (o .small, (k .small, (t .small, (omega arith, (omega arith, (omega arith, tt))))))))
 
-  pub see-constant : (l : List ℕ) → whyConstant (r .buffer) (length (r .constants) / 72) (length l) ≡ 0
+  pub see-constant : (l : List ℕ) → whyConstant (r .buffer) (length (r .constants) / constantSize) (length l) ≡ 0
       → view (after (constant l) r) ≡ seeConstants (view r) (view r .constants ++ (record { bytes = l; label = none } ∷ []))
   unfolding addConstant
   see-constant l h =
       let n = r .buffer .constants in
-      let f = constant-accepted (r .buffer) (length (r .constants) / 72) (length l) h in
+      let f = constant-accepted (r .buffer) (length (r .constants) / constantSize) (length l) h in
       let fits = f .fits in
       let small = f .small in
       let a =
-      appended-before (r .constants) _ (n * 18) (length l ∷ none ∷ []) l (n * 72 + 8) (omega arith)
-      (appended (r .constants) _ (n * 18) (length l ∷ none ∷ []) refl (omega arith) (omega arith, (omega arith, tt))) in
+      appended-before (r .constants) _ (n * constantWords) (length l ∷ none ∷ []) l (n * constantSize + constantHead) (omega arith)
+      (appended (r .constants) _ (n * constantWords) (length l ∷ none ∷ []) refl (omega arith) (omega arith, (omega arith, tt))) in
       ap (λ (a : Made × List ℕ). view (withConstantTable r (a .0 .buffer) (a .1))) (yes-eq _ 0 _ _ h)
       ∙ rw (one-constant-more (r .constants) n (r .buffer .labels) l (omega arith) (s .constants) a)
 
-  padded : (m : Word) → whyAlign (r .buffer) (length (r .code)) (length (r .events) / 20) (m .value) ≡ 0
+  padded : (m : Word) → whyAlign (r .buffer) (length (r .code)) (length (r .events) / eventSize) (m .value) ≡ 0
       → let pad = paddingLength (r .buffer .code) (m .value) in
       take (r .buffer .code + pad) (over (r .code) (r .buffer .code) (padding (r .buffer .arch) pad)) ≡ take (r .buffer .code) (r .code) ++ padding (r .buffer .arch) pad
   padded m h =
       let b = r .buffer in
       let pad = paddingLength (b .code) (m .value) in
-      let fits = align-accepted b (length (r .code)) (length (r .events) / 20) (m .value) h .fits in
+      let fits = align-accepted b (length (r .code)) (length (r .events) / eventSize) (m .value) h .fits in
       let size = padding-length (b .arch) pad in
       ap (λ (n : ℕ). take (b .code + n) (over (r .code) (b .code) (padding (b .arch) pad))) (sym size)
       ∙ take-over-end (r .code) (b .code) (padding (b .arch) pad) (omega arith)
 
   -- an alignment pads, and on X64 it is an event
-  pub see-align : (m : Word) → whyAlign (r .buffer) (length (r .code)) (length (r .events) / 20) (m .value) ≡ 0 → r .buffer .arch ≡ 2
+  pub see-align : (m : Word) → whyAlign (r .buffer) (length (r .code)) (length (r .events) / eventSize) (m .value) ≡ 0 → r .buffer .arch ≡ 2
       → view (after (align m) r)
       ≡ seeEvents (seeCode (view r) (view r .code ++ padding 2 (paddingLength (r .buffer .code) (m .value))))
       (view r .events ++ (eventOf 2 (r .buffer .code) (paddingLength (r .buffer .code) (m .value)) (m .value) 0 ∷ []))
@@ -212,7 +213,7 @@ module _ (r : Recording) (s : Sound r) where
       let b = r .buffer in
       let k = b .events in
       let pad = paddingLength (b .code) (m .value) in
-      let f = align-accepted b (length (r .code)) (length (r .events) / 20) (m .value) h in
+      let f = align-accepted b (length (r .code)) (length (r .events) / eventSize) (m .value) h in
       let fits = f .fits in
       let few = f .few in
       let room = f .event x64 in
@@ -226,11 +227,11 @@ module _ (r : Recording) (s : Sound r) where
         padded m h,
         x64,
         one-event-more (r .events) _ k 2 (b .code) pad (m .value) 0
-            (appended (r .events) _ (k * 5) (2 ∷ b .code ∷ pad ∷ m .value ∷ 0 ∷ []) (five-words (r .events) (k * 5) 2 (b .code) pad (m .value) 0) (omega arith)
+            (appended (r .events) _ (k * eventWords) (2 ∷ b .code ∷ pad ∷ m .value ∷ 0 ∷ []) (five-words (r .events) (k * eventWords) 2 (b .code) pad (m .value) 0) (omega arith)
             (omega arith, (omega arith, (omega arith, (small, (omega arith, tt)))))),
       )
 
-  pub see-align-elsewhere : (m : Word) → whyAlign (r .buffer) (length (r .code)) (length (r .events) / 20) (m .value) ≡ 0 → r .buffer .arch ≢ 2
+  pub see-align-elsewhere : (m : Word) → whyAlign (r .buffer) (length (r .code)) (length (r .events) / eventSize) (m .value) ≡ 0 → r .buffer .arch ≢ 2
       → view (after (align m) r) ≡ seeCode (view r) (view r .code ++ padding (r .buffer .arch) (paddingLength (r .buffer .code) (m .value)))
   unfolding alignTo alignedEvents
   see-align-elsewhere m h other =
@@ -245,8 +246,8 @@ module _ (r : Recording) (s : Sound r) where
 
   -- a constant's first asking lists it and makes it a label, which is not bound yet
   pub see-first-asking : (n : Word)
-      → whyConstantLabel (r .buffer) (length (r .constants) / 72) (length (r .asked) / 4) (length (r .labels) / 4) (n .value) ≡ 0
-      → labelOf (r .constants) (n .value) ≡ none → noRoomToAsk (r .buffer) (length (r .asked) / 4) (length (r .labels) / 4) ≡ false
+      → whyConstantLabel (r .buffer) (length (r .constants) / constantSize) (length (r .asked) / askedSize) (length (r .labels) / labelSize) (n .value) ≡ 0
+      → labelOf (r .constants) (n .value) ≡ none → noRoomToAsk (r .buffer) (length (r .asked) / askedSize) (length (r .labels) / labelSize) ≡ false
       → view (after (constant-label n) r)
       ≡ seeConstants (seeAsked (seeLabels (view r) (view r .labels ++ (none ∷ []))) (view r .asked ++ (n .value ∷ [])))
       (set (view r .constants) (n .value) (record { bytes = constantAt (r .constants) (n .value) .bytes; label = r .buffer .labels }))
@@ -255,10 +256,10 @@ module _ (r : Recording) (s : Sound r) where
       let b = r .buffer in
       let c = n .value in
       let labels = b .labels in
-      let f = constant-label-accepted b (length (r .constants) / 72) (length (r .asked) / 4) (length (r .labels) / 4) c h in
-      let rooms = both-false (leb (length (r .labels) / 4) labels) (leb (length (r .asked) / 4) (b .asked)) room in
-      let label-room = leb-false (length (r .labels) / 4) labels (rooms .0) in
-      let asked-room = leb-false (length (r .asked) / 4) (b .asked) (rooms .1) in
+      let f = constant-label-accepted b (length (r .constants) / constantSize) (length (r .asked) / askedSize) (length (r .labels) / labelSize) c h in
+      let rooms = both-false (leb (length (r .labels) / labelSize) labels) (leb (length (r .asked) / askedSize) (b .asked)) room in
+      let label-room = leb-false (length (r .labels) / labelSize) labels (rooms .0) in
+      let asked-room = leb-false (length (r .asked) / askedSize) (b .asked) (rooms .1) in
       let limit = s .labels .limit in
       let small = n .small in
       ap
@@ -273,7 +274,7 @@ module _ (r : Recording) (s : Sound r) where
 
   -- asking again changes nothing
   pub see-asking-again : (n : Word)
-      → whyConstantLabel (r .buffer) (length (r .constants) / 72) (length (r .asked) / 4) (length (r .labels) / 4) (n .value) ≡ 0
+      → whyConstantLabel (r .buffer) (length (r .constants) / constantSize) (length (r .asked) / askedSize) (length (r .labels) / labelSize) (n .value) ≡ 0
       → labelOf (r .constants) (n .value) ≢ none → view (after (constant-label n) r) ≡ view r
   unfolding constantLabel
   see-asking-again n h labelled =

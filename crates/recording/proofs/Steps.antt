@@ -15,7 +15,7 @@ use Rattle.seqs.proofs.Booleans.{both-false}
 use Rattle.seqs.proofs.Overwrites.{length-over}
 use Rattle.words.specs.Words.{wordAt}
 use Rattle.encoder.specs.Padding.{paddingLength}
-use Rattle.relax.specs.Events.{setEvent}
+use Rattle.relax.specs.Events.{setEvent, eventSize, eventWords}
 use Rattle.words.proofs.Entries.{three-words, four-words, five-words, six-words}
 use Rattle.buffer.specs.declared.CodeBuffer.{CodeBuffer}
 use Rattle.buffer.specs.declared.Recorded.{Recorded}
@@ -30,6 +30,7 @@ use Rattle.recording.proofs.Tables.{appended, appended-before, append-l
 use Rattle.recording.proofs.Constants.{append-constant, asked-before-constant, label-constant, ask}
 use Rattle.recording.proofs.Tables.{known-target}
 use Rattle.buffer.proofs.Accepted.{label-accepted, bind-accepted, bytes-accepted, align-accepted, use-accepted, ref-accepted, jump-accepted, constant-accepted, constant-label-accepted, reloc-accepted}
+use Rattle.buffer.specs.Tables.{labelSize, useSize, refSize, constantWords, constantSize, askedSize, relocSize, useWords, constantHead, relocWords}
 
 -- either way
 pub either : {A : Type 0} (t : Bool) (P : A → Type 0) (x y : A) → P x → P y → P (pick t x y)
@@ -72,10 +73,10 @@ pub keeps-newLabel : (r : Recording) → Sound r → Sound (after newLabel r)
 unfolding getLabel
 keeps-newLabel r s =
     let b = r .buffer in
-    let why = whyLabel b (length (r .labels) / 4) in
+    let why = whyLabel b (length (r .labels) / labelSize) in
     tested why 0 (λ (a : Made × List ℕ). Sound (withLabelTable r (a .0 .buffer) (a .1))) _ _
     (λ h.
-    let f = label-accepted b (length (r .labels) / 4) h in
+    let f = label-accepted b (length (r .labels) / labelSize) h in
     let fits = f .fits in
     let n = b .labels in
     let more : n ≤ n + 1 = omega arith in
@@ -136,11 +137,11 @@ pub keeps-use : (r : Recording) (o l c : Word) → Sound r → Sound (after (use
 unfolding useLabel
 keeps-use r o l c s =
     let b = r .buffer in
-    let k = b .uses * 3 in
-    let why = whyUse b (length (r .uses) / 12) (l .value) (c .value) in
+    let k = b .uses * useWords in
+    let why = whyUse b (length (r .uses) / useSize) (l .value) (c .value) in
     tested why 0 (λ (a : Recorded × List ℕ). Sound (withUseTable r (a .0 .buffer) (a .1))) _ _
     (λ h.
-    let f = use-accepted b (length (r .uses) / 12) (l .value) (c .value) h in
+    let f = use-accepted b (length (r .uses) / useSize) (l .value) (c .value) h in
     let fits = f .fits in
     let a =
     appended (r .uses) _ k (o .value ∷ l .value ∷ c .value ∷ []) (three-words (r .uses) k (o .value) (l .value) (c .value)) (omega arith)
@@ -162,13 +163,13 @@ unfolding recordRef
 keeps-ref r o l c d s =
     let b = r .buffer in
     let k = b .refs * 4 in
-    let why = whyRef b (length (r .refs) / 16) (l .value) (c .value) in
+    let why = whyRef b (length (r .refs) / refSize) (l .value) (c .value) in
     let P : Recorded × List ℕ → Type 0 = λ a. Sound (withRefTable r (a .0 .buffer) (a .1)) in
     tested why 0 P _ _
     (λ h.
     tested (b .arch) 2 P _ _
     (λ x64.
-    let f = ref-accepted b (length (r .refs) / 16) (l .value) (c .value) h x64 in
+    let f = ref-accepted b (length (r .refs) / refSize) (l .value) (c .value) h x64 in
     let fits = f .fits in
     let a =
     appended (r .refs) _ k (o .value ∷ l .value ∷ c .value ∷ d .value ∷ []) (four-words (r .refs) k (o .value) (l .value) (c .value) (d .value)) (omega arith)
@@ -190,14 +191,14 @@ pub keeps-reloc : (r : Recording) (o k t : Word) (d : Word64) → Sound r → So
 unfolding addReloc
 keeps-reloc r o k t d s =
     let b = r .buffer in
-    let at = b .relocs * 6 in
+    let at = b .relocs * relocWords in
     let low = d .value % 4294967296 in
     let high = d .value / 4294967296 in
-    let why = whyReloc b (length (r .relocs) / 24) (o .value) (k .value) (t .value) in
+    let why = whyReloc b (length (r .relocs) / relocSize) (o .value) (k .value) (t .value) in
     let P : Recorded × List ℕ → Type 0 = λ a. Sound (withRelocTable r (a .0 .buffer) (a .1)) in
     tested why 0 P _ _
     (λ h.
-    let f = reloc-accepted b (length (r .relocs) / 24) (o .value) (k .value) (t .value) h in
+    let f = reloc-accepted b (length (r .relocs) / relocSize) (o .value) (k .value) (t .value) h in
     let fits = f .fits in
     let wide = d .small in
     let a =
@@ -223,16 +224,16 @@ unfolding addConstant
 keeps-constant r l s =
     let b = r .buffer in
     let n = b .constants in
-    let why = whyConstant b (length (r .constants) / 72) (length l) in
+    let why = whyConstant b (length (r .constants) / constantSize) (length l) in
     let P : Made × List ℕ → Type 0 = λ a. Sound (withConstantTable r (a .0 .buffer) (a .1)) in
     tested why 0 P _ _
     (λ h.
-    let f = constant-accepted b (length (r .constants) / 72) (length l) h in
+    let f = constant-accepted b (length (r .constants) / constantSize) (length l) h in
     let fits = f .fits in
     let small = f .small in
     let a =
-    appended-before (r .constants) _ (n * 18) (length l ∷ none ∷ []) l (n * 72 + 8) (omega arith)
-    (appended (r .constants) _ (n * 18) (length l ∷ none ∷ []) refl (omega arith) (omega arith, (omega arith, tt))) in
+    appended-before (r .constants) _ (n * constantWords) (length l ∷ none ∷ []) l (n * constantSize + constantHead) (omega arith)
+    (appended (r .constants) _ (n * constantWords) (length l ∷ none ∷ []) refl (omega arith) (omega arith, (omega arith, tt))) in
     record {
       code = s .code;
       labels = s .labels;
@@ -249,7 +250,7 @@ pub keeps-jump : (r : Recording) (p n l c : Word) → Sound r → Sound (after (
 unfolding recordJump setEvent
 keeps-jump r p n l c s =
     let b = r .buffer in
-    let k = b .events * 5 in
+    let k = b .events * eventWords in
     let start = p .value in
     let len = n .value in
     let why = whyJump b (r .labels) (r .events) start len (l .value) (c .value) in
@@ -288,14 +289,14 @@ pub keeps-align : (r : Recording) (m : Word) → Sound r → Sound (after (align
 unfolding alignTo alignedEvents setEvent
 keeps-align r m s =
     let b = r .buffer in
-    let k = b .events * 5 in
+    let k = b .events * eventWords in
     let pad = paddingLength (b .code) (m .value) in
-    let why = whyAlign b (length (r .code)) (length (r .events) / 20) (m .value) in
+    let why = whyAlign b (length (r .code)) (length (r .events) / eventSize) (m .value) in
     let more : b .code ≤ b .code + pad = omega arith in
     tested why 0
     (λ (a : Recorded × (List ℕ × List ℕ)). Sound (withEventTable (withCodeTable r (a .0 .buffer) (a .1 .0)) (a .0 .buffer) (a .1 .1))) _ _
     (λ h.
-    let f = align-accepted b (length (r .code)) (length (r .events) / 20) (m .value) h in
+    let f = align-accepted b (length (r .code)) (length (r .events) / eventSize) (m .value) h in
     let fits = f .fits in
     let few = f .few in
     let code = over (r .code) (b .code) (padding (b .arch) pad) in
@@ -341,24 +342,24 @@ unfolding constantLabel askedFirst
 keeps-constant-label r n s =
     let b = r .buffer in
     let c = n .value in
-    let held = wordAt (r .constants) (c * 18 + 1) in
-    let why = whyConstantLabel b (length (r .constants) / 72) (length (r .asked) / 4) (length (r .labels) / 4) c in
+    let held = wordAt (r .constants) (c * constantWords + 1) in
+    let why = whyConstantLabel b (length (r .constants) / constantSize) (length (r .asked) / askedSize) (length (r .labels) / labelSize) c in
     let labels = b .labels in
     let more : labels ≤ labels + 1 = omega arith in
     let P : Made × (List ℕ × (List ℕ × List ℕ)) → Type 0 =
     λ a. Sound (withLabelTable (withAskedTable (withConstantTable r (a .0 .buffer) (a .1 .0)) (a .1 .1 .0)) (a .0 .buffer) (a .1 .1 .1)) in
     tested why 0 P _ _
     (λ h.
-    let f = constant-label-accepted b (length (r .constants) / 72) (length (r .asked) / 4) (length (r .labels) / 4) c h in
+    let f = constant-label-accepted b (length (r .constants) / constantSize) (length (r .asked) / askedSize) (length (r .labels) / labelSize) c h in
     let few = f .few in
     tested held none P _ _
     (λ unlabelled.
-    unless (noRoomToAsk b (length (r .asked) / 4) (length (r .labels) / 4)) P _ _
+    unless (noRoomToAsk b (length (r .asked) / askedSize) (length (r .labels) / labelSize)) P _ _
     (refused r s 11)
     (λ room.
-    let rooms = both-false (leb (length (r .labels) / 4) labels) (leb (length (r .asked) / 4) (b .asked)) room in
-    let label-room = leb-false (length (r .labels) / 4) labels (rooms .0) in
-    let asked-room = leb-false (length (r .asked) / 4) (b .asked) (rooms .1) in
+    let rooms = both-false (leb (length (r .labels) / labelSize) labels) (leb (length (r .asked) / askedSize) (b .asked)) room in
+    let label-room = leb-false (length (r .labels) / labelSize) labels (rooms .0) in
+    let asked-room = leb-false (length (r .asked) / askedSize) (b .asked) (rooms .1) in
     let limit = s .labels .limit in
     record {
       code = s .code;

@@ -11,18 +11,19 @@ use lib.Dec.{eqb}
 use lib.ListN.{length, getD}
 use Rattle.seqs.specs.Pick.{pick}
 use Rattle.seqs.proofs.Picking.{no-eq, yes-lt, no-lt}
-use Rattle.relax.specs.Events.{eventAt, endOf}
+use Rattle.relax.specs.Events.{eventAt, endOf, eventWords, eventSize}
 use Rattle.seqs.proofs.Numbers.{lt-or-ge, eq-or-ne}
 use Rattle.words.specs.Words.{wordAt, setWord}
 use Rattle.seqs.specs.Over.{over}
 use Rattle.seqs.proofs.Overwrites.{length-over}
 use Rattle.words.proofs.Laws.{length-setWord, wordAt-same, wordAt-before, wordAt-other}
 use Rattle.words.proofs.Entries.{Small, setWords, length-setWords, setWords-below, setWords-in}
-use Rattle.fields.specs.Kinds.{decoded}
+use Rattle.fields.specs.Kinds.{decoded, archX64}
 use Rattle.relax.proofs.Columns.{end-at}
 use Rattle.buffer.specs.declared.CodeBuffer.{CodeBuffer}
 use Rattle.buffer.specs.State.{none}
 use Rattle.buffer.specs.Refusals.{foreign, foreignReloc, targetKnown, lastEnd}
+use Rattle.buffer.specs.Tables.{mostEntries, mostCode, labelSize, useWords, useSize, refWords, refSize, relocWords, relocSize}
 use Rattle.recording.specs.Sound.{
   startAt,
   endAt,
@@ -72,7 +73,7 @@ one-more n P old new i h =
     (lt-or-ge i n)
 
 module _ (t u : List ℕ) (n arch labels : ℕ) where
-  pub append-use : (offset label code : ℕ) → Appended t u (n * 3) (offset ∷ label ∷ code ∷ []) → n < length t / 12
+  pub append-use : (offset label code : ℕ) → Appended t u (n * useWords) (offset ∷ label ∷ code ∷ []) → n < length t / useSize
       → code ≤ 16 → code ≢ 15 → foreign (decoded code) arch ≡ false → label < labels → UsesSound t n arch labels → UsesSound u (n + 1) arch labels
   append-use offset label code a room le ne native known s =
       record {
@@ -81,8 +82,8 @@ module _ (t u : List ℕ) (n arch labels : ℕ) where
             one-more n (UseSound u arch labels)
             (λ i l.
             let e = s .entry i l in
-            let b1 = a .below (i * 3 + 1) (omega arith) in
-            let b2 = a .below (i * 3 + 2) (omega arith) in
+            let b1 = a .below (i * useWords + 1) (omega arith) in
+            let b2 = a .below (i * useWords + 2) (omega arith) in
             record { code = rw b2 (e .code); patched = rw b2 (e .patched); native = rw b2 (e .native); label = rw b1 (e .label) })
             (
             let w1 = a .written 1 (omega arith) in
@@ -90,8 +91,8 @@ module _ (t u : List ℕ) (n arch labels : ℕ) where
             record { code = rw w2 le; patched = rw w2 ne; native = rw w2 native; label = rw w1 known });
       }
 
-  pub append-ref : (offset label code addend : ℕ) → Appended t u (n * 4) (offset ∷ label ∷ code ∷ addend ∷ []) → n < length t / 16
-      → arch ≡ 2 → foreign (decoded code) arch ≡ false → label < labels → RefsSound t n arch labels → RefsSound u (n + 1) arch labels
+  pub append-ref : (offset label code addend : ℕ) → Appended t u (n * refWords) (offset ∷ label ∷ code ∷ addend ∷ []) → n < length t / refSize
+      → arch ≡ archX64 → foreign (decoded code) arch ≡ false → label < labels → RefsSound t n arch labels → RefsSound u (n + 1) arch labels
   append-ref offset label code addend a room x64 native known s =
       record {
         room = rw (a .size) (omega arith);
@@ -100,11 +101,11 @@ module _ (t u : List ℕ) (n arch labels : ℕ) where
             one-more n (RefSound u arch labels)
             (λ i l.
             let e = s .entry i l in
-            record { native = rw (a .below (i * 4 + 2) (omega arith)) (e .native); label = rw (a .below (i * 4 + 1) (omega arith)) (e .label) })
+            record { native = rw (a .below (i * refWords + 2) (omega arith)) (e .native); label = rw (a .below (i * refWords + 1) (omega arith)) (e .label) })
             (record { native = rw (a .written 2 (omega arith)) native; label = rw (a .written 1 (omega arith)) known });
       }
 
-  pub append-reloc : (symbols offset kind target low high : ℕ) → Appended t u (n * 6) (offset ∷ kind ∷ target ∷ 0 ∷ low ∷ high ∷ []) → n < length t / 24
+  pub append-reloc : (symbols offset kind target low high : ℕ) → Appended t u (n * relocWords) (offset ∷ kind ∷ target ∷ 0 ∷ low ∷ high ∷ []) → n < length t / relocSize
       → offset ≤ 16777215 → kind ≤ 27 → foreignReloc kind arch ≡ false → Target symbols labels target
       → RelocsSound t n arch symbols labels → RelocsSound u (n + 1) arch symbols labels
   append-reloc symbols offset kind target low high a room le small native known s =
@@ -114,9 +115,9 @@ module _ (t u : List ℕ) (n arch labels : ℕ) where
             one-more n (RelocSound u arch symbols labels)
             (λ i l.
             let e = s .entry i l in
-            let b0 = a .below (i * 6) (omega arith) in
-            let b1 = a .below (i * 6 + 1) (omega arith) in
-            let b2 = a .below (i * 6 + 2) (omega arith) in
+            let b0 = a .below (i * relocWords) (omega arith) in
+            let b1 = a .below (i * relocWords + 1) (omega arith) in
+            let b2 = a .below (i * relocWords + 2) (omega arith) in
             record {
               offset = rw b0 (e .offset);
               kind = rw b1 (e .kind);
@@ -124,8 +125,8 @@ module _ (t u : List ℕ) (n arch labels : ℕ) where
               target = subst (λ (x : ℕ). Target symbols labels x) (sym b2) (e .target);
             })
             (
-            let at : n * 6 + 0 ≡ n * 6 = omega arith in
-            let w0 : wordAt u (n * 6) ≡ offset = ap (λ (x : ℕ). wordAt u x) (sym at) ∙ a .written 0 (omega arith) in
+            let at : n * relocWords + 0 ≡ n * relocWords = omega arith in
+            let w0 : wordAt u (n * relocWords) ≡ offset = ap (λ (x : ℕ). wordAt u x) (sym at) ∙ a .written 0 (omega arith) in
             let w1 = a .written 1 (omega arith) in
             let w2 = a .written 2 (omega arith) in
             record {
@@ -136,9 +137,9 @@ module _ (t u : List ℕ) (n arch labels : ℕ) where
             });
       }
 
-module _ (t u : List ℕ) (n kind start len what cc : ℕ) (a : Appended t u (n * 5) (kind ∷ start ∷ len ∷ what ∷ cc ∷ [])) where
+module _ (t u : List ℕ) (n kind start len what cc : ℕ) (a : Appended t u (n * eventWords) (kind ∷ start ∷ len ∷ what ∷ cc ∷ [])) where
   old-end : (i : ℕ) → i < n → endAt u i ≡ endAt t i
-  old-end i l = rw (a .below (i * 5 + 1) (omega arith), a .below (i * 5 + 2) (omega arith))
+  old-end i l = rw (a .below (i * eventWords + 1) (omega arith), a .below (i * eventWords + 2) (omega arith))
 
   new-start : startAt u n ≡ start
   new-start = a .written 1 (omega arith)
@@ -146,10 +147,10 @@ module _ (t u : List ℕ) (n kind start len what cc : ℕ) (a : Appended t u (n 
   new-end : endAt u n ≡ start + len
   new-end = rw (a .written 1 (omega arith), a .written 2 (omega arith))
 
-  new-kind : wordAt u (n * 5) ≡ kind
-  new-kind = let at : n * 5 + 0 ≡ n * 5 = omega arith in ap (λ (x : ℕ). wordAt u x) (sym at) ∙ a .written 0 (omega arith)
+  new-kind : wordAt u (n * eventWords) ≡ kind
+  new-kind = let at : n * eventWords + 0 ≡ n * eventWords = omega arith in ap (λ (x : ℕ). wordAt u x) (sym at) ∙ a .written 0 (omega arith)
 
-  pub append-event : (labels code code′ arch : ℕ) → n < length t / 20 → arch ≡ 2 → FormOf labels kind start len what cc → start + len ≤ code′ → code ≤ code′
+  pub append-event : (labels code code′ arch : ℕ) → n < length t / eventSize → arch ≡ archX64 → FormOf labels kind start len what cc → start + len ≤ code′ → code ≤ code′
       → ((i : ℕ) → i < n → endAt t i ≤ start) → EventsSound t n labels code arch → EventsSound u (n + 1) labels code′ arch
   append-event labels code code′ arch room x64 form ends more before s =
       record {
@@ -162,14 +163,14 @@ module _ (t u : List ℕ) (n kind start len what cc : ℕ) (a : Appended t u (n 
             record {
               form =
                   rw (
-                    a .below (j * 5) (omega arith),
-                    a .below (j * 5 + 1) (omega arith),
-                    a .below (j * 5 + 2) (omega arith),
-                    a .below (j * 5 + 3) (omega arith),
-                    a .below (j * 5 + 4) (omega arith),
+                    a .below (j * eventWords) (omega arith),
+                    a .below (j * eventWords + 1) (omega arith),
+                    a .below (j * eventWords + 2) (omega arith),
+                    a .below (j * eventWords + 3) (omega arith),
+                    a .below (j * eventWords + 4) (omega arith),
                   ) (e .form);
               ends = let h = e .ends in rw (old-end j l) (omega arith);
-              follows = λ i h. rw (old-end i (omega arith), a .below (j * 5 + 1) (omega arith)) (e .follows i h);
+              follows = λ i h. rw (old-end i (omega arith), a .below (j * eventWords + 1) (omega arith)) (e .follows i h);
             })
             (record {
               form = rw (new-kind, a .written 1 (omega arith), a .written 2 (omega arith), a .written 3 (omega arith), a .written 4 (omega arith)) form;
@@ -197,7 +198,7 @@ module _ (t u : List ℕ) (n kind start len what cc : ℕ) (a : Appended t u (n 
             inr (
               omega (arith, bound .0),
               one-more n (λ j. (wordAt labels i ≤ startAt u j) ⊎ (endAt u j ≤ wordAt labels i))
-                  (λ j h. rw (a .below (j * 5 + 1) (omega arith), a .below (j * 5 + 2) (omega arith)) (bound .1 j h))
+                  (λ j h. rw (a .below (j * eventWords + 1) (omega arith), a .below (j * eventWords + 2) (omega arith)) (bound .1 j h))
                   (rw (new-start, a .written 2 (omega arith)) out),
             ))
             (beside i l))
@@ -205,7 +206,7 @@ module _ (t u : List ℕ) (n kind start len what cc : ℕ) (a : Appended t u (n 
       }
 
 -- a new label is unbound
-pub append-label : (t u : List ℕ) (n : ℕ) (events : List ℕ) (count code : ℕ) → Appended t u n (none ∷ []) → n < length t / 4 → length t / 4 ≤ 65536
+pub append-label : (t u : List ℕ) (n : ℕ) (events : List ℕ) (count code : ℕ) → Appended t u n (none ∷ []) → n < length t / labelSize → length t / labelSize ≤ mostEntries
     → LabelsSound t n events count code → LabelsSound u (n + 1) events count code
 append-label t u n events count code a room limit s =
     let at : n + 0 ≡ n = omega arith in
@@ -220,7 +221,7 @@ append-label t u n events count code a room limit s =
     }
 
 -- a label bound to the current offset lies inside no event: all have ended
-pub bind-label : (t : List ℕ) (n : ℕ) (events : List ℕ) (count labels code arch : ℕ) (i : ℕ) → i < n → n ≤ length t / 4 → code ≤ 16777216
+pub bind-label : (t : List ℕ) (n : ℕ) (events : List ℕ) (count labels code arch : ℕ) (i : ℕ) → i < n → n ≤ length t / labelSize → code ≤ mostCode
     → EventsSound events count labels code arch → LabelsSound t n events count code → LabelsSound (setWord t i code) n events count code
 bind-label t n events count labels code arch i l room small ended s =
     record {

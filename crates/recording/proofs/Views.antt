@@ -13,9 +13,10 @@ use Rattle.seqs.proofs.Overwrites.{part-before, part-over, drop-over}
 use Rattle.seqs.proofs.Numbers.{lt-or-ge, eq-or-ne}
 use Rattle.words.specs.Words.{wordAt, setWord}
 use Rattle.words.proofs.Laws.{length-setWord, wordAt-same, wordAt-other}
-use Rattle.relax.specs.Events.{eventOf, eventAt}
+use Rattle.relax.specs.Events.{eventOf, eventAt, eventWords}
 use Rattle.recording.specs.View.{entries, useAt, refAt, Constant, constantAt, relocAt}
 use Rattle.buffer.specs.State.{none}
+use Rattle.buffer.specs.Tables.{mostEntries, labelSize, useWords, refWords, constantWords, constantSize, constantHead, relocWords}
 use Rattle.recording.specs.Sound.{ConstantsSound}
 use Rattle.recording.proofs.Tables.{Appended}
 
@@ -43,56 +44,56 @@ getD-entries f (suc n) i d h =
     (lt-or-ge i n)
 
 module _ (t u : List ℕ) (n : ℕ) where
-  pub one-use-more : (offset label code : ℕ) → Appended t u (n * 3) (offset ∷ label ∷ code ∷ [])
+  pub one-use-more : (offset label code : ℕ) → Appended t u (n * useWords) (offset ∷ label ∷ code ∷ [])
       → entries (useAt u) (n + 1) ≡ entries (useAt t) n ++ (record { offset = offset; label = label; code = code } ∷ [])
   one-use-more offset label code a =
-      let at : n * 3 + 0 ≡ n * 3 = omega arith in
-      let w0 : wordAt u (n * 3) ≡ offset = ap (λ (x : ℕ). wordAt u x) (sym at) ∙ a .written 0 (omega arith) in
+      let at : n * useWords + 0 ≡ n * useWords = omega arith in
+      let w0 : wordAt u (n * useWords) ≡ offset = ap (λ (x : ℕ). wordAt u x) (sym at) ∙ a .written 0 (omega arith) in
       entries-more (useAt u) (useAt t) n (record { offset = offset; label = label; code = code })
-      (λ i l. rw (a .below (i * 3) (omega arith), a .below (i * 3 + 1) (omega arith), a .below (i * 3 + 2) (omega arith)))
+      (λ i l. rw (a .below (i * useWords) (omega arith), a .below (i * useWords + 1) (omega arith), a .below (i * useWords + 2) (omega arith)))
       (rw (w0, a .written 1 (omega arith), a .written 2 (omega arith)))
 
-  pub one-ref-more : (offset label code addend : ℕ) → Appended t u (n * 4) (offset ∷ label ∷ code ∷ addend ∷ [])
+  pub one-ref-more : (offset label code addend : ℕ) → Appended t u (n * refWords) (offset ∷ label ∷ code ∷ addend ∷ [])
       → entries (refAt u) (n + 1) ≡ entries (refAt t) n ++ (record { offset = offset; label = label; code = code; addend = addend } ∷ [])
   one-ref-more offset label code addend a =
-      let at : n * 4 + 0 ≡ n * 4 = omega arith in
-      let w0 : wordAt u (n * 4) ≡ offset = ap (λ (x : ℕ). wordAt u x) (sym at) ∙ a .written 0 (omega arith) in
+      let at : n * refWords + 0 ≡ n * refWords = omega arith in
+      let w0 : wordAt u (n * refWords) ≡ offset = ap (λ (x : ℕ). wordAt u x) (sym at) ∙ a .written 0 (omega arith) in
       entries-more (refAt u) (refAt t) n (record { offset = offset; label = label; code = code; addend = addend })
-      (λ i l. rw (a .below (i * 4) (omega arith), a .below (i * 4 + 1) (omega arith), a .below (i * 4 + 2) (omega arith), a .below (i * 4 + 3) (omega arith)))
+      (λ i l. rw (a .below (i * refWords) (omega arith), a .below (i * refWords + 1) (omega arith), a .below (i * refWords + 2) (omega arith), a .below (i * refWords + 3) (omega arith)))
       (rw (w0, a .written 1 (omega arith), a .written 2 (omega arith), a .written 3 (omega arith)))
 
   pub one-reloc-more : (offset kind target addend : ℕ)
-      → Appended t u (n * 6) (offset ∷ kind ∷ target ∷ 0 ∷ addend % 4294967296 ∷ addend / 4294967296 ∷ [])
+      → Appended t u (n * relocWords) (offset ∷ kind ∷ target ∷ 0 ∷ addend % 4294967296 ∷ addend / 4294967296 ∷ [])
       → entries (relocAt u) (n + 1) ≡ entries (relocAt t) n ++ (record { offset = offset; kind = kind; target = target; addend = addend } ∷ [])
   one-reloc-more offset kind target addend a =
-      let at : n * 6 + 0 ≡ n * 6 = omega arith in
-      let w0 : wordAt u (n * 6) ≡ offset = ap (λ (x : ℕ). wordAt u x) (sym at) ∙ a .written 0 (omega arith) in
+      let at : n * relocWords + 0 ≡ n * relocWords = omega arith in
+      let w0 : wordAt u (n * relocWords) ≡ offset = ap (λ (x : ℕ). wordAt u x) (sym at) ∙ a .written 0 (omega arith) in
       let whole : addend % 4294967296 + addend / 4294967296 * 4294967296 ≡ addend = omega arith in
       entries-more (relocAt u) (relocAt t) n (record { offset = offset; kind = kind; target = target; addend = addend })
       (λ i l.
       rw (
-        a .below (i * 6) (omega arith),
-        a .below (i * 6 + 1) (omega arith),
-        a .below (i * 6 + 2) (omega arith),
-        a .below (i * 6 + 4) (omega arith),
-        a .below (i * 6 + 5) (omega arith),
+        a .below (i * relocWords) (omega arith),
+        a .below (i * relocWords + 1) (omega arith),
+        a .below (i * relocWords + 2) (omega arith),
+        a .below (i * relocWords + 4) (omega arith),
+        a .below (i * relocWords + 5) (omega arith),
       ))
       (rw (w0, a .written 1 (omega arith), a .written 2 (omega arith), a .written 4 (omega arith), a .written 5 (omega arith), whole))
 
-  pub one-event-more : (kind start len what cc : ℕ) → Appended t u (n * 5) (kind ∷ start ∷ len ∷ what ∷ cc ∷ [])
+  pub one-event-more : (kind start len what cc : ℕ) → Appended t u (n * eventWords) (kind ∷ start ∷ len ∷ what ∷ cc ∷ [])
       → entries (eventAt u) (n + 1) ≡ entries (eventAt t) n ++ (eventOf kind start len what cc ∷ [])
   unfolding eventAt
   one-event-more kind start len what cc a =
-      let at : n * 5 + 0 ≡ n * 5 = omega arith in
-      let w0 : wordAt u (n * 5) ≡ kind = ap (λ (x : ℕ). wordAt u x) (sym at) ∙ a .written 0 (omega arith) in
+      let at : n * eventWords + 0 ≡ n * eventWords = omega arith in
+      let w0 : wordAt u (n * eventWords) ≡ kind = ap (λ (x : ℕ). wordAt u x) (sym at) ∙ a .written 0 (omega arith) in
       entries-more (eventAt u) (eventAt t) n (eventOf kind start len what cc)
       (λ i l.
       rw (
-        a .below (i * 5) (omega arith),
-        a .below (i * 5 + 1) (omega arith),
-        a .below (i * 5 + 2) (omega arith),
-        a .below (i * 5 + 3) (omega arith),
-        a .below (i * 5 + 4) (omega arith),
+        a .below (i * eventWords) (omega arith),
+        a .below (i * eventWords + 1) (omega arith),
+        a .below (i * eventWords + 2) (omega arith),
+        a .below (i * eventWords + 3) (omega arith),
+        a .below (i * eventWords + 4) (omega arith),
       ))
       (rw (w0, a .written 1 (omega arith), a .written 2 (omega arith), a .written 3 (omega arith), a .written 4 (omega arith)))
 
@@ -102,7 +103,7 @@ module _ (t u : List ℕ) (n : ℕ) where
       entries-more (wordAt u) (wordAt t) n v (λ i l. a .below i l) (ap (λ (x : ℕ). wordAt u x) (sym at) ∙ a .written 0 (omega arith))
 
 -- a word written over another
-pub word-set : (t : List ℕ) (i v n : ℕ) → i < n → n * 4 ≤ length t → v < 4294967296 → entries (wordAt (setWord t i v)) n ≡ set (entries (wordAt t) n) i v
+pub word-set : (t : List ℕ) (i v n : ℕ) → i < n → n * labelSize ≤ length t → v < 4294967296 → entries (wordAt (setWord t i v)) n ≡ set (entries (wordAt t) n) i v
 word-set t i v n h room small =
     ext-getD 0 _ _ (length-entries (wordAt (setWord t i v)) n ∙ sym (length-set (entries (wordAt t) n) i v ∙ length-entries (wordAt t) n))
     (λ j l.
@@ -123,43 +124,43 @@ part-after-word t k v a h = drop-over t (k * 4) _ a h
 
 -- an entry of a constant is written: its size, no label, its bytes
 abbrev pub withConstant : List ℕ → ℕ → List ℕ → List ℕ
-withConstant t n bytes = over (setWord (setWord t (n * 18) (length bytes)) (n * 18 + 1) none) (n * 72 + 8) bytes
+withConstant t n bytes = over (setWord (setWord t (n * constantWords) (length bytes)) (n * constantWords + 1) none) (n * constantSize + constantHead) bytes
 
-pub one-constant-more : (t : List ℕ) (n labels : ℕ) (bytes : List ℕ) → n * 72 + 8 + length bytes ≤ length t → ConstantsSound t n labels
-    → Appended t (withConstant t n bytes) (n * 18) (length bytes ∷ none ∷ [])
+pub one-constant-more : (t : List ℕ) (n labels : ℕ) (bytes : List ℕ) → n * constantSize + constantHead + length bytes ≤ length t → ConstantsSound t n labels
+    → Appended t (withConstant t n bytes) (n * constantWords) (length bytes ∷ none ∷ [])
     → entries (constantAt (withConstant t n bytes)) (n + 1) ≡ entries (constantAt t) n ++ (record { bytes = bytes; label = none } ∷ [])
 one-constant-more t n labels bytes room s a =
     let u = withConstant t n bytes in
-    let before = setWord (setWord t (n * 18) (length bytes)) (n * 18 + 1) none in
-    let size : length before ≡ length t = length-setWord (setWord t (n * 18) (length bytes)) (n * 18 + 1) none ∙ length-setWord t (n * 18) (length bytes) in
-    let at : n * 18 + 0 ≡ n * 18 = omega arith in
-    let w0 : wordAt u (n * 18) ≡ length bytes = ap (λ (x : ℕ). wordAt u x) (sym at) ∙ a .written 0 (omega arith) in
+    let before = setWord (setWord t (n * constantWords) (length bytes)) (n * constantWords + 1) none in
+    let size : length before ≡ length t = length-setWord (setWord t (n * constantWords) (length bytes)) (n * constantWords + 1) none ∙ length-setWord t (n * constantWords) (length bytes) in
+    let at : n * constantWords + 0 ≡ n * constantWords = omega arith in
+    let w0 : wordAt u (n * constantWords) ≡ length bytes = ap (λ (x : ℕ). wordAt u x) (sym at) ∙ a .written 0 (omega arith) in
     entries-more (constantAt u) (constantAt t) n (record { bytes = bytes; label = none })
     (λ i l.
     let small = s .entry i l .size in
-    let m = wordAt t (i * 18) in
+    let m = wordAt t (i * constantWords) in
     rw (
-      a .below (i * 18) (omega arith),
-      a .below (i * 18 + 1) (omega arith),
-      part-before before (n * 72 + 8) bytes (i * 72 + 8) m (omega arith),
-      part-before-word (setWord t (n * 18) (length bytes)) (n * 18 + 1) none (i * 72 + 8) m (omega arith),
-      part-before-word t (n * 18) (length bytes) (i * 72 + 8) m (omega arith),
+      a .below (i * constantWords) (omega arith),
+      a .below (i * constantWords + 1) (omega arith),
+      part-before before (n * constantSize + constantHead) bytes (i * constantSize + constantHead) m (omega arith),
+      part-before-word (setWord t (n * constantWords) (length bytes)) (n * constantWords + 1) none (i * constantSize + constantHead) m (omega arith),
+      part-before-word t (n * constantWords) (length bytes) (i * constantSize + constantHead) m (omega arith),
     ))
-    (rw (w0, a .written 1 (omega arith), part-over before (n * 72 + 8) bytes (omega arith)))
+    (rw (w0, a .written 1 (omega arith), part-over before (n * constantSize + constantHead) bytes (omega arith)))
 
 -- a constant gets its label
-pub constant-labelled : (t : List ℕ) (n labels c : ℕ) → c < n → n ≤ length t / 72 → labels ≤ 65536 → ConstantsSound t n labels
-    → entries (constantAt (setWord t (c * 18 + 1) labels)) n ≡ set (entries (constantAt t) n) c (record { bytes = constantAt t c .bytes; label = labels })
+pub constant-labelled : (t : List ℕ) (n labels c : ℕ) → c < n → n ≤ length t / constantSize → labels ≤ mostEntries → ConstantsSound t n labels
+    → entries (constantAt (setWord t (c * constantWords + 1) labels)) n ≡ set (entries (constantAt t) n) c (record { bytes = constantAt t c .bytes; label = labels })
 constant-labelled t n labels c h room limit s =
-    let u = setWord t (c * 18 + 1) labels in
+    let u = setWord t (c * constantWords + 1) labels in
     let new : Constant = record { bytes = constantAt t c .bytes; label = labels } in
-    let bytes : (i : ℕ) → i < n → take (wordAt u (i * 18)) (drop (i * 72 + 8) u) ≡ take (wordAt t (i * 18)) (drop (i * 72 + 8) t) =
+    let bytes : (i : ℕ) → i < n → take (wordAt u (i * constantWords)) (drop (i * constantSize + constantHead) u) ≡ take (wordAt t (i * constantWords)) (drop (i * constantSize + constantHead) t) =
     λ i l.
     let small = s .entry i l .size in
-    rw (wordAt-other t (c * 18 + 1) labels (i * 18) (λ e. omega arith))
+    rw (wordAt-other t (c * constantWords + 1) labels (i * constantWords) (λ e. omega arith))
     (⊎-elim
-    (λ lt. part-before-word t (c * 18 + 1) labels (i * 72 + 8) (wordAt t (i * 18)) (omega arith))
-    (λ ge. rw (part-after-word t (c * 18 + 1) labels (i * 72 + 8) (omega arith)))
+    (λ lt. part-before-word t (c * constantWords + 1) labels (i * constantSize + constantHead) (wordAt t (i * constantWords)) (omega arith))
+    (λ ge. rw (part-after-word t (c * constantWords + 1) labels (i * constantSize + constantHead) (omega arith)))
     (lt-or-ge i c)) in
     ext-getD new _ _ (length-entries (constantAt u) n ∙ sym (length-set (entries (constantAt t) n) c new ∙ length-entries (constantAt t) n))
     (λ j l.
@@ -167,10 +168,10 @@ constant-labelled t n labels c h room limit s =
     getD-entries (constantAt u) n j new lj
     ∙ ⊎-elim
     (λ same.
-    rw (same, bytes c h, wordAt-same t (c * 18 + 1) labels (omega arith) (omega arith))
+    rw (same, bytes c h, wordAt-same t (c * constantWords + 1) labels (omega arith) (omega arith))
     (sym (getD-set-same (entries (constantAt t) n) c new new (omega (arith, length-entries (constantAt t) n)))))
     (λ other.
-    let e : j * 18 + 1 ≢ c * 18 + 1 = λ z. let f : j ≡ c = omega arith in other f in
-    rw (bytes j lj, wordAt-other t (c * 18 + 1) labels (j * 18 + 1) e)
+    let e : j * constantWords + 1 ≢ c * constantWords + 1 = λ z. let f : j ≡ c = omega arith in other f in
+    rw (bytes j lj, wordAt-other t (c * constantWords + 1) labels (j * constantWords + 1) e)
     (sym (getD-set-other (entries (constantAt t) n) c j new new other ∙ getD-entries (constantAt t) n j new lj)))
     (eq-or-ne j c))

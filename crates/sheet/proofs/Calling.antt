@@ -23,6 +23,7 @@ use Rattle.buffer.specs.Calls.{putBytes, getLabel, bindLabel, alignTo, useLabel
 use Rattle.recording.specs.Calls.{Recording, Call}
 use Rattle.checks.specs.Lent.{recordingOf}
 use Rattle.sheet.specs.Run.{word, signedWord, bytesIn, callOf, called}
+use Rattle.sheet.specs.Form.{argumentSize, mostBytes}
 
 -- a word of an argument, as the program reads it
 pub as-word : (w : ℕ) (arguments : List ℕ) (k : ℕ) → w ≡ wordAt arguments k → w < 4294967296 → w ≡ word arguments k .value
@@ -33,7 +34,7 @@ pub as-signed : (d w : ℕ) (arguments : List ℕ) (k : ℕ) → d ≡ signExten
 as-signed d w arguments k e f small = rw (← f, ← e) (sym (mod-eq-of-lt small))
 
 -- the bytes behind a count, of which there is room for 12
-pub counted-bytes : (arguments : List ℕ) (n : ℕ) → length arguments ≡ 16 → n ≡ min (wordAt arguments 0) 12
+pub counted-bytes : (arguments : List ℕ) (n : ℕ) → length arguments ≡ argumentSize → n ≡ min (wordAt arguments 0) mostBytes
     → take (4 + n - 4) (drop 4 arguments) ≡ bytesIn arguments
 counted-bytes arguments n h e =
     let w = wordAt arguments 0 in

@@ -15,7 +15,7 @@ use Rattle.seqs.proofs.Numbers.{eq-or-ne}
 use Rattle.seqs.proofs.Booleans.{true-is-not-false}
 use Rattle.seqs.proofs.Picking.{pick-yes, pick-no}
 use Rattle.words.specs.Words.{wordAt}
-use Rattle.sheet.specs.Form.{isCounted, inRange, usedBytes, used, isClear, isFormed, firstBroken}
+use Rattle.sheet.specs.Form.{isCounted, inRange, usedBytes, used, isClear, isFormed, firstBroken, argumentSize, mostBytes}
 
 module _ (l : List ℕ) (i : ℕ) where
   -- a zero passed changes nothing
@@ -32,31 +32,31 @@ module _ (l : List ℕ) (i : ℕ) where
   clear-end h = rw (drop-of-length-le l {i = i} h)
 
 module _ (kinds arguments : List ℕ) (i : ℕ) where
-  pub next-arguments : drop 16 (drop (i * 16) arguments) ≡ drop ((i + 1) * 16) arguments
+  pub next-arguments : drop argumentSize (drop (i * argumentSize) arguments) ≡ drop ((i + 1) * argumentSize) arguments
   next-arguments =
-      let e : i * 16 + 16 ≡ (i + 1) * 16 = omega arith in
-      drop-drop 16 (i * 16) arguments ∙ ap (λ (n : ℕ). drop n arguments) e
+      let e : i * argumentSize + argumentSize ≡ (i + 1) * argumentSize = omega arith in
+      drop-drop argumentSize (i * argumentSize) arguments ∙ ap (λ (n : ℕ). drop n arguments) e
 
-  -- the 16 bytes of argument i, as the program takes them
-  pub argument-part : take (i * 16 + 16 - i * 16) (drop (i * 16) arguments) ≡ take 16 (drop (i * 16) arguments)
-  argument-part = let e : i * 16 + 16 - i * 16 ≡ 16 = omega arith in rw e
+  -- the bytes of argument i, as the program takes them
+  pub argument-part : take (i * argumentSize + argumentSize - i * argumentSize) (drop (i * argumentSize) arguments) ≡ take argumentSize (drop (i * argumentSize) arguments)
+  argument-part = let e : i * argumentSize + argumentSize - i * argumentSize ≡ argumentSize = omega arith in rw e
 
   -- a call that has its form is passed
-  pub broken-step : i < length kinds → isFormed (getD kinds i 0) (take 16 (drop (i * 16) arguments)) ≡ true
-      → firstBroken (drop i kinds) (drop (i * 16) arguments) ≡ suc (firstBroken (drop (i + 1) kinds) (drop ((i + 1) * 16) arguments))
+  pub broken-step : i < length kinds → isFormed (getD kinds i 0) (take argumentSize (drop (i * argumentSize) arguments)) ≡ true
+      → firstBroken (drop i kinds) (drop (i * argumentSize) arguments) ≡ suc (firstBroken (drop (i + 1) kinds) (drop ((i + 1) * argumentSize) arguments))
   unfolding firstBroken
   broken-step h e =
-      ap (λ l. firstBroken l (drop (i * 16) arguments)) (drop-cons kinds i 0 h)
+      ap (λ l. firstBroken l (drop (i * argumentSize) arguments)) (drop-cons kinds i 0 h)
       ∙ (pick-yes _ _ _ e
       ∙ (ap (λ l. suc (firstBroken (drop (suc i) kinds) l)) next-arguments
-      ∙ ap (λ (n : ℕ). suc (firstBroken (drop n kinds) (drop ((i + 1) * 16) arguments))) (sym (add-one i))))
+      ∙ ap (λ (n : ℕ). suc (firstBroken (drop n kinds) (drop ((i + 1) * argumentSize) arguments))) (sym (add-one i))))
 
-  pub broken-here : i < length kinds → isFormed (getD kinds i 0) (take 16 (drop (i * 16) arguments)) ≡ false
-      → firstBroken (drop i kinds) (drop (i * 16) arguments) ≡ 0
+  pub broken-here : i < length kinds → isFormed (getD kinds i 0) (take argumentSize (drop (i * argumentSize) arguments)) ≡ false
+      → firstBroken (drop i kinds) (drop (i * argumentSize) arguments) ≡ 0
   unfolding firstBroken
   broken-here h e = rw (drop-cons kinds i 0 h) (pick-no _ _ _ e)
 
-  pub broken-end : length kinds ≤ i → firstBroken (drop i kinds) (drop (i * 16) arguments) ≡ 0
+  pub broken-end : length kinds ≤ i → firstBroken (drop i kinds) (drop (i * argumentSize) arguments) ≡ 0
   unfolding firstBroken
   broken-end h = rw (drop-of-length-le kinds {i = i} h)
 
@@ -70,9 +70,9 @@ at-most m [] h i = omega arith
 at-most m (x ∷ xs) h zero = h .0
 at-most m (x ∷ xs) h (suc i) = at-most m xs (h .1) i
 
-used-words : (kind : ℕ) → getD usedBytes kind 0 ≤ 16
+used-words : (kind : ℕ) → getD usedBytes kind 0 ≤ argumentSize
 used-words kind =
-    at-most 16 usedBytes
+    at-most argumentSize usedBytes
     (omega arith, (omega arith, (omega arith, (omega arith, (omega arith, (omega arith, (omega arith, (omega arith, (omega arith, (omega arith, (omega arith, tt)))))))))))
     kind
 
@@ -89,12 +89,12 @@ counted-word kind h =
     (eq-or-ne kind 1)
 
 -- a call in its ranges uses no more than its argument
-used-by : (kind counted : ℕ) (others t : Bool) → isCounted kind ≡ t → pick t (leb counted 12) others ≡ true → getD usedBytes kind 0 + pick t counted 0 ≤ 16
+used-by : (kind counted : ℕ) (others t : Bool) → isCounted kind ≡ t → pick t (leb counted mostBytes) others ≡ true → getD usedBytes kind 0 + pick t counted 0 ≤ argumentSize
 unfolding pick
 used-by kind counted others true e h = omega (arith, leb-true counted 12 h, counted-word kind e)
 used-by kind counted others false e h = omega (arith, used-words kind)
 
-pub used-fits : (kind : ℕ) (arguments : List ℕ) → inRange kind arguments ≡ true → used kind arguments ≤ 16
+pub used-fits : (kind : ℕ) (arguments : List ℕ) → inRange kind arguments ≡ true → used kind arguments ≤ argumentSize
 unfolding inRange used
 used-fits kind arguments h = used-by kind (wordAt arguments 0) _ (isCounted kind) refl h
 

@@ -9,7 +9,7 @@ use lib.ListN.{length, take, drop, length-take, length-drop}
 use lib.Seq.{take-all}
 use Rattle.seqs.proofs.Booleans.{both-true}
 use Rattle.words.specs.Words.{wordAt}
-use Rattle.sheet.specs.Form.{isWhole, kindsOf, argumentsOf}
+use Rattle.sheet.specs.Form.{isWhole, kindsOf, argumentsOf, argumentSize}
 
 pub whole-length : (sheet : List ℕ) → isWhole sheet ≡ true → (4 ≤ length sheet) × (length sheet ≡ 4 + 17 * wordAt sheet 0)
 unfolding isWhole
@@ -27,7 +27,7 @@ module _ (sheet : List ℕ) (n : ℕ) where
 
 -- sixteen bytes of arguments for each kind
 pub parts-match : (sheet : List ℕ) → isWhole sheet ≡ true → (n : ℕ) → n ≡ wordAt sheet 0
-    → length (take (length sheet - (4 + n)) (drop (4 + n) sheet)) ≡ length (take (4 + n - 4) (drop 4 sheet)) * 16
+    → length (take (length sheet - (4 + n)) (drop (4 + n) sheet)) ≡ length (take (4 + n - 4) (drop 4 sheet)) * argumentSize
 parts-match sheet whole n e =
     omega (
       arith,

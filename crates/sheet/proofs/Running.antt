@@ -12,23 +12,23 @@ use Rattle.words.specs.Words.{wordAt}
 use Rattle.buffer.specs.Refusals.{standing}
 use Rattle.recording.specs.Calls.{Recording, Call, answered, after}
 use Rattle.checks.specs.Lent.{countsFit, withinLimits}
-use Rattle.sheet.specs.Form.{isWhole, kindsOf, argumentsOf, firstBroken}
+use Rattle.sheet.specs.Form.{isWhole, kindsOf, argumentsOf, firstBroken, argumentSize}
 use Rattle.sheet.specs.Run.{callOf, callsOf, called, runCalls, runSheet}
 use Rattle.sheet.proofs.Forming.{next-arguments}
 
-module _ (kinds arguments : List ℕ) (i : ℕ) (r : Recording) (total : (ℕ × ℕ) × Recording) (so-far : runCalls (callsOf (drop i kinds) (drop (i * 16) arguments)) i r ≡ total) where
+module _ (kinds arguments : List ℕ) (i : ℕ) (r : Recording) (total : (ℕ × ℕ) × Recording) (so-far : runCalls (callsOf (drop i kinds) (drop (i * argumentSize) arguments)) i r ≡ total) where
   abbrev call : Call
-  call = callOf (getD kinds i 0) (take 16 (drop (i * 16) arguments))
+  call = callOf (getD kinds i 0) (take argumentSize (drop (i * argumentSize) arguments))
 
   abbrev rest : List Call
-  rest = callsOf (drop (i + 1) kinds) (drop ((i + 1) * 16) arguments)
+  rest = callsOf (drop (i + 1) kinds) (drop ((i + 1) * argumentSize) arguments)
 
-  next-call : i < length kinds → callsOf (drop i kinds) (drop (i * 16) arguments) ≡ call ∷ rest
+  next-call : i < length kinds → callsOf (drop i kinds) (drop (i * argumentSize) arguments) ≡ call ∷ rest
   unfolding callsOf
   next-call h =
-      ap (λ l. callsOf l (drop (i * 16) arguments)) (drop-cons kinds i 0 h)
+      ap (λ l. callsOf l (drop (i * argumentSize) arguments)) (drop-cons kinds i 0 h)
       ∙ (ap (λ l. call ∷ callsOf (drop (suc i) kinds) l) (next-arguments kinds arguments i)
-      ∙ ap (λ (n : ℕ). call ∷ callsOf (drop n kinds) (drop ((i + 1) * 16) arguments)) (sym (add-one i)))
+      ∙ ap (λ (n : ℕ). call ∷ callsOf (drop n kinds) (drop ((i + 1) * argumentSize) arguments)) (sym (add-one i)))
 
   -- a call that is accepted goes on to the next
   pub run-again : (refusal : ℕ) (r' : Recording) → i < length kinds → (refusal, r') ≡ called call r → refusal ≡ 0 → runCalls rest (i + 1) r' ≡ total

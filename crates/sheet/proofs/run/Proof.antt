@@ -9,10 +9,11 @@ use Rattle.sheet.specs.Run.{callsOf, runCalls}
 use Rattle.sheet.proofs.Forming.{argument-part}
 use Rattle.sheet.proofs.Running.{run-again, run-refused, run-end}
 use Rattle.sheet.proofs.run.Statement.{statement}
+use Rattle.sheet.specs.Form.{argumentSize}
 use Rattle.sheet.proofs.run.Tie as tie
 
 abbrev Inv-loop : tie.InvT-loop
-Inv-loop kinds arguments code₀ labels₀ events₀ uses₀ refs₀ constants₀ asked₀ relocs₀ last₀ i₀ code labels events uses refs constants asked relocs last i = (i ≤ length kinds) × (length code ≡ length code₀) × (length labels ≡ length labels₀) × (length events ≡ length events₀) × (length uses ≡ length uses₀) × (length refs ≡ length refs₀) × (length constants ≡ length constants₀) × (length asked ≡ length asked₀) × (length relocs ≡ length relocs₀) × (runCalls (callsOf (drop i kinds) (drop (i * 16) arguments)) i (recordingOf last code labels events uses refs constants asked relocs) ≡ runCalls (callsOf kinds arguments) 0 (recordingOf last₀ code₀ labels₀ events₀ uses₀ refs₀ constants₀ asked₀ relocs₀))
+Inv-loop kinds arguments code₀ labels₀ events₀ uses₀ refs₀ constants₀ asked₀ relocs₀ last₀ i₀ code labels events uses refs constants asked relocs last i = (i ≤ length kinds) × (length code ≡ length code₀) × (length labels ≡ length labels₀) × (length events ≡ length events₀) × (length uses ≡ length uses₀) × (length refs ≡ length refs₀) × (length constants ≡ length constants₀) × (length asked ≡ length asked₀) × (length relocs ≡ length relocs₀) × (runCalls (callsOf (drop i kinds) (drop (i * argumentSize) arguments)) i (recordingOf last code labels events uses refs constants asked relocs) ≡ runCalls (callsOf kinds arguments) 0 (recordingOf last₀ code₀ labels₀ events₀ uses₀ refs₀ constants₀ asked₀ relocs₀))
 
 abbrev μ-loop : tie.MeasureT-loop
 μ-loop kinds arguments code₀ labels₀ events₀ uses₀ refs₀ constants₀ asked₀ relocs₀ last₀ i₀ code labels events uses refs constants asked relocs last i = length kinds - i

@@ -4,6 +4,7 @@ use Rattle.buffer.proofs.Appends.{part-copied}
 use native.Mathlib.Omega.{arith}
 use borrow.Author.Needs.{needs}
 use Rattle.buffer.proofs.constants.put_constant.Statement.{statement}
+use Rattle.buffer.specs.Tables.{constantSize, constantHead}
 use Rattle.buffer.proofs.constants.put_constant.Tie as tie
 
 returns : tie.Need-returns
@@ -12,7 +13,7 @@ returns c =
     let after-put-word2 : tie.After-put-word2 = search in
     let after-put-word : tie.After-put-word = search in
     let start : tie.Start = search in
-    rw (after-copy .copy .ensures, ← after-put-word .put-word .ensures, ← after-put-word2 .put-word2 .ensures) (part-copied (after-put-word2 .put-word2 .last .0) (start .args .bytes .now) (start .args .i * 72 + 8) (omega arith))
+    rw (after-copy .copy .ensures, ← after-put-word .put-word .ensures, ← after-put-word2 .put-word2 .ensures) (part-copied (after-put-word2 .put-word2 .last .0) (start .args .bytes .now) (start .args .i * constantSize + constantHead) (omega arith))
 
 pub put-constant-spec : {M : Type 1} → statement M
 put-constant-spec =

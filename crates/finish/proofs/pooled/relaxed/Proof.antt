@@ -5,6 +5,7 @@ use Rattle.finish.proofs.Stages.{few, marks-short}
 use borrow.Author.Needs.{needs}
 use Rattle.finish.proofs.pooled.relaxed.Statement.{statement}
 use Rattle.finish.proofs.pooled.relaxed.Proof.Tie as tie
+use Rattle.buffer.specs.Tables.{mostEntries}
 
 add-all : tie.Need-add-all
 add-all c = let s : tie.Start = search in omega (arith, few (s .pre))
@@ -13,7 +14,7 @@ part-long-end : tie.Need-part-long-end
 part-long-end c = let s : tie.Start = search in omega (arith, few (s .pre))
 
 relax-and-write-requires : tie.Need-relax-and-write-requires
-relax-and-write-requires c κs = let s : tie.Start = search in (s .pre, marks-short _ 65536 (few (s .pre)))
+relax-and-write-requires c κs = let s : tie.Start = search in (s .pre, marks-short _ mostEntries (few (s .pre)))
 
 pub relaxed-spec : {M : Type 1} → statement M
 relaxed-spec =

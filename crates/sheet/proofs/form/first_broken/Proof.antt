@@ -5,13 +5,13 @@ use borrow.Author.Tests.{not-true, not-false}
 use Prim.Native.Nat.{_+_, _*_, _-_, _≤_}
 use native.Mathlib.Omega.{arith}
 use lib.ListN.{length, drop}
-use Rattle.sheet.specs.Form.{firstBroken}
+use Rattle.sheet.specs.Form.{firstBroken, argumentSize}
 use Rattle.sheet.proofs.Forming.{argument-part, broken-step, broken-here, broken-end}
 use Rattle.sheet.proofs.form.first_broken.Statement.{statement}
 use Rattle.sheet.proofs.form.first_broken.Tie as tie
 
 abbrev Inv-loop : tie.InvT-loop
-Inv-loop kinds arguments i₀ i = (i ≤ length kinds) × (i + firstBroken (drop i kinds) (drop (i * 16) arguments) ≡ firstBroken kinds arguments)
+Inv-loop kinds arguments i₀ i = (i ≤ length kinds) × (i + firstBroken (drop i kinds) (drop (i * argumentSize) arguments) ≡ firstBroken kinds arguments)
 
 abbrev μ-loop : tie.MeasureT-loop
 μ-loop kinds arguments i₀ i = length kinds - i
