@@ -43,9 +43,9 @@ pub record BytesAccepted (b : CodeBuffer) (lent n : ℕ) : Type 0 where
   pub room : b .code + n ≤ lent
   pub few : lent ≤ 16777216
 
-pub bytes-accepted : (b : CodeBuffer) (lent n : ℕ) → whyBytes b lent n ≡ 0 → BytesAccepted b lent n
+pub bytes-accepted : {b : CodeBuffer} {lent n : ℕ} → whyBytes b lent n ≡ 0 → BytesAccepted b lent n
 unfolding whyBytes
-bytes-accepted b lent n h =
+bytes-accepted {b} {lent} {n} h =
     let w = neither (standing b (leb (b .code) lent) (leb lent 16777216)) _ h in
     let s = stands b (leb (b .code) lent) (leb lent 16777216) (w .0) in
     let fits = leb-true (b .code) lent (s .fits) in
@@ -56,9 +56,9 @@ pub record LabelAccepted (b : CodeBuffer) (room : ℕ) : Type 0 where
   pub fits : b .labels < room
   pub few : room ≤ 65536
 
-pub label-accepted : (b : CodeBuffer) (room : ℕ) → whyLabel b room ≡ 0 → LabelAccepted b room
+pub label-accepted : {b : CodeBuffer} {room : ℕ} → whyLabel b room ≡ 0 → LabelAccepted b room
 unfolding whyLabel
-label-accepted b room h =
+label-accepted {b} {room} h =
     let w = neither (standing b (leb (b .labels) room) (leb room 65536)) _ h in
     let s = stands b (leb (b .labels) room) (leb room 65536) (w .0) in
     record { fits = leb-false room (b .labels) (passed (leb room (b .labels)) 11 0 (λ e. omega arith) (w .1) .0); few = leb-true room 65536 (s .limited) }
@@ -67,9 +67,9 @@ pub record BindAccepted (b : CodeBuffer) (labels : List ℕ) (label : ℕ) : Typ
   pub known : label < b .labels
   pub room : b .labels ≤ length labels / 4
 
-pub bind-accepted : (b : CodeBuffer) (labels : List ℕ) (label : ℕ) → whyBind b labels label ≡ 0 → BindAccepted b labels label
+pub bind-accepted : {b : CodeBuffer} {labels : List ℕ} {label : ℕ} → whyBind b labels label ≡ 0 → BindAccepted b labels label
 unfolding whyBind
-bind-accepted b labels label h =
+bind-accepted {b} {labels} {label} h =
     let room = length labels / 4 in
     let w = neither (standing b (leb (b .labels) room) (leb room 65536)) _ h in
     record {
@@ -85,9 +85,9 @@ pub record UseAccepted (b : CodeBuffer) (room label code : ℕ) : Type 0 where
   pub native : foreign (decoded code) (b .arch) ≡ false
   pub known : label < b .labels
 
-pub use-accepted : (b : CodeBuffer) (room label code : ℕ) → whyUse b room label code ≡ 0 → UseAccepted b room label code
+pub use-accepted : {b : CodeBuffer} {room label code : ℕ} → whyUse b room label code ≡ 0 → UseAccepted b room label code
 unfolding whyUse
-use-accepted b room label code h =
+use-accepted {b} {room} {label} {code} h =
     let fit = leb (b .uses) room && leb code 16 in
     let w = neither (standing b fit (leb room 65536)) _ h in
     let s = stands b fit (leb room 65536) (w .0) in
@@ -110,9 +110,9 @@ pub record RefAccepted (b : CodeBuffer) (room label code : ℕ) : Type 0 where
   pub native : foreign (decoded code) (b .arch) ≡ false
   pub known : label < b .labels
 
-pub ref-accepted : (b : CodeBuffer) (room label code : ℕ) → whyRef b room label code ≡ 0 → b .arch ≡ 2 → RefAccepted b room label code
+pub ref-accepted : {b : CodeBuffer} {room label code : ℕ} → whyRef b room label code ≡ 0 → b .arch ≡ 2 → RefAccepted b room label code
 unfolding whyRef
-ref-accepted b room label code h x64 =
+ref-accepted {b} {room} {label} {code} h x64 =
     let w = neither (standing b (leb (b .refs) room && leb code 16) (leb room 65536)) _ h in
     let one = passed (foreign (decoded code) (b .arch)) 7 _ (λ e. omega arith) (sym (yes-eq (b .arch) 2 _ 0 x64) ∙ w .1) in
     let two = passed (leb (b .labels) label) 8 _ (λ e. omega arith) (one .1) in
@@ -132,9 +132,9 @@ pub record RelocAccepted (b : CodeBuffer) (room offset kind target : ℕ) : Type
   pub native : foreignReloc kind (b .arch) ≡ false
   pub known : targetKnown b target ≡ true
 
-pub reloc-accepted : (b : CodeBuffer) (room offset kind target : ℕ) → whyReloc b room offset kind target ≡ 0 → RelocAccepted b room offset kind target
+pub reloc-accepted : {b : CodeBuffer} {room offset kind target : ℕ} → whyReloc b room offset kind target ≡ 0 → RelocAccepted b room offset kind target
 unfolding whyReloc
-reloc-accepted b room offset kind target h =
+reloc-accepted {b} {room} {offset} {kind} {target} h =
     let fit = leb (b .relocs) room && leb kind 27 in
     let w = neither (standing b fit (leb room 65536)) _ h in
     let s = stands b fit (leb room 65536) (w .0) in
@@ -156,9 +156,9 @@ pub record ConstantAccepted (b : CodeBuffer) (room n : ℕ) : Type 0 where
   pub few : room ≤ 65536
   pub small : n ≤ 64
 
-pub constant-accepted : (b : CodeBuffer) (room n : ℕ) → whyConstant b room n ≡ 0 → ConstantAccepted b room n
+pub constant-accepted : {b : CodeBuffer} {room n : ℕ} → whyConstant b room n ≡ 0 → ConstantAccepted b room n
 unfolding whyConstant
-constant-accepted b room n h =
+constant-accepted {b} {room} {n} h =
     let w = neither (standing b (leb (b .constants) room) (leb room 65536)) _ h in
     let s = stands b (leb (b .constants) room) (leb room 65536) (w .0) in
     let one = passed (ltb 64 n) 10 _ (λ e. omega arith) (w .1) in
@@ -171,10 +171,10 @@ pub record ConstantLabelAccepted (b : CodeBuffer) (constants asked labels consta
   pub fewAsked : asked ≤ 65536
   pub few : labels ≤ 65536
 
-pub constant-label-accepted : (b : CodeBuffer) (constants asked labels constant : ℕ) → whyConstantLabel b constants asked labels constant ≡ 0
+pub constant-label-accepted : {b : CodeBuffer} {constants asked labels constant : ℕ} → whyConstantLabel b constants asked labels constant ≡ 0
     → ConstantLabelAccepted b constants asked labels constant
 unfolding whyConstantLabel
-constant-label-accepted b constants asked labels constant h =
+constant-label-accepted {b} {constants} {asked} {labels} {constant} h =
     let fit = leb (b .constants) constants && (leb (b .asked) asked && leb (b .labels) labels) in
     let within = leb constants 65536 && (leb asked 65536 && leb labels 65536) in
     let w = neither (standing b fit within) _ h in
@@ -193,9 +193,9 @@ pub record AlignAccepted (b : CodeBuffer) (lent room multiple : ℕ) : Type 0 wh
   pub event : b .arch ≡ 2 → b .events < room
   pub fewEvents : room ≤ 65536
 
-pub align-accepted : (b : CodeBuffer) (lent room multiple : ℕ) → whyAlign b lent room multiple ≡ 0 → AlignAccepted b lent room multiple
+pub align-accepted : {b : CodeBuffer} {lent room multiple : ℕ} → whyAlign b lent room multiple ≡ 0 → AlignAccepted b lent room multiple
 unfolding whyAlign
-align-accepted b lent room multiple h =
+align-accepted {b} {lent} {room} {multiple} h =
     let fit = leb (b .code) lent && leb (b .events) room in
     let within = leb lent 16777216 && leb room 65536 in
     let pad = paddingLength (b .code) multiple in
@@ -247,10 +247,10 @@ pub record JumpAccepted (b : CodeBuffer) (labels events : List ℕ) (start len l
   pub follows : lastEnd events (b .events) ≤ start
   pub outside : (i : ℕ) → i < b .labels → (wordAt labels i ≤ start) ⊎ (start + len ≤ wordAt labels i)
 
-pub jump-accepted : (b : CodeBuffer) (labels events : List ℕ) (start len label cc : ℕ) → whyJump b labels events start len label cc ≡ 0 → b .arch ≡ 2
+pub jump-accepted : {b : CodeBuffer} {labels events : List ℕ} {start len label cc : ℕ} → whyJump b labels events start len label cc ≡ 0 → b .arch ≡ 2
     → JumpAccepted b labels events start len label cc
 unfolding whyJump jumpUnfit jumpMalformed
-jump-accepted b labels events start len label cc h x64 =
+jump-accepted {b} {labels} {events} {start} {len} {label} {cc} h x64 =
     let room = length events / 20 in
     let fit = leb (b .labels) (length labels / 4) && leb (b .events) room in
     let within = leb (length labels / 4) 65536 && leb room 65536 in

@@ -75,7 +75,7 @@ keeps-newLabel r s =
     let why = whyLabel b (length (r .labels) / 4) in
     tested why 0 (λ (a : Made × List ℕ). Sound (withLabelTable r (a .0 .buffer) (a .1))) _ _
     (λ h.
-    let f = label-accepted b (length (r .labels) / 4) h in
+    let f = label-accepted h in
     let fits = f .fits in
     let n = b .labels in
     let more : n ≤ n + 1 = omega arith in
@@ -98,7 +98,7 @@ keeps-bind r l s =
     let why = whyBind b (r .labels) (l .value) in
     tested why 0 (λ (a : Recorded × List ℕ). Sound (withLabelTable r (a .0 .buffer) (a .1))) _ _
     (λ h.
-    let f = bind-accepted b (r .labels) (l .value) h in
+    let f = bind-accepted h in
     record {
       code = s .code;
       labels = bind-label (r .labels) (b .labels) (r .events) (b .events) (b .labels) (b .code) (b .arch) (l .value) (f .known) (f .room) (s .code .limit) (s .events) (s .labels);
@@ -119,7 +119,7 @@ keeps-bytes r l s =
     let more : b .code ≤ b .code + length l = omega arith in
     tested why 0 (λ (a : Recorded × List ℕ). Sound (withCodeTable r (a .0 .buffer) (a .1))) _ _
     (λ h.
-    let f = bytes-accepted b (length (r .code)) (length l) h in
+    let f = bytes-accepted h in
     record {
       code = record { room = rw (length-over (r .code) (b .code) l) (f .room); limit = omega (arith, f .room, f .few) };
       labels = more-code-labels (r .labels) (b .labels) (r .events) (b .events) (b .code) (b .code + length l) more (s .labels);
@@ -140,7 +140,7 @@ keeps-use r o l c s =
     let why = whyUse b (length (r .uses) / 12) (l .value) (c .value) in
     tested why 0 (λ (a : Recorded × List ℕ). Sound (withUseTable r (a .0 .buffer) (a .1))) _ _
     (λ h.
-    let f = use-accepted b (length (r .uses) / 12) (l .value) (c .value) h in
+    let f = use-accepted h in
     let fits = f .fits in
     let a =
     appended (r .uses) _ k (o .value ∷ l .value ∷ c .value ∷ []) (three-words (r .uses) k (o .value) (l .value) (c .value)) (omega arith)
@@ -168,7 +168,7 @@ keeps-ref r o l c d s =
     (λ h.
     tested (b .arch) 2 P _ _
     (λ x64.
-    let f = ref-accepted b (length (r .refs) / 16) (l .value) (c .value) h x64 in
+    let f = ref-accepted h x64 in
     let fits = f .fits in
     let a =
     appended (r .refs) _ k (o .value ∷ l .value ∷ c .value ∷ d .value ∷ []) (four-words (r .refs) k (o .value) (l .value) (c .value) (d .value)) (omega arith)
@@ -197,7 +197,7 @@ keeps-reloc r o k t d s =
     let P : Recorded × List ℕ → Type 0 = λ a. Sound (withRelocTable r (a .0 .buffer) (a .1)) in
     tested why 0 P _ _
     (λ h.
-    let f = reloc-accepted b (length (r .relocs) / 24) (o .value) (k .value) (t .value) h in
+    let f = reloc-accepted h in
     let fits = f .fits in
     let wide = d .small in
     let a =
@@ -227,7 +227,7 @@ keeps-constant r l s =
     let P : Made × List ℕ → Type 0 = λ a. Sound (withConstantTable r (a .0 .buffer) (a .1)) in
     tested why 0 P _ _
     (λ h.
-    let f = constant-accepted b (length (r .constants) / 72) (length l) h in
+    let f = constant-accepted h in
     let fits = f .fits in
     let small = f .small in
     let a =
@@ -258,7 +258,7 @@ keeps-jump r p n l c s =
     (λ h.
     tested (b .arch) 2 P _ _
     (λ x64.
-    let f = jump-accepted b (r .labels) (r .events) start len (l .value) (c .value) h x64 in
+    let f = jump-accepted h x64 in
     let fits = f .fits in
     let last = f .follows in
     let ends = f .ends in
@@ -295,7 +295,7 @@ keeps-align r m s =
     tested why 0
     (λ (a : Recorded × (List ℕ × List ℕ)). Sound (withEventTable (withCodeTable r (a .0 .buffer) (a .1 .0)) (a .0 .buffer) (a .1 .1))) _ _
     (λ h.
-    let f = align-accepted b (length (r .code)) (length (r .events) / 20) (m .value) h in
+    let f = align-accepted h in
     let fits = f .fits in
     let few = f .few in
     let code = over (r .code) (b .code) (padding (b .arch) pad) in
@@ -349,7 +349,7 @@ keeps-constant-label r n s =
     λ a. Sound (withLabelTable (withAskedTable (withConstantTable r (a .0 .buffer) (a .1 .0)) (a .1 .1 .0)) (a .0 .buffer) (a .1 .1 .1)) in
     tested why 0 P _ _
     (λ h.
-    let f = constant-label-accepted b (length (r .constants) / 72) (length (r .asked) / 4) (length (r .labels) / 4) c h in
+    let f = constant-label-accepted h in
     let few = f .few in
     tested held none P _ _
     (λ unlabelled.
