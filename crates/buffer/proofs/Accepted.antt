@@ -40,16 +40,16 @@ use Rattle.buffer.specs.Refusals.{
   jumpUnfit,
 }
 use Rattle.buffer.proofs.Standing.{stands, count-fits}
-use Rattle.buffer.specs.Tables.{mostEntries, mostCode, labelSize, lastOffset, mostConstant, lastReloc}
+use Rattle.buffer.specs.Tables.{mostEntries, mostCode, lastOffset, mostConstant, lastReloc, labelSize}
 use Rattle.buffer.specs.State.{keepsEvents}
 
 pub record BytesAccepted (b : CodeBuffer) (lent n : ℕ) : Type 0 where
   pub room : b .code + n ≤ lent
   pub few : lent ≤ mostCode
 
-pub bytes-accepted : (b : CodeBuffer) (lent n : ℕ) → whyBytes b lent n ≡ 0 → BytesAccepted b lent n
+pub bytes-accepted : {b : CodeBuffer} {lent n : ℕ} → whyBytes b lent n ≡ 0 → BytesAccepted b lent n
 unfolding whyBytes
-bytes-accepted b lent n h =
+bytes-accepted {b} {lent} {n} h =
     let w = neither (standing b (leb (b .code) lent) (leb lent mostCode)) _ h in
     let s = stands b (leb (b .code) lent) (leb lent mostCode) (w .0) in
     let fits = leb-true (b .code) lent (s .fits) in
@@ -60,9 +60,9 @@ pub record LabelAccepted (b : CodeBuffer) (room : ℕ) : Type 0 where
   pub fits : b .labels < room
   pub few : room ≤ mostEntries
 
-pub label-accepted : (b : CodeBuffer) (room : ℕ) → whyLabel b room ≡ 0 → LabelAccepted b room
+pub label-accepted : {b : CodeBuffer} {room : ℕ} → whyLabel b room ≡ 0 → LabelAccepted b room
 unfolding whyLabel
-label-accepted b room h =
+label-accepted {b} {room} h =
     let w = neither (standing b (leb (b .labels) room) (leb room mostEntries)) _ h in
     let s = stands b (leb (b .labels) room) (leb room mostEntries) (w .0) in
     record { fits = leb-false room (b .labels) (passed (leb room (b .labels)) refusals.tableFull 0 (λ e. omega arith) (w .1) .0); few = leb-true room mostEntries (s .limited) }
@@ -71,9 +71,9 @@ pub record BindAccepted (b : CodeBuffer) (labels : List ℕ) (label : ℕ) : Typ
   pub known : label < b .labels
   pub room : b .labels ≤ length labels / labelSize
 
-pub bind-accepted : (b : CodeBuffer) (labels : List ℕ) (label : ℕ) → whyBind b labels label ≡ 0 → BindAccepted b labels label
+pub bind-accepted : {b : CodeBuffer} {labels : List ℕ} {label : ℕ} → whyBind b labels label ≡ 0 → BindAccepted b labels label
 unfolding whyBind
-bind-accepted b labels label h =
+bind-accepted {b} {labels} {label} h =
     let room = length labels / labelSize in
     let w = neither (standing b (leb (b .labels) room) (leb room mostEntries)) _ h in
     record {
@@ -89,9 +89,9 @@ pub record UseAccepted (b : CodeBuffer) (room label code : ℕ) : Type 0 where
   pub native : foreign (decoded code) (b .arch) ≡ false
   pub known : label < b .labels
 
-pub use-accepted : (b : CodeBuffer) (room label code : ℕ) → whyUse b room label code ≡ 0 → UseAccepted b room label code
+pub use-accepted : {b : CodeBuffer} {room label code : ℕ} → whyUse b room label code ≡ 0 → UseAccepted b room label code
 unfolding whyUse
-use-accepted b room label code h =
+use-accepted {b} {room} {label} {code} h =
     let fit = leb (b .uses) room && leb code lastCode in
     let w = neither (standing b fit (leb room mostEntries)) _ h in
     let s = stands b fit (leb room mostEntries) (w .0) in
@@ -114,9 +114,9 @@ pub record RefAccepted (b : CodeBuffer) (room label code : ℕ) : Type 0 where
   pub native : foreign (decoded code) (b .arch) ≡ false
   pub known : label < b .labels
 
-pub ref-accepted : (b : CodeBuffer) (room label code : ℕ) → whyRef b room label code ≡ 0 → b .arch ≡ archX64 → RefAccepted b room label code
+pub ref-accepted : {b : CodeBuffer} {room label code : ℕ} → whyRef b room label code ≡ 0 → b .arch ≡ archX64 → RefAccepted b room label code
 unfolding whyRef
-ref-accepted b room label code h x64 =
+ref-accepted {b} {room} {label} {code} h x64 =
     let w = neither (standing b (leb (b .refs) room && leb code lastCode) (leb room mostEntries)) _ h in
     let one = passed (foreign (decoded code) (b .arch)) refusals.foreignKind _ (λ e. omega arith) (sym (yes-eq (b .arch) archX64 _ 0 x64) ∙ w .1) in
     let two = passed (leb (b .labels) label) refusals.unknownNumber _ (λ e. omega arith) (one .1) in
@@ -136,9 +136,9 @@ pub record RelocAccepted (b : CodeBuffer) (room offset kind target : ℕ) : Type
   pub native : foreignReloc kind (b .arch) ≡ false
   pub known : targetKnown b target ≡ true
 
-pub reloc-accepted : (b : CodeBuffer) (room offset kind target : ℕ) → whyReloc b room offset kind target ≡ 0 → RelocAccepted b room offset kind target
+pub reloc-accepted : {b : CodeBuffer} {room offset kind target : ℕ} → whyReloc b room offset kind target ≡ 0 → RelocAccepted b room offset kind target
 unfolding whyReloc
-reloc-accepted b room offset kind target h =
+reloc-accepted {b} {room} {offset} {kind} {target} h =
     let fit = leb (b .relocs) room && leb kind lastReloc in
     let w = neither (standing b fit (leb room mostEntries)) _ h in
     let s = stands b fit (leb room mostEntries) (w .0) in
@@ -160,9 +160,9 @@ pub record ConstantAccepted (b : CodeBuffer) (room n : ℕ) : Type 0 where
   pub few : room ≤ mostEntries
   pub small : n ≤ mostConstant
 
-pub constant-accepted : (b : CodeBuffer) (room n : ℕ) → whyConstant b room n ≡ 0 → ConstantAccepted b room n
+pub constant-accepted : {b : CodeBuffer} {room n : ℕ} → whyConstant b room n ≡ 0 → ConstantAccepted b room n
 unfolding whyConstant
-constant-accepted b room n h =
+constant-accepted {b} {room} {n} h =
     let w = neither (standing b (leb (b .constants) room) (leb room mostEntries)) _ h in
     let s = stands b (leb (b .constants) room) (leb room mostEntries) (w .0) in
     let one = passed (ltb mostConstant n) refusals.badEntry _ (λ e. omega arith) (w .1) in
@@ -175,10 +175,10 @@ pub record ConstantLabelAccepted (b : CodeBuffer) (constants asked labels consta
   pub fewAsked : asked ≤ mostEntries
   pub few : labels ≤ mostEntries
 
-pub constant-label-accepted : (b : CodeBuffer) (constants asked labels constant : ℕ) → whyConstantLabel b constants asked labels constant ≡ 0
+pub constant-label-accepted : {b : CodeBuffer} {constants asked labels constant : ℕ} → whyConstantLabel b constants asked labels constant ≡ 0
     → ConstantLabelAccepted b constants asked labels constant
 unfolding whyConstantLabel
-constant-label-accepted b constants asked labels constant h =
+constant-label-accepted {b} {constants} {asked} {labels} {constant} h =
     let fit = leb (b .constants) constants && (leb (b .asked) asked && leb (b .labels) labels) in
     let within = leb constants mostEntries && (leb asked mostEntries && leb labels mostEntries) in
     let w = neither (standing b fit within) _ h in
@@ -197,9 +197,9 @@ pub record AlignAccepted (b : CodeBuffer) (lent room multiple : ℕ) : Type 0 wh
   pub event : b .arch ≡ archX64 → b .events < room
   pub fewEvents : room ≤ mostEntries
 
-pub align-accepted : (b : CodeBuffer) (lent room multiple : ℕ) → whyAlign b lent room multiple ≡ 0 → AlignAccepted b lent room multiple
+pub align-accepted : {b : CodeBuffer} {lent room multiple : ℕ} → whyAlign b lent room multiple ≡ 0 → AlignAccepted b lent room multiple
 unfolding whyAlign
-align-accepted b lent room multiple h =
+align-accepted {b} {lent} {room} {multiple} h =
     let fit = leb (b .code) lent && leb (b .events) room in
     let within = leb lent mostCode && leb room mostEntries in
     let pad = paddingLength (b .code) multiple in
@@ -251,10 +251,10 @@ pub record JumpAccepted (b : CodeBuffer) (labels events : List ℕ) (start len l
   pub follows : lastEnd events (b .events) ≤ start
   pub outside : (i : ℕ) → i < b .labels → (wordAt labels i ≤ start) ⊎ (start + len ≤ wordAt labels i)
 
-pub jump-accepted : (b : CodeBuffer) (labels events : List ℕ) (start len label cc : ℕ) → whyJump b labels events start len label cc ≡ 0 → b .arch ≡ archX64
+pub jump-accepted : {b : CodeBuffer} {labels events : List ℕ} {start len label cc : ℕ} → whyJump b labels events start len label cc ≡ 0 → b .arch ≡ archX64
     → JumpAccepted b labels events start len label cc
 unfolding whyJump jumpUnfit jumpMalformed
-jump-accepted b labels events start len label cc h x64 =
+jump-accepted {b} {labels} {events} {start} {len} {label} {cc} h x64 =
     let room = length events / eventSize in
     let fit = leb (b .labels) (length labels / labelSize) && leb (b .events) room in
     let within = leb (length labels / labelSize) mostEntries && leb room mostEntries in

@@ -170,10 +170,11 @@ unfolding clearOfPool
 pool-clear-none code constants asked n from to k e b =
     sym (none-before (poolStart code constants asked) (poolOffset code constants asked) n from to (rw e at b))
 
-pub pool-clear-last : (labels constants asked : List ℕ) (code n from to k : ℕ) → 0 < k → Placed labels constants asked code n → Before (poolStart code constants asked) n to k
+pub pool-clear-last : (from : ℕ) {labels constants asked : List ℕ} {code n to k : ℕ} → Placed labels constants asked code n
+    → Before (poolStart code constants asked) n to k → 0 < k
     → leb (wordAt labels (labelAt constants asked (k - 1))) from ≡ clearOfPool code constants asked n from to
 unfolding clearOfPool
-pool-clear-last labels constants asked code n from to k h p b =
+pool-clear-last from {constants = constants} {asked} {code} {n} {to} {k} p b h =
     let e : k ≡ k - 1 + 1 = omega arith in
     rw (p .stands (k - 1) (omega (arith, b .few)))
     (last-before

@@ -15,14 +15,23 @@ or-false : (t : Bool) → t ≡ (t || false)
 or-false true = refl
 or-false false = refl
 
-pub form-jump : (labels kind start len what cc : ℕ) → kind ≡ 1 → (leb 2 len && leb len 15 && (ltb what labels && leb cc 16)) ≡ formFits labels kind start len what cc
-unfolding formFits
-form-jump labels kind start len what cc e = rw e (or-false (leb 2 len && leb len 15 && (ltb what labels && leb cc 16)))
+-- the test of a jump, and that of any other event, as the program makes them
+pub record JumpTested (labels kind start len what cc : ℕ) (fits : Bool) : Type 0 where
+  pub jump : kind ≡ 1
+  pub tested : fits ≡ (leb 2 len && leb len 15 && (ltb what labels && leb cc 16))
 
-pub form-alignment : (labels kind start len what cc : ℕ) → kind ≢ 1
-    → (eqb kind 2 && (isAlignment what && eqb len (paddingLength start what))) ≡ formFits labels kind start len what cc
-unfolding formFits
-form-alignment labels kind start len what cc h = rw (ne-eqb kind 1 h)
+pub record OtherTested (labels kind start len what cc : ℕ) (fits : Bool) : Type 0 where
+  pub other : kind ≢ 1
+  pub tested : fits ≡ (eqb kind 2 && (isAlignment what && eqb len (paddingLength start what)))
+
+module _ {labels kind start len what cc : ℕ} {fits : Bool} where
+  pub form-jump : JumpTested labels kind start len what cc fits → fits ≡ formFits labels kind start len what cc
+  unfolding formFits
+  form-jump t = rw (t .jump, t .tested) (or-false (leb 2 len && leb len 15 && (ltb what labels && leb cc 16)))
+
+  pub form-alignment : OtherTested labels kind start len what cc fits → fits ≡ formFits labels kind start len what cc
+  unfolding formFits
+  form-alignment t = rw (t .tested, ne-eqb kind 1 (t .other))
 
 -- a label that is not bound, one past the code, and any other
 pub label-none : (events : List ℕ) (n code offset : ℕ) → offset ≡ none → true ≡ labelFits events n code offset

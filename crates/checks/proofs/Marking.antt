@@ -73,18 +73,18 @@ module _ (asked constants : List ℕ) (known i : ℕ) where
   unfolding askedFits
   new-unlabelled h = rw (eq-eqb (askedLabel constants asked i) none h, and-false (ltb (wordAt asked i) known))
 
-  pub new-marked : (seen taken : List Bool) → Marks seen (wordAt asked) i → Marks taken (askedLabel constants asked) i → Labelled constants known
-      → wordAt asked i < known → askedLabel constants asked i ≢ none
-      → (not (getD seen (wordAt asked i) false) && not (getD taken (askedLabel constants asked i) false)) ≡ newAt asked constants known i
-  unfolding askedFits
-  new-marked seen taken s t c h l =
-      rw (
-        lt-ltb (wordAt asked i) known h,
-        ne-eqb (askedLabel constants asked i) none l,
-        once-unmarked asked constants i,
-        s .marked (wordAt asked i) (omega (arith, c .limit)),
-        t .marked (askedLabel constants asked i) (c .label (wordAt asked i) h l),
-      )
+pub new-marked : (asked : List ℕ) {constants : List ℕ} {known i : ℕ} {seen taken : List Bool} → Marks seen (wordAt asked) i
+    → Marks taken (askedLabel constants asked) i → Labelled constants known → wordAt asked i < known → askedLabel constants asked i ≢ none
+    → (not (getD seen (wordAt asked i) false) && not (getD taken (askedLabel constants asked i) false)) ≡ newAt asked constants known i
+unfolding askedFits
+new-marked asked {constants} {known} {i} s t c h l =
+    rw (
+      lt-ltb (wordAt asked i) known h,
+      ne-eqb (askedLabel constants asked i) none l,
+      once-unmarked asked constants i,
+      s .marked (wordAt asked i) (omega (arith, c .limit)),
+      t .marked (askedLabel constants asked i) (c .label (wordAt asked i) h l),
+    )
 
 -- a constant is listed where it is marked
 pub each-asked : (asked : List ℕ) (n : ℕ) (constants : List ℕ) (known : ℕ) (seen : List Bool) → known ≤ mostEntries → Marks seen (wordAt asked) n

@@ -67,24 +67,25 @@ pub sized : (size code : ℕ) → size ≡ sizeOf (decoded code) → (size ≡ s
 sized size code e = (e, rw e (size-small (decoded code)))
 
 -- a ref past the end of the code, one that overlaps an event, and any other
-module _ (refs events : List ℕ) (n code : ℕ) (constants asked : List ℕ) (m i from size len : ℕ) where
-  pub record RefAt : Type 0 where
-    pub at : from ≡ wordAt refs (i * refWords)
-    pub long : size ≡ sizeOf (decoded (wordAt refs (i * refWords + 2)))
-    pub end : len ≡ poolStart code constants asked m
+pub record RefAt (refs events : List ℕ) (n code : ℕ) (constants asked : List ℕ) (m i from size len : ℕ) : Type 0 where
+  pub at : from ≡ wordAt refs (i * refWords)
+  pub long : size ≡ sizeOf (decoded (wordAt refs (i * refWords + 2)))
+  pub end : len ≡ poolStart code constants asked m
 
-  pub ref-past : RefAt → len < from + size → false ≡ refClear refs events n code constants asked m i
+module _ {refs events : List ℕ} {n code : ℕ} {constants asked : List ℕ} {m i from size len : ℕ}
+    (r : RefAt refs events n code constants asked m i from size len) where
+  pub ref-past : len < from + size → false ≡ refClear refs events n code constants asked m i
   unfolding refClear
-  ref-past r h = rw (← r .at, ← r .long, ← r .end, lt-leb (from + size) len h)
+  ref-past h = rw (← r .at, ← r .long, ← r .end, lt-leb (from + size) len h)
 
-  pub ref-over : RefAt → from + size ≤ len → clearOfEvents events n from (from + size) ≡ false → false ≡ refClear refs events n code constants asked m i
+  pub ref-over : from + size ≤ len → clearOfEvents events n from (from + size) ≡ false → false ≡ refClear refs events n code constants asked m i
   unfolding refClear
-  ref-over r h e = rw (← r .at, ← r .long, ← r .end, le-leb (from + size) len h, e)
+  ref-over h e = rw (← r .at, ← r .long, ← r .end, le-leb (from + size) len h, e)
 
-  pub ref-rest : RefAt → from + size ≤ len → clearOfEvents events n from (from + size) ≡ true
+  pub ref-rest : from + size ≤ len → clearOfEvents events n from (from + size) ≡ true
       → clearOfPool code constants asked m from (from + size) ≡ refClear refs events n code constants asked m i
   unfolding refClear
-  ref-rest r h e = rw (← r .at, ← r .long, ← r .end, le-leb (from + size) len h, e)
+  ref-rest h e = rw (← r .at, ← r .long, ← r .end, le-leb (from + size) len h, e)
 
 module _ (uses labels : List ℕ) (len : ℕ) where
   pub why-none : whyUses uses labels len 0 ≡ 0

@@ -1,20 +1,21 @@
 -- Fields: a part that was lent, patched and is back.
 use mathlib.Core.Path.{_≡_, ap, _∙_}
 use mathlib.Core.List.{List, [], _∷_, _++_}
-use Prim.Native.Nat.{ℕ, _+_, _-_, _%_, _≤_, _<_}
+use Prim.Native.Nat.{ℕ, _+_, _*_, _-_, _%_, _≤_, _<_}
 use native.Mathlib.Omega.{arith}
 use lib.ListN.{length, take, drop, length-take, length-drop}
 use Rattle.seqs.specs.Over.{over}
 use Rattle.seqs.proofs.Overwrites.{over-mid}
+use Rattle.words.specs.Words.{wordAt}
 use Rattle.fields.specs.declared.LabelUse.{LabelUse}
 use Rattle.fields.specs.declared.Decoded.{Decoded}
 use Rattle.fields.specs.declared.Decoded.the-variants.{Use, Unsupported, Unknown}
 use Rattle.fields.specs.Words64.{plus, signExtend}
-use Rattle.fields.specs.Kinds.{patchSize}
+use Rattle.fields.specs.Kinds.{patchSize, decoded}
 use Rattle.fields.specs.Patch.{patched, patchedUse, heldAddend}
 use Rattle.fresh.specs.Fill.{part, fillField, fillUse}
 use Rattle.fresh.proofs.Past.{length-patched}
-use Rattle.emit.specs.Emit.{Within}
+use Rattle.emit.specs.Emit.{Within, refFilled}
 
 part-length : (xs : List ℕ) (at k : ℕ) → at + k ≤ length xs → length (take k (drop at xs)) ≡ k
 part-length xs at k h = simp (length-take, length-drop) (omega arith)
@@ -37,19 +38,26 @@ use-back xs field kind at size label e h f =
     let bytes = part xs at (patchSize kind) in
     field-back xs field kind at size (plus label (heldAddend kind bytes)) e h (rw k (rw k at f))
 
+-- ref i as it is read: what its code decodes to, where its label stands, and its addend
+pub record RefRead (refs labels : List ℕ) (i : ℕ) (d : Decoded) (label addend : ℕ) : Type 0 where
+  pub coded : d ≡ decoded (wordAt refs (i * 4 + 2))
+  pub labelled : label ≡ wordAt labels (wordAt refs (i * 4 + 1))
+  pub added : addend ≡ wordAt refs (i * 4 + 3)
+
 -- the decoded kind of an entry, by cases
-pub filled : (d : Decoded) (kind : LabelUse) (offset label addend : ℕ) (l : List ℕ) → d ≡ Use kind
-    → over l offset (patched kind offset (plus label (signExtend 32 addend)) (part l offset (patchSize kind))) ≡ fillField d offset label addend l
-unfolding fillField
-filled d kind offset label addend l e = rw e
+module _ {refs labels : List ℕ} {i : ℕ} {d : Decoded} {label addend : ℕ} (r : RefRead refs labels i d label addend) (at : ℕ) (l : List ℕ) where
+  pub filled : {kind : LabelUse} → d ≡ Use kind
+      → over l at (patched kind at (plus label (signExtend 32 addend)) (part l at (patchSize kind))) ≡ refFilled refs labels at i l
+  unfolding fillField
+  filled e = rw (← r .coded, ← r .labelled, ← r .added, e)
 
-pub filled-unsupported : (d : Decoded) (offset label addend : ℕ) (l : List ℕ) → d ≡ Unsupported → l ≡ fillField d offset label addend l
-unfolding fillField
-filled-unsupported d offset label addend l e = rw e
+  pub filled-unsupported : d ≡ Unsupported → l ≡ refFilled refs labels at i l
+  unfolding fillField
+  filled-unsupported e = rw (← r .coded, e)
 
-pub filled-unknown : (d : Decoded) (offset label addend : ℕ) (l : List ℕ) → d ≡ Unknown → l ≡ fillField d offset label addend l
-unfolding fillField
-filled-unknown d offset label addend l e = rw e
+  pub filled-unknown : d ≡ Unknown → l ≡ refFilled refs labels at i l
+  unfolding fillField
+  filled-unknown e = rw (← r .coded, e)
 
 pub used : (d : Decoded) (kind : LabelUse) (offset label : ℕ) (l : List ℕ) → d ≡ Use kind
     → over l offset (patchedUse kind offset label (part l offset (patchSize kind))) ≡ fillUse d offset label l

@@ -59,15 +59,19 @@ mapped-other f t stride (suc i) k h =
     wordAt-other (mappedWords f t stride i) (i * stride) (f (wordAt t (i * stride))) k (h i (omega arith))
     ∙ mapped-other f t stride i k (λ j l. h j (omega arith))
 
--- the next one is not mapped yet
-pub mapped-next : (f : ℕ → ℕ) (t : List ℕ) (stride i : ℕ) (now : List ℕ) → now ≡ mappedWords f t stride i → 0 < stride
-    → wordAt now (i * stride) ≡ wordAt t (i * stride)
-mapped-next f t stride i now e h =
-    rw e (mapped-other f t stride i (i * stride) (λ j l q. omega (arith, mul-lt-mul-of-pos-right {m = j} {n = i} {k = stride} l h)))
+-- the table after i turns of the loop that maps words
+pub record Mapping (f : ℕ → ℕ) (t : List ℕ) (stride i : ℕ) (now : List ℕ) : Type 0 where
+  pub some : 0 < stride
+  pub mapped : now ≡ mappedWords f t stride i
 
-pub mapped-turn : (f : ℕ → ℕ) (t : List ℕ) (stride i : ℕ) (now next : List ℕ) (offset mapped : ℕ) → now ≡ mappedWords f t stride i → 0 < stride
-    → offset ≡ wordAt now (i * stride) → mapped ≡ f offset → next ≡ setWord now (i * stride) mapped → next ≡ mappedWords f t stride (i + 1)
-unfolding mappedWords
-mapped-turn f t stride i now next offset mapped e h o m n =
-    let k : offset ≡ wordAt t (i * stride) = o ∙ mapped-next f t stride i now e h in
-    n ∙ rw (m, k, e, add-one i)
+module _ {f : ℕ → ℕ} {t : List ℕ} {stride i : ℕ} {now : List ℕ} (m : Mapping f t stride i now) where
+  -- the next one is not mapped yet
+  pub mapped-next : wordAt now (i * stride) ≡ wordAt t (i * stride)
+  mapped-next =
+      rw (m .mapped)
+      (mapped-other f t stride i (i * stride) (λ j l q. omega (arith, mul-lt-mul-of-pos-right {m = j} {n = i} {k = stride} l (m .some))))
+
+  pub mapped-turn : {next : List ℕ} {offset to : ℕ} → offset ≡ wordAt now (i * stride) → to ≡ f offset → next ≡ setWord now (i * stride) to
+      → next ≡ mappedWords f t stride (i + 1)
+  unfolding mappedWords
+  mapped-turn {offset = offset} o e n = let k : offset ≡ wordAt t (i * stride) = o ∙ mapped-next in n ∙ rw (e, k, m .mapped, add-one i)

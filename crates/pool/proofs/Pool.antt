@@ -31,32 +31,42 @@ padding-small offset size = by (leb size 8)
     by true = omega (arith, padding-below offset 8 (omega arith))
     by false = omega (arith, padding-below offset 16 (omega arith))
 
--- the same of what the program computes
-pub pad-small : (offset size multiple pad : ℕ) → multiple ≡ constantAlignment size → pad ≡ paddingLength offset multiple → pad ≤ 15
-pad-small offset size multiple pad e f = rw (f, e) (padding-small offset size)
+-- A turn of a loop that lays constants out: what the program has of constant j, whose alignment starts at `at`.
+pub record Turn (from : ℕ) (constants asked : List ℕ) (j at size multiple pad : ℕ) : Type 0 where
+  pub starts : at ≡ poolStart from constants asked j
+  pub sized : size ≡ sizeAt constants asked j
+  pub aligned : multiple ≡ constantAlignment size
+  pub padded : pad ≡ paddingLength at multiple
 
--- one constant more
-pub start-turn : (from : ℕ) (constants asked : List ℕ) (j at size multiple pad : ℕ)
-    → at ≡ poolStart from constants asked j → size ≡ sizeAt constants asked j → multiple ≡ constantAlignment size → pad ≡ paddingLength at multiple
-    → at + pad + size ≡ poolStart from constants asked (j + 1)
-unfolding poolStart
-start-turn from constants asked j at size multiple pad e f g h = rw (add-one j, h, g, f, e)
+module _ {from : ℕ} {constants asked : List ℕ} {j at size multiple pad : ℕ} (t : Turn from constants asked j at size multiple pad) where
+  pub pad-small : pad ≤ 15
+  pad-small = rw (t .padded, t .aligned) (padding-small at size)
 
-pub offset-turn : (from : ℕ) (constants asked : List ℕ) (j at size multiple pad : ℕ)
-    → at ≡ poolStart from constants asked j → size ≡ sizeAt constants asked j → multiple ≡ constantAlignment size → pad ≡ paddingLength at multiple
-    → at + pad ≡ poolOffset from constants asked j
-offset-turn from constants asked j at size multiple pad e f g h = rw (h, g, f, e)
+  -- one constant more
+  pub start-turn : at + pad + size ≡ poolStart from constants asked (j + 1)
+  unfolding poolStart
+  start-turn = rw (add-one j, t .padded, t .aligned, t .sized, t .starts)
 
-pub bound-turn : (from : ℕ) (labels constants asked : List ℕ) (j label offset : ℕ) (now : List ℕ)
-    → now ≡ poolBound from labels constants asked j → label ≡ labelAt constants asked j → offset ≡ poolOffset from constants asked j
-    → setWord now label offset ≡ poolBound from labels constants asked (j + 1)
-unfolding poolBound
-bound-turn from labels constants asked j label offset now e f g = rw (add-one j, e, f, g)
+  pub offset-turn : at + pad ≡ poolOffset from constants asked j
+  offset-turn = rw (t .padded, t .aligned, t .sized, t .starts)
 
-pub unbound-turn : (labels constants asked : List ℕ) (j label : ℕ) (now : List ℕ)
-    → now ≡ poolUnbound labels constants asked j → label ≡ labelAt constants asked j → setWord now label none ≡ poolUnbound labels constants asked (j + 1)
+  pad-turn : pad ≡ poolPadding from constants asked j
+  pad-turn = rw (t .padded, t .aligned, t .sized, t .starts)
+
+  pub bound-turn : (labels : List ℕ) {now : List ℕ} {label : ℕ} → now ≡ poolBound from labels constants asked j → label ≡ labelAt constants asked j
+      → setWord now label (at + pad) ≡ poolBound from labels constants asked (j + 1)
+  unfolding poolBound
+  bound-turn labels e f = rw (add-one j, e, f, offset-turn)
+
+-- A turn of the loop that unbinds: the table as the turns before left it, and the label of constant j.
+pub record Unbinding (labels constants asked : List ℕ) (j label : ℕ) (now : List ℕ) : Type 0 where
+  pub unbound : now ≡ poolUnbound labels constants asked j
+  pub labelled : label ≡ labelAt constants asked j
+
+pub unbound-turn : {labels constants asked : List ℕ} {j label : ℕ} {now : List ℕ} → Unbinding labels constants asked j label now
+    → setWord now label none ≡ poolUnbound labels constants asked (j + 1)
 unfolding poolUnbound
-unbound-turn labels constants asked j label now e f = rw (add-one j, e, f)
+unbound-turn {j = j} t = rw (add-one j, t .unbound, t .labelled)
 
 or-true : (t : Bool) → (t || true) ≡ true
 or-true true = refl
@@ -147,11 +157,9 @@ pub over-pad : (xs part : List ℕ) (at k n arch : ℕ) → k ≡ n → at + k �
 over-pad xs part at k n arch e h f = rw f (over-padded xs at k n arch e h)
 
 -- the constant lies before the pool's end
-pub within-turn : (from : ℕ) (constants asked : List ℕ) (j n at size multiple pad : ℕ)
-    → at ≡ poolStart from constants asked j → size ≡ sizeAt constants asked j → multiple ≡ constantAlignment size → pad ≡ paddingLength at multiple
-    → j < n → at + pad + size ≤ poolStart from constants asked n
-within-turn from constants asked j n at size multiple pad e f g h l =
-    rw (start-turn from constants asked j at size multiple pad e f g h) (poolStart-grows from constants asked (j + 1) n (omega arith))
+pub within-turn : {from : ℕ} {constants asked : List ℕ} {j at size multiple pad n : ℕ} → Turn from constants asked j at size multiple pad → j < n
+    → at + pad + size ≤ poolStart from constants asked n
+within-turn {from} {constants} {asked} {j} {n = n} t l = rw (start-turn t) (poolStart-grows from constants asked (j + 1) n (omega arith))
 
 pub bytes-turn : (output : List ℕ) (arch from : ℕ) (constants asked : List ℕ) (j at : ℕ) (now : List ℕ)
     → now ≡ over output from (poolBytes arch from constants asked j) → at ≡ poolStart from constants asked j
@@ -166,13 +174,12 @@ bytes-turn output arch from constants asked j at now e f pad offset size g h i =
     rw (o, over-append now at (padding arch pad) zeros, e, a, over-append output from bytes (padding arch pad ++ zeros), add-one j, g, i)
 
 -- the same of the parts that were lent
-pub emit-turn : (output : List ℕ) (arch from : ℕ) (constants asked : List ℕ) (j at : ℕ) (now : List ℕ) (size multiple pad : ℕ) (first second : List ℕ)
-    → now ≡ over output from (poolBytes arch from constants asked j) → at ≡ poolStart from constants asked j → size ≡ sizeAt constants asked j
-    → multiple ≡ constantAlignment size → pad ≡ paddingLength at multiple → at + pad + size ≤ length now
+pub emit-turn : (output : List ℕ) (arch : ℕ) {from : ℕ} {constants asked : List ℕ} {j at size multiple pad : ℕ} {now first second : List ℕ}
+    → Turn from constants asked j at size multiple pad → now ≡ over output from (poolBytes arch from constants asked j) → at + pad + size ≤ length now
     → let a = at + pad in let k = a - at in let m = a + size - a in first ≡ padding arch (length (take k (drop at now)))
     → let padded = take at now ++ (first ++ drop k (drop at now)) in second ≡ replicate (length (take m (drop a padded))) 0
     → take a padded ++ (second ++ drop m (drop a padded)) ≡ over output from (poolBytes arch from constants asked (j + 1))
-emit-turn output arch from constants asked j at now size multiple pad first second e f s t p h fe se =
+emit-turn output arch {from} {constants} {asked} {j} {at} {size} {pad = pad} {now} {first} {second} t e h fe se =
     let a = at + pad in
     let k = a - at in
     let m = a + size - a in
@@ -180,32 +187,36 @@ emit-turn output arch from constants asked j at now size multiple pad first seco
     let one : padded ≡ over now at (padding arch pad) = over-pad now first at k pad arch (omega arith) (omega arith) fe in
     let room : a + m ≤ length padded = rw (one, length-over now at (padding arch pad)) (omega arith) in
     over-cleared padded second a m size (omega arith) room se
-    ∙ rw one (bytes-turn output arch from constants asked j at now e f pad a size (rw (p, t, s, f)) refl s)
+    ∙ rw one (bytes-turn output arch from constants asked j at now e (t .starts) pad a size (pad-turn t) refl (t .sized))
 
--- the constant's bytes lie in the output
-pub room-turn : {output labels constants asked : List ℕ} {n j label offset size : ℕ} → PoolRoom output labels constants asked n → j < n
-    → label ≡ labelAt constants asked j → offset ≡ wordAt labels label → size ≡ sizeAt constants asked j → offset + size ≤ length output
-room-turn {j = j} room h l o s = rw (o, l, s) (room .within j h)
+-- A turn of the loop that writes the constants' bytes: what the program has of constant j, which is `number` in the table of constants.
+pub record Writing (labels constants asked : List ℕ) (j size label offset number : ℕ) : Type 0 where
+  pub sized : size ≡ sizeAt constants asked j
+  pub labelled : label ≡ labelAt constants asked j
+  pub placed : offset ≡ wordAt labels label
+  pub numbered : number ≡ wordAt asked j
 
-pub from-turn : {constants asked : List ℕ} {n j number size : ℕ} → PoolFits constants asked n → j < n
-    → number ≡ wordAt asked j → size ≡ sizeAt constants asked j → number * constantSize + constantHead + size ≤ length constants
-from-turn {j = j} fits h e s = omega (arith, fits .listed j h, fits .sized j h)
+module _ {labels constants asked : List ℕ} {j size label offset number : ℕ} (t : Writing labels constants asked j size label offset number) where
+  -- the constant's bytes lie in the output
+  pub room-turn : {output : List ℕ} {n : ℕ} → PoolRoom output labels constants asked n → j < n → offset + size ≤ length output
+  room-turn room h = rw (t .placed, t .labelled, t .sized) (room .within j h)
 
--- a turn of the loop that writes the constants' bytes
-pub written-turn : (output labels constants asked : List ℕ) (j : ℕ) (now : List ℕ) (size label offset number : ℕ) (part : List ℕ)
-    → now ≡ poolWritten output labels constants asked j → size ≡ sizeAt constants asked j → label ≡ labelAt constants asked j → offset ≡ wordAt labels label
-    → number ≡ wordAt asked j → number * constantSize + constantHead + size ≤ length constants → offset + size ≤ length now
-    → let a = number * constantSize + constantHead in let k = a + size - a in let m = offset + size - offset in part ≡ over (take m (drop offset now)) 0 (take k (drop a constants))
-    → take offset now ++ (part ++ drop m (drop offset now)) ≡ poolWritten output labels constants asked (j + 1)
-unfolding poolWritten
-written-turn output labels constants asked j now size label offset number part e s l o n ha hb f =
-    let a = number * constantSize + constantHead in
-    let k : a + size - a ≡ size = omega arith in
-    let m : offset + size - offset ≡ size = omega arith in
-    let bytes = take size (drop a constants) in
-    let whole : part ≡ bytes =
-    (rw (k, m) at f) ∙ over-all (take size (drop offset now)) bytes (part-length constants a size ha ∙ sym (part-length now offset size hb)) in
-    rw (m, whole) (over-mid now offset size bytes (part-length constants a size ha) hb ∙ rw (o, n, s, l, e, add-one j))
+  pub from-turn : {n : ℕ} → PoolFits constants asked n → j < n → number * constantSize + constantHead + size ≤ length constants
+  from-turn fits h = omega (arith, t .numbered, t .sized, fits .listed j h, fits .sized j h)
+
+  pub written-turn : (output : List ℕ) {now part : List ℕ} → now ≡ poolWritten output labels constants asked j
+      → number * constantSize + constantHead + size ≤ length constants → offset + size ≤ length now
+      → let a = number * constantSize + constantHead in let k = a + size - a in let m = offset + size - offset in part ≡ over (take m (drop offset now)) 0 (take k (drop a constants))
+      → take offset now ++ (part ++ drop m (drop offset now)) ≡ poolWritten output labels constants asked (j + 1)
+  unfolding poolWritten
+  written-turn output {now} {part} e ha hb f =
+      let a = number * constantSize + constantHead in
+      let k : a + size - a ≡ size = omega arith in
+      let m : offset + size - offset ≡ size = omega arith in
+      let bytes = take size (drop a constants) in
+      let whole : part ≡ bytes =
+      (rw (k, m) at f) ∙ over-all (take size (drop offset now)) bytes (part-length constants a size ha ∙ sym (part-length now offset size hb)) in
+      rw (m, whole) (over-mid now offset size bytes (part-length constants a size ha) hb ∙ rw (t .placed, t .numbered, t .sized, t .labelled, e, add-one j))
 
 -- the length stays
 pub length-poolWritten : (output labels constants asked : List ℕ) (n : ℕ) → length (poolWritten output labels constants asked n) ≡ length output

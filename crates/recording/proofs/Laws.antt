@@ -14,7 +14,7 @@ use Rattle.seqs.proofs.Booleans.{both-false}
 use Rattle.seqs.proofs.Picking.{pick-no, yes-eq, no-eq}
 use Rattle.words.proofs.Entries.{three-words, four-words, five-words, six-words}
 use Rattle.encoder.specs.Padding.{paddingLength}
-use Rattle.relax.specs.Events.{eventOf, setEvent, eventSize, eventWords}
+use Rattle.relax.specs.Events.{eventOf, setEvent, eventWords, eventSize}
 use Rattle.buffer.specs.declared.CodeBuffer.{CodeBuffer}
 use Rattle.buffer.specs.declared.Recorded.{Recorded}
 use Rattle.buffer.specs.declared.Made.{Made}
@@ -34,7 +34,7 @@ use Rattle.buffer.proofs.Accepted.{
   constant-label-accepted,
   reloc-accepted,
 }
-use Rattle.buffer.specs.Tables.{labelSize, useSize, refSize, constantSize, askedSize, relocSize, useWords, refWords, constantWords, constantHead, relocWords}
+use Rattle.buffer.specs.Tables.{labelSize, useWords, useSize, refWords, refSize, constantWords, constantSize, constantHead, askedSize, relocWords, relocSize}
 use Rattle.recording.specs.Calls.{Recording, Word, Word64, bytes, newLabel, bind, align, use-label, ref, jump, constant, constant-label, relocation, withBuffer, withCodeTable, withLabelTable, withEventTable, withUseTable, withRefTable, withConstantTable, withAskedTable, withRelocTable, after, Call, answered}
 use Rattle.recording.specs.Sound.{labelOf, Sound}
 use Rattle.recording.specs.View.{constantAt, view, seeCode, seeLabels, seeEvents, seeUses, seeRefs, seeConstants, seeAsked, seeRelocs}
@@ -90,7 +90,7 @@ module _ (r : Recording) (s : Sound r) where
   unfolding putBytes
   see-bytes l h =
       let b = r .buffer in
-      let f = bytes-accepted b (length (r .code)) (length l) h in
+      let f = bytes-accepted h in
       ap (λ (a : Recorded × List ℕ). view (withCodeTable r (a .0 .buffer) (a .1))) (yes-eq _ 0 _ _ h)
       ∙ rw (take-over-end (r .code) (b .code) l (f .room))
 
@@ -98,7 +98,7 @@ module _ (r : Recording) (s : Sound r) where
   unfolding getLabel
   see-new-label h =
       let n = r .buffer .labels in
-      let f = label-accepted (r .buffer) (length (r .labels) / labelSize) h in
+      let f = label-accepted h in
       let fits = f .fits in
       ap (λ (a : Made × List ℕ). view (withLabelTable r (a .0 .buffer) (a .1))) (yes-eq _ 0 _ _ h)
       ∙ rw (one-word-more (r .labels) _ n none (appended (r .labels) _ n (none ∷ []) refl (omega arith) (omega arith, tt)))
@@ -107,7 +107,7 @@ module _ (r : Recording) (s : Sound r) where
       → view (after (bind l) r) ≡ seeLabels (view r) (set (view r .labels) (l .value) (r .buffer .code))
   unfolding bindLabel
   see-bind l h =
-      let f = bind-accepted (r .buffer) (r .labels) (l .value) h in
+      let f = bind-accepted h in
       let room = f .room in
       let limit = s .code .limit in
       ap (λ (a : Recorded × List ℕ). view (withLabelTable r (a .0 .buffer) (a .1))) (yes-eq _ 0 _ _ h)
@@ -118,7 +118,7 @@ module _ (r : Recording) (s : Sound r) where
   unfolding useLabel
   see-use o l c h =
       let n = r .buffer .uses in
-      let f = use-accepted (r .buffer) (length (r .uses) / useSize) (l .value) (c .value) h in
+      let f = use-accepted h in
       let fits = f .fits in
       ap (λ (a : Recorded × List ℕ). view (withUseTable r (a .0 .buffer) (a .1))) (yes-eq _ 0 _ _ h)
       ∙ rw (one-use-more (r .uses) _ n (o .value) (l .value) (c .value)
@@ -131,7 +131,7 @@ module _ (r : Recording) (s : Sound r) where
   unfolding recordRef
   see-ref o l c d h x64 =
       let n = r .buffer .refs in
-      let f = ref-accepted (r .buffer) (length (r .refs) / refSize) (l .value) (c .value) h x64 in
+      let f = ref-accepted h x64 in
       let fits = f .fits in
       ap (λ (a : Recorded × List ℕ). view (withRefTable r (a .0 .buffer) (a .1))) (yes-eq _ 0 _ _ h ∙ yes-eq _ 2 _ _ x64)
       ∙ rw (one-ref-more (r .refs) _ n (o .value) (l .value) (c .value) (d .value)
@@ -149,7 +149,7 @@ module _ (r : Recording) (s : Sound r) where
   unfolding recordJump setEvent
   see-jump p n l c h x64 =
       let k = r .buffer .events in
-      let f = jump-accepted (r .buffer) (r .labels) (r .events) (p .value) (n .value) (l .value) (c .value) h x64 in
+      let f = jump-accepted h x64 in
       let fits = f .fits in
       ap (λ (a : Recorded × List ℕ). view (withEventTable r (a .0 .buffer) (a .1))) (yes-eq _ 0 _ _ h ∙ yes-eq _ 2 _ _ x64)
       ∙ rw (one-event-more (r .events) _ k 1 (p .value) (n .value) (l .value) (c .value)
@@ -170,7 +170,7 @@ module _ (r : Recording) (s : Sound r) where
       let n = r .buffer .relocs in
       let low = d .value % 4294967296 in
       let high = d .value / 4294967296 in
-      let f = reloc-accepted (r .buffer) (length (r .relocs) / relocSize) (o .value) (k .value) (t .value) h in
+      let f = reloc-accepted h in
       let fits = f .fits in
       let wide = d .small in
       ap (λ (a : Recorded × List ℕ). view (withRelocTable r (a .0 .buffer) (a .1))) (yes-eq _ 0 _ _ h)
@@ -183,7 +183,7 @@ module _ (r : Recording) (s : Sound r) where
   unfolding addConstant
   see-constant l h =
       let n = r .buffer .constants in
-      let f = constant-accepted (r .buffer) (length (r .constants) / constantSize) (length l) h in
+      let f = constant-accepted h in
       let fits = f .fits in
       let small = f .small in
       let a =
@@ -198,7 +198,7 @@ module _ (r : Recording) (s : Sound r) where
   padded m h =
       let b = r .buffer in
       let pad = paddingLength (b .code) (m .value) in
-      let fits = align-accepted b (length (r .code)) (length (r .events) / eventSize) (m .value) h .fits in
+      let fits = align-accepted h .fits in
       let size = padding-length (b .arch) pad in
       ap (λ (n : ℕ). take (b .code + n) (over (r .code) (b .code) (padding (b .arch) pad))) (sym size)
       ∙ take-over-end (r .code) (b .code) (padding (b .arch) pad) (omega arith)
@@ -213,7 +213,7 @@ module _ (r : Recording) (s : Sound r) where
       let b = r .buffer in
       let k = b .events in
       let pad = paddingLength (b .code) (m .value) in
-      let f = align-accepted b (length (r .code)) (length (r .events) / eventSize) (m .value) h in
+      let f = align-accepted h in
       let fits = f .fits in
       let few = f .few in
       let room = f .event x64 in
@@ -256,7 +256,7 @@ module _ (r : Recording) (s : Sound r) where
       let b = r .buffer in
       let c = n .value in
       let labels = b .labels in
-      let f = constant-label-accepted b (length (r .constants) / constantSize) (length (r .asked) / askedSize) (length (r .labels) / labelSize) c h in
+      let f = constant-label-accepted h in
       let rooms = both-false (leb (length (r .labels) / labelSize) labels) (leb (length (r .asked) / askedSize) (b .asked)) room in
       let label-room = leb-false (length (r .labels) / labelSize) labels (rooms .0) in
       let asked-room = leb-false (length (r .asked) / askedSize) (b .asked) (rooms .1) in

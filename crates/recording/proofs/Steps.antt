@@ -15,7 +15,7 @@ use Rattle.seqs.proofs.Booleans.{both-false}
 use Rattle.seqs.proofs.Overwrites.{length-over}
 use Rattle.words.specs.Words.{wordAt}
 use Rattle.encoder.specs.Padding.{paddingLength}
-use Rattle.relax.specs.Events.{setEvent, eventSize, eventWords}
+use Rattle.relax.specs.Events.{setEvent, eventWords, eventSize}
 use Rattle.words.proofs.Entries.{three-words, four-words, five-words, six-words}
 use Rattle.buffer.specs.declared.CodeBuffer.{CodeBuffer}
 use Rattle.buffer.specs.declared.Recorded.{Recorded}
@@ -30,7 +30,7 @@ use Rattle.recording.proofs.Tables.{appended, appended-before, append-l
 use Rattle.recording.proofs.Constants.{append-constant, asked-before-constant, label-constant, ask}
 use Rattle.recording.proofs.Tables.{known-target}
 use Rattle.buffer.proofs.Accepted.{label-accepted, bind-accepted, bytes-accepted, align-accepted, use-accepted, ref-accepted, jump-accepted, constant-accepted, constant-label-accepted, reloc-accepted}
-use Rattle.buffer.specs.Tables.{labelSize, useSize, refSize, constantWords, constantSize, askedSize, relocSize, useWords, constantHead, relocWords}
+use Rattle.buffer.specs.Tables.{labelSize, useWords, useSize, refSize, constantWords, constantSize, constantHead, askedSize, relocWords, relocSize}
 
 -- either way
 pub either : {A : Type 0} (t : Bool) (P : A → Type 0) (x y : A) → P x → P y → P (pick t x y)
@@ -76,7 +76,7 @@ keeps-newLabel r s =
     let why = whyLabel b (length (r .labels) / labelSize) in
     tested why 0 (λ (a : Made × List ℕ). Sound (withLabelTable r (a .0 .buffer) (a .1))) _ _
     (λ h.
-    let f = label-accepted b (length (r .labels) / labelSize) h in
+    let f = label-accepted h in
     let fits = f .fits in
     let n = b .labels in
     let more : n ≤ n + 1 = omega arith in
@@ -99,7 +99,7 @@ keeps-bind r l s =
     let why = whyBind b (r .labels) (l .value) in
     tested why 0 (λ (a : Recorded × List ℕ). Sound (withLabelTable r (a .0 .buffer) (a .1))) _ _
     (λ h.
-    let f = bind-accepted b (r .labels) (l .value) h in
+    let f = bind-accepted h in
     record {
       code = s .code;
       labels = bind-label (r .labels) (b .labels) (r .events) (b .events) (b .labels) (b .code) (b .arch) (l .value) (f .known) (f .room) (s .code .limit) (s .events) (s .labels);
@@ -120,7 +120,7 @@ keeps-bytes r l s =
     let more : b .code ≤ b .code + length l = omega arith in
     tested why 0 (λ (a : Recorded × List ℕ). Sound (withCodeTable r (a .0 .buffer) (a .1))) _ _
     (λ h.
-    let f = bytes-accepted b (length (r .code)) (length l) h in
+    let f = bytes-accepted h in
     record {
       code = record { room = rw (length-over (r .code) (b .code) l) (f .room); limit = omega (arith, f .room, f .few) };
       labels = more-code-labels (r .labels) (b .labels) (r .events) (b .events) (b .code) (b .code + length l) more (s .labels);
@@ -141,7 +141,7 @@ keeps-use r o l c s =
     let why = whyUse b (length (r .uses) / useSize) (l .value) (c .value) in
     tested why 0 (λ (a : Recorded × List ℕ). Sound (withUseTable r (a .0 .buffer) (a .1))) _ _
     (λ h.
-    let f = use-accepted b (length (r .uses) / useSize) (l .value) (c .value) h in
+    let f = use-accepted h in
     let fits = f .fits in
     let a =
     appended (r .uses) _ k (o .value ∷ l .value ∷ c .value ∷ []) (three-words (r .uses) k (o .value) (l .value) (c .value)) (omega arith)
@@ -169,7 +169,7 @@ keeps-ref r o l c d s =
     (λ h.
     tested (b .arch) 2 P _ _
     (λ x64.
-    let f = ref-accepted b (length (r .refs) / refSize) (l .value) (c .value) h x64 in
+    let f = ref-accepted h x64 in
     let fits = f .fits in
     let a =
     appended (r .refs) _ k (o .value ∷ l .value ∷ c .value ∷ d .value ∷ []) (four-words (r .refs) k (o .value) (l .value) (c .value) (d .value)) (omega arith)
@@ -198,7 +198,7 @@ keeps-reloc r o k t d s =
     let P : Recorded × List ℕ → Type 0 = λ a. Sound (withRelocTable r (a .0 .buffer) (a .1)) in
     tested why 0 P _ _
     (λ h.
-    let f = reloc-accepted b (length (r .relocs) / relocSize) (o .value) (k .value) (t .value) h in
+    let f = reloc-accepted h in
     let fits = f .fits in
     let wide = d .small in
     let a =
@@ -228,7 +228,7 @@ keeps-constant r l s =
     let P : Made × List ℕ → Type 0 = λ a. Sound (withConstantTable r (a .0 .buffer) (a .1)) in
     tested why 0 P _ _
     (λ h.
-    let f = constant-accepted b (length (r .constants) / constantSize) (length l) h in
+    let f = constant-accepted h in
     let fits = f .fits in
     let small = f .small in
     let a =
@@ -259,7 +259,7 @@ keeps-jump r p n l c s =
     (λ h.
     tested (b .arch) 2 P _ _
     (λ x64.
-    let f = jump-accepted b (r .labels) (r .events) start len (l .value) (c .value) h x64 in
+    let f = jump-accepted h x64 in
     let fits = f .fits in
     let last = f .follows in
     let ends = f .ends in
@@ -296,7 +296,7 @@ keeps-align r m s =
     tested why 0
     (λ (a : Recorded × (List ℕ × List ℕ)). Sound (withEventTable (withCodeTable r (a .0 .buffer) (a .1 .0)) (a .0 .buffer) (a .1 .1))) _ _
     (λ h.
-    let f = align-accepted b (length (r .code)) (length (r .events) / eventSize) (m .value) h in
+    let f = align-accepted h in
     let fits = f .fits in
     let few = f .few in
     let code = over (r .code) (b .code) (padding (b .arch) pad) in
@@ -350,7 +350,7 @@ keeps-constant-label r n s =
     λ a. Sound (withLabelTable (withAskedTable (withConstantTable r (a .0 .buffer) (a .1 .0)) (a .1 .1 .0)) (a .0 .buffer) (a .1 .1 .1)) in
     tested why 0 P _ _
     (λ h.
-    let f = constant-label-accepted b (length (r .constants) / constantSize) (length (r .asked) / askedSize) (length (r .labels) / labelSize) c h in
+    let f = constant-label-accepted h in
     let few = f .few in
     tested held none P _ _
     (λ unlabelled.

@@ -86,76 +86,76 @@ module _ (b : CodeBuffer) (kind : ℕ) (arguments code labels events uses refs c
   abbrev pub Calls : ℕ → Recording → Type 0
   Calls refusal r = (refusal, r) ≡ called (callOf kind arguments) lent
 
-  pub bytes-called : (r : Recorded) (code' : List ℕ) (given : List ℕ) → kind ≡ 1 → given ≡ bytesIn arguments → (r, code') ≡ putBytes b code given
+  pub bytes-called : {r : Recorded} {code' : List ℕ} {given : List ℕ} → kind ≡ 1 → given ≡ bytesIn arguments → (r, code') ≡ putBytes b code given
       → Calls (r .refusal) (recordingOf (r .buffer) code' labels events uses refs constants asked relocs)
   unfolding pick callOf
-  bytes-called r code' given k g0 e =
+  bytes-called k g0 e =
       let p = rw g0 at e in
       rw k (ap (λ (a : Recorded × List ℕ). (a .0 .refusal, recordingOf (a .0 .buffer) (a .1) labels events uses refs constants asked relocs)) p)
 
-  pub align-called : (r : Recorded) (code' events' : List ℕ) (m : ℕ) → kind ≡ 4 → m ≡ word arguments 0 .value → (r, (code', events')) ≡ alignTo b code events m
+  pub align-called : {r : Recorded} {code' events' : List ℕ} {m : ℕ} → kind ≡ 4 → m ≡ word arguments 0 .value → (r, (code', events')) ≡ alignTo b code events m
       → Calls (r .refusal) (recordingOf (r .buffer) code' labels events' uses refs constants asked relocs)
   unfolding pick callOf
-  align-called r code' events' m k g0 e =
+  align-called k g0 e =
       let p = rw g0 at e in
       rw k (ap (λ (a : Recorded × (List ℕ × List ℕ)). (a .0 .refusal, recordingOf (a .0 .buffer) (a .1 .0) labels (a .1 .1) uses refs constants asked relocs)) p)
 
-  pub label-called : (m : Made) (labels' : List ℕ) → kind ≡ 2 → (m, labels') ≡ getLabel b labels
+  pub label-called : {m : Made} {labels' : List ℕ} → kind ≡ 2 → (m, labels') ≡ getLabel b labels
       → Calls (m .refusal) (recordingOf (m .buffer) code labels' events uses refs constants asked relocs)
   unfolding pick callOf
-  label-called m labels' k e =
+  label-called k e =
       rw k (ap (λ (a : Made × List ℕ). (a .0 .refusal, recordingOf (a .0 .buffer) code (a .1) events uses refs constants asked relocs)) e)
 
-  pub bind-called : (r : Recorded) (labels' : List ℕ) (l : ℕ) → kind ≡ 3 → l ≡ word arguments 0 .value → (r, labels') ≡ bindLabel b labels l
+  pub bind-called : {r : Recorded} {labels' : List ℕ} {l : ℕ} → kind ≡ 3 → l ≡ word arguments 0 .value → (r, labels') ≡ bindLabel b labels l
       → Calls (r .refusal) (recordingOf (r .buffer) code labels' events uses refs constants asked relocs)
   unfolding pick callOf
-  bind-called r labels' l k g0 e =
+  bind-called k g0 e =
       let p = rw g0 at e in
       rw k (ap (λ (a : Recorded × List ℕ). (a .0 .refusal, recordingOf (a .0 .buffer) code (a .1) events uses refs constants asked relocs)) p)
 
-  pub jump-called : (r : Recorded) (events' : List ℕ) (s n l c : ℕ) → kind ≡ 7 → s ≡ word arguments 0 .value → n ≡ word arguments 1 .value → l ≡ word arguments 2 .value → c ≡ word arguments 3 .value → (r, events') ≡ recordJump b labels events s n l c
+  pub jump-called : {r : Recorded} {events' : List ℕ} {s n l c : ℕ} → kind ≡ 7 → s ≡ word arguments 0 .value → n ≡ word arguments 1 .value → l ≡ word arguments 2 .value → c ≡ word arguments 3 .value → (r, events') ≡ recordJump b labels events s n l c
       → Calls (r .refusal) (recordingOf (r .buffer) code labels events' uses refs constants asked relocs)
   unfolding pick callOf
-  jump-called r events' s n l c k g0 g1 g2 g3 e =
+  jump-called k g0 g1 g2 g3 e =
       let p = rw (g0, g1, g2, g3) at e in
       rw k (ap (λ (a : Recorded × List ℕ). (a .0 .refusal, recordingOf (a .0 .buffer) code labels (a .1) uses refs constants asked relocs)) p)
 
-  pub constant-called : (m : Made) (constants' : List ℕ) (given : List ℕ) → kind ≡ 8 → given ≡ bytesIn arguments → (m, constants') ≡ addConstant b constants given
+  pub constant-called : {m : Made} {constants' : List ℕ} {given : List ℕ} → kind ≡ 8 → given ≡ bytesIn arguments → (m, constants') ≡ addConstant b constants given
       → Calls (m .refusal) (recordingOf (m .buffer) code labels events uses refs constants' asked relocs)
   unfolding pick callOf
-  constant-called m constants' given k g0 e =
+  constant-called k g0 e =
       let p = rw g0 at e in
       rw k (ap (λ (a : Made × List ℕ). (a .0 .refusal, recordingOf (a .0 .buffer) code labels events uses refs (a .1) asked relocs)) p)
 
-  pub constant-label-called : (m : Made) (constants' asked' labels' : List ℕ) (n : ℕ) → kind ≡ 9 → n ≡ word arguments 0 .value → (m, (constants', (asked', labels'))) ≡ constantLabel b constants asked labels n
+  pub constant-label-called : {m : Made} {constants' asked' labels' : List ℕ} {n : ℕ} → kind ≡ 9 → n ≡ word arguments 0 .value → (m, (constants', (asked', labels'))) ≡ constantLabel b constants asked labels n
       → Calls (m .refusal) (recordingOf (m .buffer) code labels' events uses refs constants' asked' relocs)
   unfolding pick callOf
-  constant-label-called m constants' asked' labels' n k g0 e =
+  constant-label-called k g0 e =
       let p = rw g0 at e in
       rw k (ap (λ (a : Made × (List ℕ × (List ℕ × List ℕ))). (a .0 .refusal, recordingOf (a .0 .buffer) code (a .1 .1 .1) events uses refs (a .1 .0) (a .1 .1 .0) relocs)) p)
 
-  pub use-called : (r : Recorded) (uses' : List ℕ) (o l c : ℕ) → kind ≡ 5 → o ≡ word arguments 0 .value → l ≡ word arguments 1 .value → c ≡ word arguments 2 .value → (r, uses') ≡ useLabel b uses o l c
+  pub use-called : {r : Recorded} {uses' : List ℕ} {o l c : ℕ} → kind ≡ 5 → o ≡ word arguments 0 .value → l ≡ word arguments 1 .value → c ≡ word arguments 2 .value → (r, uses') ≡ useLabel b uses o l c
       → Calls (r .refusal) (recordingOf (r .buffer) code labels events uses' refs constants asked relocs)
   unfolding pick callOf
-  use-called r uses' o l c k g0 g1 g2 e =
+  use-called k g0 g1 g2 e =
       let p = rw (g0, g1, g2) at e in
       rw k (ap (λ (a : Recorded × List ℕ). (a .0 .refusal, recordingOf (a .0 .buffer) code labels events (a .1) refs constants asked relocs)) p)
 
-  pub ref-called : (r : Recorded) (refs' : List ℕ) (o l c d : ℕ) → kind ≡ 6 → o ≡ word arguments 0 .value → l ≡ word arguments 1 .value → c ≡ word arguments 2 .value → d ≡ word arguments 3 .value → (r, refs') ≡ recordRef b refs o l c d
+  pub ref-called : {r : Recorded} {refs' : List ℕ} {o l c d : ℕ} → kind ≡ 6 → o ≡ word arguments 0 .value → l ≡ word arguments 1 .value → c ≡ word arguments 2 .value → d ≡ word arguments 3 .value → (r, refs') ≡ recordRef b refs o l c d
       → Calls (r .refusal) (recordingOf (r .buffer) code labels events uses refs' constants asked relocs)
   unfolding pick callOf
-  ref-called r refs' o l c d k g0 g1 g2 g3 e =
+  ref-called k g0 g1 g2 g3 e =
       let p = rw (g0, g1, g2, g3) at e in
       rw k (ap (λ (a : Recorded × List ℕ). (a .0 .refusal, recordingOf (a .0 .buffer) code labels events uses (a .1) constants asked relocs)) p)
 
   -- what is left is a relocation
-  pub relocation-called : (r : Recorded) (relocs' : List ℕ) (o q t d : ℕ)
+  pub relocation-called : {r : Recorded} {relocs' : List ℕ} {o q t d : ℕ}
       → (kind ≢ 1) × (kind ≢ 2) × (kind ≢ 3) × (kind ≢ 4) × (kind ≢ 7) × (kind ≢ 8) × (kind ≢ 9) → kind ≢ 5 → kind ≢ 6
       → o ≡ word arguments 0 .value → q ≡ word arguments 1 .value → t ≡ word arguments 2 .value → d ≡ signedWord arguments 3 .value
       → (r, relocs') ≡ addReloc b relocs o q t d
       → Calls (r .refusal) (recordingOf (r .buffer) code labels events uses refs constants asked relocs')
   unfolding callOf
-  relocation-called r relocs' o q t d k five six g0 g1 g2 g3 e =
+  relocation-called k five six g0 g1 g2 g3 e =
       let p = rw (g0, g1, g2, g3) at e in
       let other =
       no-eq kind 1 _ _ (k .0)

@@ -21,7 +21,7 @@ use Rattle.finish.specs.declared.Finished.{Finished}
 use Rattle.finish.specs.Finish as finishing
 use Rattle.finish.specs.Finish.{bytesOfAll, overWords}
 use Rattle.sheet.specs.Run as sheets
-use Rattle.wargnifla.specs.Boundary.{countsAt, countsOf, recordOf, start, putBytes, addConstant, addReloc, lentOf, lentWith, runSheet, finish}
+use Rattle.wargnifla.specs.Boundary.{Lent, countsAt, countsOf, recordOf, start, putBytes, addConstant, addReloc, lentOf, lentWith, runSheet, finish}
 
 -- words written one after the other are their bytes over what was there
 pub words-over : (t : List ℕ) (k : ℕ) (vs : List ℕ) → setWords t k vs ≡ over t (k * 4) (bytesOfAll vs)
@@ -32,9 +32,17 @@ words-over t k (v ∷ vs) =
     words-over (setWord t k v) (k + 1) vs
     ∙ (ap (λ (at : ℕ). over (over t (k * 4) (bytesOf v)) at (bytesOfAll vs)) e ∙ over-append t (k * 4) (bytesOf v) (bytesOfAll vs))
 
-pub four-over : (t : List ℕ) (k a b c d : ℕ)
-    → setWord (setWord (setWord (setWord t k a) (k + 1) b) (k + 2) c) (k + 3) d ≡ over t (k * 4) (bytesOfAll (a ∷ b ∷ c ∷ d ∷ []))
-four-over t k a b c d = four-words t k a b c d ∙ words-over t k (a ∷ b ∷ c ∷ d ∷ [])
+-- bytes with four words written, and as they were after each of the first three
+pub record FourWritten (t : List ℕ) (k a b c d : ℕ) (one two three four : List ℕ) : Type 0 where
+  pub first : one ≡ setWord t k a
+  pub second : two ≡ setWord one (k + 1) b
+  pub third : three ≡ setWord two (k + 2) c
+  pub fourth : four ≡ setWord three (k + 3) d
+
+pub four-over : {t : List ℕ} {k a b c d : ℕ} {one two three four : List ℕ} → FourWritten t k a b c d one two three four
+    → four ≡ over t (k * 4) (bytesOfAll (a ∷ b ∷ c ∷ d ∷ []))
+four-over {t} {k} {a} {b} {c} {d} w =
+    rw (w .fourth, w .third, w .second, w .first) (four-words t k a b c d ∙ words-over t k (a ∷ b ∷ c ∷ d ∷ []))
 
 pub counts-over : (t : List ℕ) (b : CodeBuffer)
     → over
@@ -56,6 +64,57 @@ record-over t f =
     let first = bytesOfAll (f .arch ∷ f .len ∷ f .alignment ∷ f .layouts ∷ []) in
     ap (λ l. over l 20 (bytesOf (f .relocs))) (over-append t 0 first (bytesOf (f .labels)))
     ∙ over-append t 0 (bytesOfAll (f .arch ∷ f .len ∷ f .alignment ∷ f .layouts ∷ f .labels ∷ [])) (bytesOf (f .relocs))
+
+pub reloc-short : {counts relocs : List ℕ} (offset kind target addend : ℕ) → length counts < 48
+    → (1, (counts, relocs)) ≡ addReloc counts relocs offset kind target addend
+unfolding addReloc
+reloc-short offset kind target addend h = sym (yes-lt _ 48 _ _ h)
+
+-- A relocation is added across the boundary: the counts are read as b, the call answers a, and its counts are written.
+pub record RelocCrosses (counts counts' relocs relocs' : List ℕ) (offset kind target addend : ℕ) (b : CodeBuffer) (a : Recorded) : Type 0 where
+  pub long : 48 ≤ length counts
+  pub read : b ≡ countsAt counts
+  pub added : (a, relocs') ≡ calls.addReloc b relocs offset kind target addend
+  pub written : counts' ≡ overWords counts (countsOf (a .buffer))
+
+module _ {counts counts' relocs relocs' : List ℕ} {offset kind target addend : ℕ} where
+  pub reloc-crosses : {b : CodeBuffer} {a : Recorded} → RelocCrosses counts counts' relocs relocs' offset kind target addend b a
+      → (a .refusal, (counts', relocs')) ≡ addReloc counts relocs offset kind target addend
+  unfolding addReloc
+  reloc-crosses c =
+      rw (c .written)
+      (ap
+      (λ (x : Recorded × List ℕ). (x .0 .refusal, (overWords counts (countsOf (x .0 .buffer)), x .1)))
+      (c .added ∙ ap (λ (x : CodeBuffer). calls.addReloc x relocs offset kind target addend) (c .read))
+      ∙ sym (no-lt _ 48 _ _ (c .long)))
+
+-- a recording that is lent with these counts
+abbrev lending : List ℕ → Recording → Lent
+lending counts r = lentOf counts (r .code) (r .labels) (r .events) (r .uses) (r .refs) (r .constants) (r .asked) (r .relocs)
+
+pub sheet-short : (sheet : List ℕ) {l : Lent} → length (l .counts) < 48 → ((1, 0), l) ≡ runSheet sheet l
+unfolding runSheet
+sheet-short sheet h = sym (yes-lt _ 48 _ _ h)
+
+-- A sheet is run across the boundary: the counts are read as those of r, the run leaves r', and its counts are written.
+pub record SheetCrosses (sheet counts counts' : List ℕ) (r r' : Recording) (refusal index : ℕ) : Type 0 where
+  pub long : 48 ≤ length counts
+  pub read : r .buffer ≡ countsAt counts
+  pub ran : ((refusal, index), r') ≡ sheets.runSheet sheet r
+  pub written : counts' ≡ overWords counts (countsOf (r' .buffer))
+
+pub sheet-crosses : {sheet counts counts' : List ℕ} {r r' : Recording} {refusal index : ℕ} → SheetCrosses sheet counts counts' r r' refusal index
+    → ((refusal, index), lending counts' r') ≡ runSheet sheet (lending counts r)
+unfolding runSheet
+sheet-crosses {sheet} {counts} {r = r} c =
+    rw (c .written)
+    (ap
+    (λ (x : (ℕ × ℕ) × Recording). (x .0, lentWith counts (x .1)))
+    (c .ran
+    ∙ ap
+    (λ (x : CodeBuffer). sheets.runSheet sheet (recordingOf x (r .code) (r .labels) (r .events) (r .uses) (r .refs) (r .constants) (r .asked) (r .relocs)))
+    (c .read))
+    ∙ sym (no-lt _ 48 _ _ (c .long)))
 
 module _ (counts counts' : List ℕ) where
   pub start-short : (arch symbols : ℕ) → length counts < 48 → (1, counts) ≡ start arch symbols counts
@@ -95,42 +154,7 @@ module _ (counts counts' : List ℕ) where
         (e ∙ ap (λ (x : CodeBuffer). calls.addConstant x constants bytes) r)
         ∙ sym (no-lt _ 48 _ _ h))
 
-  module _ (relocs relocs' : List ℕ) (offset kind target addend : ℕ) where
-    pub reloc-short : length counts < 48 → (1, (counts, relocs)) ≡ addReloc counts relocs offset kind target addend
-    unfolding addReloc
-    reloc-short h = sym (yes-lt _ 48 _ _ h)
-
-    pub reloc-crosses : (b : CodeBuffer) (a : Recorded) → 48 ≤ length counts → b ≡ countsAt counts → (a, relocs') ≡ calls.addReloc b relocs offset kind target addend
-        → counts' ≡ overWords counts (countsOf (a .buffer)) → (a .refusal, (counts', relocs')) ≡ addReloc counts relocs offset kind target addend
-    unfolding addReloc
-    reloc-crosses b a h r e w =
-        rw w
-        (ap
-        (λ (x : Recorded × List ℕ). (x .0 .refusal, (overWords counts (countsOf (x .0 .buffer)), x .1)))
-        (e ∙ ap (λ (x : CodeBuffer). calls.addReloc x relocs offset kind target addend) r)
-        ∙ sym (no-lt _ 48 _ _ h))
-
   module _ (code labels events uses refs constants asked relocs : List ℕ) where
-    module _ (code' labels' events' uses' refs' constants' asked' relocs' sheet : List ℕ) where
-      pub sheet-short : length counts < 48
-          → ((1, 0), lentOf counts code labels events uses refs constants asked relocs) ≡ runSheet sheet (lentOf counts code labels events uses refs constants asked relocs)
-      unfolding runSheet
-      sheet-short h = sym (yes-lt _ 48 _ _ h)
-
-      pub sheet-crosses : (b b' : CodeBuffer) (refusal index : ℕ) → 48 ≤ length counts → b ≡ countsAt counts
-          → ((refusal, index), recordingOf b' code' labels' events' uses' refs' constants' asked' relocs')
-          ≡ sheets.runSheet sheet (recordingOf b code labels events uses refs constants asked relocs)
-          → counts' ≡ overWords counts (countsOf b')
-          → ((refusal, index), lentOf counts' code' labels' events' uses' refs' constants' asked' relocs')
-          ≡ runSheet sheet (lentOf counts code labels events uses refs constants asked relocs)
-      unfolding runSheet
-      sheet-crosses b b' refusal index h r e w =
-          rw w
-          (ap
-          (λ (x : (ℕ × ℕ) × Recording). (x .0, lentWith counts (x .1)))
-          (e ∙ ap (λ (x : CodeBuffer). sheets.runSheet sheet (recordingOf x code labels events uses refs constants asked relocs)) r)
-          ∙ sym (no-lt _ 48 _ _ h))
-
     module _ (segments segments' : List Segment) (labels' relocs' output output' finalized finalized' : List ℕ) where
       pub record-short : length finalized < 24
           → (1, (counts, ((labels, (relocs, (segments, output))), finalized)))

@@ -39,7 +39,7 @@ map-requires c κs =
     let in-loop : tie.In-loop Inv-loop μ-loop = search in
     let at-loop : tie.At-loop Inv-loop μ-loop = search in
     let start : tie.Start Inv-loop μ-loop = search in
-    (start .pre .0, rw (after-word-at .word-at .ensures, mapped-next _ _ _ _ _ (at-loop .loop .inv .2) (start .pre .1 .some)) (start .pre .1 .recorded _ (in-loop .loop-test .taken)))
+    (start .pre .0, rw (after-word-at .word-at .ensures, mapped-next (record { some = start .pre .1 .some; mapped = at-loop .loop .inv .2 })) (start .pre .1 .recorded _ (in-loop .loop-test .taken)))
 
 put-word-requires : tie.Need-put-word-requires Inv-loop μ-loop
 put-word-requires c κs =
@@ -54,7 +54,7 @@ loop-again c =
     let after-word-at : tie.After-word-at Inv-loop μ-loop = search in
     let at-loop : tie.At-loop Inv-loop μ-loop = search in
     let start : tie.Start Inv-loop μ-loop = search in
-    (omega arith, rw (after-put-word .put-word .ensures) (length-setWord _ _ _ ∙ at-loop .loop .inv .1), mapped-turn _ _ _ _ _ _ _ _ (at-loop .loop .inv .2) (start .pre .1 .some) (after-word-at .word-at .ensures) (after-map .map .ensures) (after-put-word .put-word .ensures))
+    (omega arith, rw (after-put-word .put-word .ensures) (length-setWord _ _ _ ∙ at-loop .loop .inv .1), mapped-turn (record { some = start .pre .1 .some; mapped = at-loop .loop .inv .2 }) (after-word-at .word-at .ensures) (after-map .map .ensures) (after-put-word .put-word .ensures))
 
 returns : tie.Need-returns Inv-loop μ-loop
 returns c =

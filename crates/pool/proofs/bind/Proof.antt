@@ -5,7 +5,7 @@ use native.Mathlib.Omega.{arith}
 use lib.ListN.{length}
 use Rattle.words.proofs.Laws.{length-setWord}
 use Rattle.pool.specs.Pool.{poolStart, poolBound}
-use Rattle.pool.proofs.Pool.{pad-small, start-turn, offset-turn, bound-turn}
+use Rattle.pool.proofs.Pool.{Turn, pad-small, start-turn, bound-turn}
 use borrow.Author.Needs.{needs}
 use Rattle.pool.proofs.bind.Statement.{statement}
 use Rattle.pool.proofs.bind.Tie as tie
@@ -31,12 +31,21 @@ label-at-requires c κs =
     let start : tie.Start Inv-loop μ-loop = search in
     omega (arith, start .pre .0 .listed _ (in-loop .loop-test .taken))
 
+-- what a turn has of its constant
+turned : (c : tie.After-padding-len Inv-loop μ-loop)
+    → let after-constant-alignment : tie.After-constant-alignment Inv-loop μ-loop = search in
+    let after-size-at : tie.After-size-at Inv-loop μ-loop = search in
+    let at-loop : tie.At-loop Inv-loop μ-loop = search in
+    let start : tie.Start Inv-loop μ-loop = search in
+    let a = start .args in
+    let l = at-loop .loop in
+    Turn (a .from) (a .constants .now) (a .asked .now) (l .j) (l .at) (after-size-at .size-at .result) (after-constant-alignment .constant-alignment .result) (c .padding-len .result)
+turned c = search
+
 add-offset : tie.Need-add-offset Inv-loop μ-loop
 add-offset c =
-    let after-constant-alignment : tie.After-constant-alignment Inv-loop μ-loop = search in
-    let after-size-at : tie.After-size-at Inv-loop μ-loop = search in
     let start : tie.Start Inv-loop μ-loop = search in
-    omega (arith, pad-small _ (after-size-at .size-at .result) _ _ (after-constant-alignment .constant-alignment .ensures) (c .padding-len .ensures), start .pre .0 .few)
+    omega (arith, pad-small (turned c), start .pre .0 .few)
 
 put-word-requires : tie.Need-put-word-requires Inv-loop μ-loop
 put-word-requires c κs =
@@ -48,23 +57,21 @@ put-word-requires c κs =
 add-at : tie.Need-add-at Inv-loop μ-loop
 add-at c =
     let after-padding-len : tie.After-padding-len Inv-loop μ-loop = search in
-    let after-constant-alignment : tie.After-constant-alignment Inv-loop μ-loop = search in
-    let after-size-at : tie.After-size-at Inv-loop μ-loop = search in
     let in-loop : tie.In-loop Inv-loop μ-loop = search in
     let start : tie.Start Inv-loop μ-loop = search in
-    omega (arith, pad-small _ (after-size-at .size-at .result) _ _ (after-constant-alignment .constant-alignment .ensures) (after-padding-len .padding-len .ensures), start .pre .0 .few, start .pre .0 .sized _ (in-loop .loop-test .taken), after-size-at .size-at .ensures)
+    let turn = turned after-padding-len in
+    omega (arith, pad-small turn, start .pre .0 .few, start .pre .0 .sized _ (in-loop .loop-test .taken), turn .sized)
 
 loop-again : tie.Need-loop-again Inv-loop μ-loop
 loop-again c =
     let after-put-word : tie.After-put-word Inv-loop μ-loop = search in
     let after-padding-len : tie.After-padding-len Inv-loop μ-loop = search in
-    let after-constant-alignment : tie.After-constant-alignment Inv-loop μ-loop = search in
     let after-label-at : tie.After-label-at Inv-loop μ-loop = search in
-    let after-size-at : tie.After-size-at Inv-loop μ-loop = search in
     let in-loop : tie.In-loop Inv-loop μ-loop = search in
     let at-loop : tie.At-loop Inv-loop μ-loop = search in
     let start : tie.Start Inv-loop μ-loop = search in
-    let offset = offset-turn _ _ _ _ _ (after-size-at .size-at .result) _ _ (at-loop .loop .inv .1) (after-size-at .size-at .ensures) (after-constant-alignment .constant-alignment .ensures) (after-padding-len .padding-len .ensures) in (omega arith, start-turn _ _ _ _ _ (after-size-at .size-at .result) _ _ (at-loop .loop .inv .1) (after-size-at .size-at .ensures) (after-constant-alignment .constant-alignment .ensures) (after-padding-len .padding-len .ensures), omega (arith, pad-small _ (after-size-at .size-at .result) _ _ (after-constant-alignment .constant-alignment .ensures) (after-padding-len .padding-len .ensures), start .pre .0 .sized _ (in-loop .loop-test .taken), after-size-at .size-at .ensures), rw (after-put-word .put-word .ensures) (length-setWord _ _ _ ∙ at-loop .loop .inv .3), after-put-word .put-word .ensures ∙ bound-turn _ _ _ _ _ _ _ _ (at-loop .loop .inv .4) (after-label-at .label-at .ensures) offset)
+    let turn = turned after-padding-len in
+    (omega arith, start-turn turn, omega (arith, pad-small turn, start .pre .0 .sized _ (in-loop .loop-test .taken), turn .sized), rw (after-put-word .put-word .ensures) (length-setWord _ _ _ ∙ at-loop .loop .inv .3), after-put-word .put-word .ensures ∙ bound-turn turn (start .args .labels .now) (at-loop .loop .inv .4) (after-label-at .label-at .ensures))
 
 returns : tie.Need-returns Inv-loop μ-loop
 returns c =

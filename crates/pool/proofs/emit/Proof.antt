@@ -6,7 +6,7 @@ use lib.ListN.{length}
 use Rattle.seqs.specs.Over.{over}
 use Rattle.seqs.proofs.Overwrites.{over-nil, length-over}
 use Rattle.pool.specs.Pool.{poolStart, poolBytes}
-use Rattle.pool.proofs.Pool.{pad-small, start-turn, within-turn, emit-turn}
+use Rattle.pool.proofs.Pool.{Turn, pad-small, start-turn, within-turn, emit-turn}
 use borrow.Author.Needs.{needs}
 use Rattle.pool.proofs.emit.Statement.{statement}
 use Rattle.pool.proofs.emit.Tie as tie
@@ -26,54 +26,55 @@ size-at-requires c κs =
     let start : tie.Start Inv-loop μ-loop = search in
     omega (arith, start .pre .0 .listed _ (c .loop-test .taken))
 
+-- what a turn has of its constant
+turned : (c : tie.After-padding-len Inv-loop μ-loop)
+    → let after-constant-alignment : tie.After-constant-alignment Inv-loop μ-loop = search in
+    let after-size-at : tie.After-size-at Inv-loop μ-loop = search in
+    let at-loop : tie.At-loop Inv-loop μ-loop = search in
+    let start : tie.Start Inv-loop μ-loop = search in
+    let a = start .args in
+    let l = at-loop .loop in
+    Turn (a .from) (a .constants .now) (a .asked .now) (l .j) (l .at) (after-size-at .size-at .result) (after-constant-alignment .constant-alignment .result) (c .padding-len .result)
+turned c = search
+
 add-offset : tie.Need-add-offset Inv-loop μ-loop
 add-offset c =
-    let after-constant-alignment : tie.After-constant-alignment Inv-loop μ-loop = search in
-    let after-size-at : tie.After-size-at Inv-loop μ-loop = search in
     let start : tie.Start Inv-loop μ-loop = search in
-    omega (arith, pad-small _ (after-size-at .size-at .result) _ _ (after-constant-alignment .constant-alignment .ensures) (c .padding-len .ensures), start .pre .0 .few)
+    omega (arith, pad-small (turned c), start .pre .0 .few)
 
 add-end : tie.Need-add-end Inv-loop μ-loop
 add-end c =
-    let after-constant-alignment : tie.After-constant-alignment Inv-loop μ-loop = search in
-    let after-size-at : tie.After-size-at Inv-loop μ-loop = search in
     let in-loop : tie.In-loop Inv-loop μ-loop = search in
     let start : tie.Start Inv-loop μ-loop = search in
-    omega (arith, pad-small _ (after-size-at .size-at .result) _ _ (after-constant-alignment .constant-alignment .ensures) (c .padding-len .ensures), start .pre .0 .few, start .pre .0 .sized _ (in-loop .loop-test .taken), after-size-at .size-at .ensures)
+    let turn = turned c in
+    omega (arith, pad-small turn, start .pre .0 .few, start .pre .0 .sized _ (in-loop .loop-test .taken), turn .sized)
 
 part-pad-end : tie.Need-part-pad-end Inv-loop μ-loop
 part-pad-end c =
-    let after-constant-alignment : tie.After-constant-alignment Inv-loop μ-loop = search in
-    let after-size-at : tie.After-size-at Inv-loop μ-loop = search in
     let in-loop : tie.In-loop Inv-loop μ-loop = search in
-    let at-loop : tie.At-loop Inv-loop μ-loop = search in
     let start : tie.Start Inv-loop μ-loop = search in
-    omega (arith, within-turn _ _ _ _ _ _ (after-size-at .size-at .result) _ _ (at-loop .loop .inv .1) (after-size-at .size-at .ensures) (after-constant-alignment .constant-alignment .ensures) (c .padding-len .ensures) (in-loop .loop-test .taken), start .pre .1 .1)
+    omega (arith, within-turn (turned c) (in-loop .loop-test .taken), start .pre .1 .1)
 
 part-clear-end : tie.Need-part-clear-end Inv-loop μ-loop
 part-clear-end c =
     let after-padding-len : tie.After-padding-len Inv-loop μ-loop = search in
-    let after-constant-alignment : tie.After-constant-alignment Inv-loop μ-loop = search in
-    let after-size-at : tie.After-size-at Inv-loop μ-loop = search in
     let in-loop : tie.In-loop Inv-loop μ-loop = search in
-    let at-loop : tie.At-loop Inv-loop μ-loop = search in
     let start : tie.Start Inv-loop μ-loop = search in
-    omega (arith, within-turn _ _ _ _ _ _ (after-size-at .size-at .result) _ _ (at-loop .loop .inv .1) (after-size-at .size-at .ensures) (after-constant-alignment .constant-alignment .ensures) (after-padding-len .padding-len .ensures) (in-loop .loop-test .taken), start .pre .1 .1)
+    omega (arith, within-turn (turned after-padding-len) (in-loop .loop-test .taken), start .pre .1 .1)
 
 loop-again : tie.Need-loop-again Inv-loop μ-loop
 loop-again c =
     let after-clear : tie.After-clear Inv-loop μ-loop = search in
     let after-pad : tie.After-pad Inv-loop μ-loop = search in
     let after-padding-len : tie.After-padding-len Inv-loop μ-loop = search in
-    let after-constant-alignment : tie.After-constant-alignment Inv-loop μ-loop = search in
-    let after-size-at : tie.After-size-at Inv-loop μ-loop = search in
     let in-loop : tie.In-loop Inv-loop μ-loop = search in
     let at-loop : tie.At-loop Inv-loop μ-loop = search in
     let start : tie.Start Inv-loop μ-loop = search in
-    let size = after-size-at .size-at .result in
-    let inside = within-turn _ _ _ _ _ _ size _ _ (at-loop .loop .inv .1) (after-size-at .size-at .ensures) (after-constant-alignment .constant-alignment .ensures) (after-padding-len .padding-len .ensures) (in-loop .loop-test .taken) in
-    let turn = emit-turn _ _ _ _ _ _ _ _ size _ _ _ _ (at-loop .loop .inv .4) (at-loop .loop .inv .1) (after-size-at .size-at .ensures) (after-constant-alignment .constant-alignment .ensures) (after-padding-len .padding-len .ensures) (omega (arith, inside, start .pre .1 .1)) (after-pad .pad .ensures) (after-clear .clear .ensures) in
-    (omega arith, start-turn _ _ _ _ _ size _ _ (at-loop .loop .inv .1) (after-size-at .size-at .ensures) (after-constant-alignment .constant-alignment .ensures) (after-padding-len .padding-len .ensures), omega (arith, pad-small _ size _ _ (after-constant-alignment .constant-alignment .ensures) (after-padding-len .padding-len .ensures), start .pre .0 .sized _ (in-loop .loop-test .taken), after-size-at .size-at .ensures), rw turn (length-over _ _ _), turn)
+    let a = start .args in
+    let turn = turned after-padding-len in
+    let inside = within-turn turn (in-loop .loop-test .taken) in
+    let written = emit-turn (a .output .now) (a .arch) turn (at-loop .loop .inv .4) (omega (arith, inside, start .pre .1 .1)) (after-pad .pad .ensures) (after-clear .clear .ensures) in
+    (omega arith, start-turn turn, omega (arith, pad-small turn, start .pre .0 .sized _ (in-loop .loop-test .taken), turn .sized), rw written (length-over _ _ _), written)
 
 returns : tie.Need-returns Inv-loop μ-loop
 returns c =

@@ -3,7 +3,7 @@ use mathlib.Core.Path.{_≡_, refl}
 use Prim.Native.Nat.{_+_, _*_, _-_, _≤_}
 use native.Mathlib.Omega.{arith}
 use Rattle.pool.specs.Pool.{poolStart}
-use Rattle.pool.proofs.Pool.{pad-small, start-turn}
+use Rattle.pool.proofs.Pool.{Turn, pad-small, start-turn}
 use borrow.Author.Needs.{needs}
 use Rattle.pool.proofs.pool_end.Statement.{statement}
 use Rattle.pool.proofs.pool_end.Tie as tie
@@ -23,29 +23,35 @@ size-at-requires c κs =
     let start : tie.Start Inv-loop μ-loop = search in
     omega (arith, start .pre .0 .listed _ (c .loop-test .taken))
 
+-- what a turn has of its constant
+turned : (c : tie.After-padding-len Inv-loop μ-loop)
+    → let after-constant-alignment : tie.After-constant-alignment Inv-loop μ-loop = search in
+    let after-size-at : tie.After-size-at Inv-loop μ-loop = search in
+    let at-loop : tie.At-loop Inv-loop μ-loop = search in
+    let start : tie.Start Inv-loop μ-loop = search in
+    let a = start .args in
+    let l = at-loop .loop in
+    Turn (a .from) (a .constants .now) (a .asked .now) (l .j) (l .at) (after-size-at .size-at .result) (after-constant-alignment .constant-alignment .result) (c .padding-len .result)
+turned c = search
+
 add-at : tie.Need-add-at Inv-loop μ-loop
 add-at c =
-    let after-constant-alignment : tie.After-constant-alignment Inv-loop μ-loop = search in
-    let after-size-at : tie.After-size-at Inv-loop μ-loop = search in
     let start : tie.Start Inv-loop μ-loop = search in
-    omega (arith, pad-small _ (after-size-at .size-at .result) _ _ (after-constant-alignment .constant-alignment .ensures) (c .padding-len .ensures), start .pre .0 .few)
+    omega (arith, pad-small (turned c), start .pre .0 .few)
 
 add-at-2 : tie.Need-add-at-2 Inv-loop μ-loop
 add-at-2 c =
-    let after-constant-alignment : tie.After-constant-alignment Inv-loop μ-loop = search in
-    let after-size-at : tie.After-size-at Inv-loop μ-loop = search in
     let in-loop : tie.In-loop Inv-loop μ-loop = search in
     let start : tie.Start Inv-loop μ-loop = search in
-    omega (arith, pad-small _ (after-size-at .size-at .result) _ _ (after-constant-alignment .constant-alignment .ensures) (c .padding-len .ensures), start .pre .0 .few, start .pre .0 .sized _ (in-loop .loop-test .taken), after-size-at .size-at .ensures)
+    let turn = turned c in
+    omega (arith, pad-small turn, start .pre .0 .few, start .pre .0 .sized _ (in-loop .loop-test .taken), turn .sized)
 
 loop-again : tie.Need-loop-again Inv-loop μ-loop
 loop-again c =
-    let after-constant-alignment : tie.After-constant-alignment Inv-loop μ-loop = search in
-    let after-size-at : tie.After-size-at Inv-loop μ-loop = search in
     let in-loop : tie.In-loop Inv-loop μ-loop = search in
-    let at-loop : tie.At-loop Inv-loop μ-loop = search in
     let start : tie.Start Inv-loop μ-loop = search in
-    (omega arith, start-turn _ _ _ _ _ (after-size-at .size-at .result) _ _ (at-loop .loop .inv .1) (after-size-at .size-at .ensures) (after-constant-alignment .constant-alignment .ensures) (c .padding-len .ensures), omega (arith, pad-small _ (after-size-at .size-at .result) _ _ (after-constant-alignment .constant-alignment .ensures) (c .padding-len .ensures), start .pre .0 .sized _ (in-loop .loop-test .taken), after-size-at .size-at .ensures))
+    let turn = turned c in
+    (omega arith, start-turn turn, omega (arith, pad-small turn, start .pre .0 .sized _ (in-loop .loop-test .taken), turn .sized))
 
 returns : tie.Need-returns Inv-loop μ-loop
 returns c =

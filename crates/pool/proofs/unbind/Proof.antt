@@ -37,7 +37,7 @@ loop-again c =
     let after-put-word : tie.After-put-word Inv-loop μ-loop = search in
     let after-label-at : tie.After-label-at Inv-loop μ-loop = search in
     let at-loop : tie.At-loop Inv-loop μ-loop = search in
-    (omega arith, rw (after-put-word .put-word .ensures) (length-setWord _ _ _ ∙ at-loop .loop .inv .1), after-put-word .put-word .ensures ∙ unbound-turn _ _ _ _ _ _ (at-loop .loop .inv .2) (after-label-at .label-at .ensures))
+    (omega arith, rw (after-put-word .put-word .ensures) (length-setWord _ _ _ ∙ at-loop .loop .inv .1), after-put-word .put-word .ensures ∙ unbound-turn (record { unbound = at-loop .loop .inv .2; labelled = after-label-at .label-at .ensures }))
 
 returns : tie.Need-returns Inv-loop μ-loop
 returns c =

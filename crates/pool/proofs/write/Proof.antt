@@ -4,7 +4,7 @@ use Prim.Native.Nat.{_-_, _≤_}
 use native.Mathlib.Omega.{arith}
 use lib.ListN.{length}
 use Rattle.pool.specs.Pool.{poolWritten}
-use Rattle.pool.proofs.Pool.{from-turn, room-turn, written-turn, length-poolWritten}
+use Rattle.pool.proofs.Pool.{Writing, from-turn, room-turn, written-turn, length-poolWritten}
 use borrow.Author.Needs.{needs}
 use Rattle.pool.proofs.write.Statement.{statement}
 use Rattle.pool.proofs.write.Tie as tie
@@ -42,35 +42,42 @@ word-at-requires-2 c κs =
     let start : tie.Start Inv-loop μ-loop = search in
     omega (arith, start .pre .0 .listed _ (in-loop .loop-test .taken))
 
+-- what a turn has of its constant
+turned : (c : tie.After-word-at2 Inv-loop μ-loop)
+    → let after-word-at : tie.After-word-at Inv-loop μ-loop = search in
+    let after-label-at : tie.After-label-at Inv-loop μ-loop = search in
+    let after-size-at : tie.After-size-at Inv-loop μ-loop = search in
+    let at-loop : tie.At-loop Inv-loop μ-loop = search in
+    let start : tie.Start Inv-loop μ-loop = search in
+    let a = start .args in
+    Writing (a .labels .now) (a .constants .now) (a .asked .now) (at-loop .loop .j) (after-size-at .size-at .result) (after-label-at .label-at .result) (after-word-at .word-at .result) (c .word-at2 .result)
+turned c = search
+
 part-copy-end : tie.Need-part-copy-end Inv-loop μ-loop
 part-copy-end c =
-    let after-size-at : tie.After-size-at Inv-loop μ-loop = search in
     let in-loop : tie.In-loop Inv-loop μ-loop = search in
     let start : tie.Start Inv-loop μ-loop = search in
-    omega (arith, from-turn (start .pre .0) (in-loop .loop-test .taken) (c .word-at2 .ensures) (after-size-at .size-at .ensures))
+    omega (arith, from-turn (turned c) (start .pre .0) (in-loop .loop-test .taken))
 
 part-copy-end-2 : tie.Need-part-copy-end-2 Inv-loop μ-loop
 part-copy-end-2 c =
-    let after-word-at : tie.After-word-at Inv-loop μ-loop = search in
-    let after-label-at : tie.After-label-at Inv-loop μ-loop = search in
-    let after-size-at : tie.After-size-at Inv-loop μ-loop = search in
+    let after-word-at2 : tie.After-word-at2 Inv-loop μ-loop = search in
     let in-loop : tie.In-loop Inv-loop μ-loop = search in
     let start : tie.Start Inv-loop μ-loop = search in
-    omega (arith, room-turn (start .pre .1 .1) (in-loop .loop-test .taken) (after-label-at .label-at .ensures) (after-word-at .word-at .ensures) (after-size-at .size-at .ensures))
+    omega (arith, room-turn (turned after-word-at2) (start .pre .1 .1) (in-loop .loop-test .taken))
 
 loop-again : tie.Need-loop-again Inv-loop μ-loop
 loop-again c =
     let after-copy : tie.After-copy Inv-loop μ-loop = search in
     let after-word-at2 : tie.After-word-at2 Inv-loop μ-loop = search in
-    let after-word-at : tie.After-word-at Inv-loop μ-loop = search in
-    let after-label-at : tie.After-label-at Inv-loop μ-loop = search in
-    let after-size-at : tie.After-size-at Inv-loop μ-loop = search in
     let in-loop : tie.In-loop Inv-loop μ-loop = search in
     let at-loop : tie.At-loop Inv-loop μ-loop = search in
     let start : tie.Start Inv-loop μ-loop = search in
-    let room = room-turn (start .pre .1 .1) (in-loop .loop-test .taken) (after-label-at .label-at .ensures) (after-word-at .word-at .ensures) (after-size-at .size-at .ensures) in
-    let turn = written-turn _ _ _ _ _ _ _ _ _ _ _ (at-loop .loop .inv .2) (after-size-at .size-at .ensures) (after-label-at .label-at .ensures) (after-word-at .word-at .ensures) (after-word-at2 .word-at2 .ensures) (from-turn (start .pre .0) (in-loop .loop-test .taken) (after-word-at2 .word-at2 .ensures) (after-size-at .size-at .ensures)) (omega arith) (after-copy .copy .ensures) in
-    (omega arith, rw turn (length-poolWritten _ _ _ _ _), turn)
+    let more = in-loop .loop-test .taken in
+    let turn = turned after-word-at2 in
+    let room = room-turn turn (start .pre .1 .1) more in
+    let written = written-turn turn (start .args .output .now) (at-loop .loop .inv .2) (from-turn turn (start .pre .0) more) (omega arith) (after-copy .copy .ensures) in
+    (omega arith, rw written (length-poolWritten _ _ _ _ _), written)
 
 returns : tie.Need-returns Inv-loop μ-loop
 returns c =

@@ -10,7 +10,12 @@ returns c =
     let after-put-word3 : tie.After-put-word3 = search in
     let after-put-word2 : tie.After-put-word2 = search in
     let after-put-word : tie.After-put-word = search in
-    rw (after-put-word4 .put-word4 .ensures, after-put-word3 .put-word3 .ensures, after-put-word2 .put-word2 .ensures, after-put-word .put-word .ensures) (four-over _ _ _ _ _ _)
+    four-over (record {
+      first = after-put-word .put-word .ensures;
+      second = after-put-word2 .put-word2 .ensures;
+      third = after-put-word3 .put-word3 .ensures;
+      fourth = after-put-word4 .put-word4 .ensures;
+    })
 
 pub put-four-spec : {M : Type 1} → statement M
 put-four-spec =

@@ -8,7 +8,7 @@ returns : tie.Need-returns
 returns c =
     let start : tie.Start = search in
     let a = start .args in
-    reloc-short (a .counts .now) (a .counts .now) (a .relocs .now) (a .relocs .now) _ _ _ _ (c .if1 .taken)
+    reloc-short (a .offset) (a .kind) (a .target) (a .addend) (c .if1 .taken)
 
 returns-2 : tie.Need-returns-2
 returns-2 c =
@@ -16,9 +16,12 @@ returns-2 c =
     let after-add-reloc-at-offset : tie.After-add-reloc-at-offset = search in
     let after-counts-at : tie.After-counts-at = search in
     let else1 : tie.Else1 = search in
-    let start : tie.Start = search in
-    let a = start .args in
-    reloc-crosses (a .counts .now) _ (a .relocs .now) _ _ _ _ _ _ _ (else1 .if1 .left) (after-counts-at .counts-at .ensures) (after-add-reloc-at-offset .add-reloc-at-offset .ensures) (after-put-counts .put-counts .ensures)
+    reloc-crosses (record {
+      long = else1 .if1 .left;
+      read = after-counts-at .counts-at .ensures;
+      added = after-add-reloc-at-offset .add-reloc-at-offset .ensures;
+      written = after-put-counts .put-counts .ensures;
+    })
 
 pub wargnifla-add-reloc-spec : {M : Type 1} → statement M
 wargnifla-add-reloc-spec =

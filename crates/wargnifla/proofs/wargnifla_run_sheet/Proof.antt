@@ -8,10 +8,7 @@ returns : tie.Need-returns
 returns c =
     let start : tie.Start = search in
     let a = start .args in
-    sheet-short (a .counts .now) (a .counts .now) (a .code .now) (a .labels .now) (a .events .now) (a .uses .now) (a .refs .now) (a .constants .now) (a .asked .now) (a .relocs .now) (a .code .now) (a .labels .now) (a .events .now) (a .uses .now) (a .refs .now) (a .constants .now) (a .asked .now) (a .relocs .now) (a .sheet .now) (c .if1 .taken)
-
-abbrev start-from-else1 : tie.Else1 → tie.Start
-start-from-else1 c = search
+    sheet-short (a .sheet .now) (c .if1 .taken)
 
 returns-2 : tie.Need-returns-2
 returns-2 c =
@@ -19,9 +16,12 @@ returns-2 c =
     let after-run-sheet : tie.After-run-sheet = search in
     let after-counts-at : tie.After-counts-at = search in
     let else1 : tie.Else1 = search in
-    let start = start-from-else1 else1 in
-    let a = start .args in
-    sheet-crosses (a .counts .now) _ (a .code .now) (a .labels .now) (a .events .now) (a .uses .now) (a .refs .now) (a .constants .now) (a .asked .now) (a .relocs .now) _ _ _ _ _ _ _ _ (a .sheet .now) _ _ _ _ (else1 .if1 .left) (after-counts-at .counts-at .ensures) (after-run-sheet .run-sheet .ensures) (after-put-counts .put-counts .ensures)
+    sheet-crosses (record {
+      long = else1 .if1 .left;
+      read = after-counts-at .counts-at .ensures;
+      ran = after-run-sheet .run-sheet .ensures;
+      written = after-put-counts .put-counts .ensures;
+    })
 
 pub wargnifla-run-sheet-spec : {M : Type 1} → statement M
 wargnifla-run-sheet-spec =

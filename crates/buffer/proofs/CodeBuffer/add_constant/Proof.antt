@@ -19,13 +19,13 @@ put-constant-requires : tie.Need-put-constant-requires
 put-constant-requires c κs =
     let else1 : tie.Else1 = search in
     let after-why-no-constant : tie.After-why-no-constant = search in
-    omega (arith, constant-accepted _ _ _ (sym (after-why-no-constant .why-no-constant .ensures) ∙ else1 .if1 .left))
+    omega (arith, constant-accepted (sym (after-why-no-constant .why-no-constant .ensures) ∙ else1 .if1 .left))
 
 add-self : tie.Need-add-self
 add-self c =
     let else1 : tie.Else1 = search in
     let after-why-no-constant : tie.After-why-no-constant = search in
-    omega (arith, constant-accepted _ _ _ (sym (after-why-no-constant .why-no-constant .ensures) ∙ else1 .if1 .left))
+    omega (arith, constant-accepted (sym (after-why-no-constant .why-no-constant .ensures) ∙ else1 .if1 .left))
 
 returns-2 : tie.Need-returns-2
 unfolding addConstant

@@ -19,13 +19,13 @@ put-reloc-requires : tie.Need-put-reloc-requires
 put-reloc-requires c κs =
     let else1 : tie.Else1 = search in
     let after-why-no-reloc : tie.After-why-no-reloc = search in
-    omega (arith, reloc-accepted _ _ _ _ _ (sym (after-why-no-reloc .why-no-reloc .ensures) ∙ else1 .if1 .left))
+    omega (arith, reloc-accepted (sym (after-why-no-reloc .why-no-reloc .ensures) ∙ else1 .if1 .left))
 
 add-self : tie.Need-add-self
 add-self c =
     let else1 : tie.Else1 = search in
     let after-why-no-reloc : tie.After-why-no-reloc = search in
-    omega (arith, reloc-accepted _ _ _ _ _ (sym (after-why-no-reloc .why-no-reloc .ensures) ∙ else1 .if1 .left))
+    omega (arith, reloc-accepted (sym (after-why-no-reloc .why-no-reloc .ensures) ∙ else1 .if1 .left))
 
 returns-2 : tie.Need-returns-2
 unfolding addReloc

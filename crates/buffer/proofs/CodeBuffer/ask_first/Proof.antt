@@ -25,17 +25,17 @@ returns-2 c =
 put-word-requires : tie.Need-put-word-requires
 put-word-requires c κs =
     let start : tie.Start = search in
-    omega (arith, constant-label-accepted _ _ _ _ _ (start .pre))
+    omega (arith, constant-label-accepted (start .pre))
 
 add-self : tie.Need-add-self
 add-self c =
     let start : tie.Start = search in
-    omega (arith, constant-label-accepted _ _ _ _ _ (start .pre))
+    omega (arith, constant-label-accepted (start .pre))
 
 add-self-2 : tie.Need-add-self-2
 add-self-2 c =
     let start : tie.Start = search in
-    omega (arith, constant-label-accepted _ _ _ _ _ (start .pre))
+    omega (arith, constant-label-accepted (start .pre))
 
 returns-3 : tie.Need-returns-3
 unfolding askedFirst

@@ -18,13 +18,13 @@ put-word-requires : tie.Need-put-word-requires
 put-word-requires c κs =
     let else1 : tie.Else1 = search in
     let after-why-no-label : tie.After-why-no-label = search in
-    omega (arith, label-accepted _ _ (sym (after-why-no-label .why-no-label .ensures) ∙ else1 .if1 .left))
+    omega (arith, label-accepted (sym (after-why-no-label .why-no-label .ensures) ∙ else1 .if1 .left))
 
 add-self : tie.Need-add-self
 add-self c =
     let else1 : tie.Else1 = search in
     let after-why-no-label : tie.After-why-no-label = search in
-    omega (arith, label-accepted _ _ (sym (after-why-no-label .why-no-label .ensures) ∙ else1 .if1 .left))
+    omega (arith, label-accepted (sym (after-why-no-label .why-no-label .ensures) ∙ else1 .if1 .left))
 
 returns-2 : tie.Need-returns-2
 unfolding getLabel

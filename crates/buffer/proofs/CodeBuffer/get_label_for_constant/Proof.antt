@@ -19,7 +19,7 @@ word-at-requires : tie.Need-word-at-requires
 word-at-requires c κs =
     let else1 : tie.Else1 = search in
     let after-why-no-constant-label : tie.After-why-no-constant-label = search in
-    omega (arith, constant-label-accepted _ _ _ _ _ (sym (after-why-no-constant-label .why-no-constant-label .ensures) ∙ else1 .if1 .left))
+    omega (arith, constant-label-accepted (sym (after-why-no-constant-label .why-no-constant-label .ensures) ∙ else1 .if1 .left))
 
 returns-2 : tie.Need-returns-2
 unfolding constantLabel

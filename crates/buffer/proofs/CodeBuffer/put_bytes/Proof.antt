@@ -2,7 +2,6 @@
 use borrow.Author.Needs.{needs}
 use mathlib.Core.Path.{sym, _∙_}
 use native.Mathlib.Omega.{arith}
-use lib.ListN.{length}
 use Rattle.seqs.proofs.Picking.{yes-eq, no-eq}
 use Rattle.buffer.specs.Calls.{putBytes}
 use Rattle.buffer.proofs.Accepted.{bytes-accepted}
@@ -22,13 +21,13 @@ part-copy-end : tie.Need-part-copy-end
 part-copy-end c =
     let else1 : tie.Else1 = search in
     let after-why-no-bytes : tie.After-why-no-bytes = search in
-    omega (arith, bytes-accepted _ _ _ (sym (after-why-no-bytes .why-no-bytes .ensures) ∙ else1 .if1 .left))
+    omega (arith, bytes-accepted (sym (after-why-no-bytes .why-no-bytes .ensures) ∙ else1 .if1 .left))
 
 cast-self : tie.Need-cast-self
 cast-self c =
     let checked : tie.Else1 = search in
     let after-why-no-bytes : tie.After-why-no-bytes = search in
-    omega (arith, bytes-accepted _ _ _ (sym (after-why-no-bytes .why-no-bytes .ensures) ∙ checked .if1 .left))
+    omega (arith, bytes-accepted (sym (after-why-no-bytes .why-no-bytes .ensures) ∙ checked .if1 .left))
 
 returns-2 : tie.Need-returns-2
 unfolding putBytes
@@ -39,9 +38,8 @@ returns-2 c =
     let start : tie.Start = search in
     let a = start .args in
     let at = a .self .code in
-    let n = length (a .bytes .now) in
     let why = sym (after-why-no-bytes .why-no-bytes .ensures) ∙ checked .if1 .left in
-    let fits = bytes-accepted (a .self) (length (a .code .now)) n why in
+    let fits = bytes-accepted why in
     let copied = part-copied (a .code .now) (a .bytes .now) at (omega arith) in
     rw (after-copy .copy .ensures, copied) (sym (yes-eq _ 0 _ _ why))
 

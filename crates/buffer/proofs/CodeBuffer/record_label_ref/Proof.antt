@@ -27,14 +27,14 @@ put-ref-requires c κs =
     let else2 : tie.Else2 = search in
     let else1 : tie.Else1 = search in
     let after-why-no-ref : tie.After-why-no-ref = search in
-    omega (arith, ref-accepted _ _ _ _ (sym (after-why-no-ref .why-no-ref .ensures) ∙ else1 .if1 .left) (else2 .if2 .left))
+    omega (arith, ref-accepted (sym (after-why-no-ref .why-no-ref .ensures) ∙ else1 .if1 .left) (else2 .if2 .left))
 
 add-self : tie.Need-add-self
 add-self c =
     let else2 : tie.Else2 = search in
     let else1 : tie.Else1 = search in
     let after-why-no-ref : tie.After-why-no-ref = search in
-    omega (arith, ref-accepted _ _ _ _ (sym (after-why-no-ref .why-no-ref .ensures) ∙ else1 .if1 .left) (else2 .if2 .left))
+    omega (arith, ref-accepted (sym (after-why-no-ref .why-no-ref .ensures) ∙ else1 .if1 .left) (else2 .if2 .left))
 
 returns-3 : tie.Need-returns-3
 unfolding recordRef

@@ -28,14 +28,14 @@ put-event-requires c κs =
     let two : tie.Else2 = search in
     let one : tie.Else1 = search in
     let after-why-not-jump : tie.After-why-not-jump = search in
-    omega (arith, jump-accepted _ _ _ _ _ _ _ (sym (after-why-not-jump .why-not-jump .ensures) ∙ one .if1 .left) (two .if2 .left))
+    omega (arith, jump-accepted (sym (after-why-not-jump .why-not-jump .ensures) ∙ one .if1 .left) (two .if2 .left))
 
 add-self : tie.Need-add-self
 add-self c =
     let two : tie.Else2 = search in
     let one : tie.Else1 = search in
     let after-why-not-jump : tie.After-why-not-jump = search in
-    omega (arith, jump-accepted _ _ _ _ _ _ _ (sym (after-why-not-jump .why-not-jump .ensures) ∙ one .if1 .left) (two .if2 .left))
+    omega (arith, jump-accepted (sym (after-why-not-jump .why-not-jump .ensures) ∙ one .if1 .left) (two .if2 .left))
 
 returns-3 : tie.Need-returns-3
 unfolding recordJump

@@ -22,14 +22,14 @@ part-pad-end : tie.Need-part-pad-end
 part-pad-end c =
     let else1 : tie.Else1 = search in
     let after-why-not-align : tie.After-why-not-align = search in
-    let fits = align-accepted _ _ _ _ (sym (after-why-not-align .why-not-align .ensures) ∙ else1 .if1 .left) in
+    let fits = align-accepted (sym (after-why-not-align .why-not-align .ensures) ∙ else1 .if1 .left) in
     omega (arith, c .padding-len .ensures, fits .fits)
 
 record-alignment-requires : tie.Need-record-alignment-requires
 record-alignment-requires c κs =
     let checked : tie.Else1 = search in
     let after-why-not-align : tie.After-why-not-align = search in
-    let fits = align-accepted _ _ _ _ (sym (after-why-not-align .why-not-align .ensures) ∙ checked .if1 .left) in
+    let fits = align-accepted (sym (after-why-not-align .why-not-align .ensures) ∙ checked .if1 .left) in
     λ e. (omega (arith, fits .event e), omega (arith, fits .event e, fits .fewEvents))
 
 cast-buffer : tie.Need-cast-buffer
@@ -37,7 +37,7 @@ cast-buffer c =
     let after-padding-len : tie.After-padding-len = search in
     let checked : tie.Else1 = search in
     let after-why-not-align : tie.After-why-not-align = search in
-    let fits = align-accepted _ _ _ _ (sym (after-why-not-align .why-not-align .ensures) ∙ checked .if1 .left) in
+    let fits = align-accepted (sym (after-why-not-align .why-not-align .ensures) ∙ checked .if1 .left) in
     omega (arith, after-padding-len .padding-len .ensures, fits .fits, fits .few)
 
 returns-2 : tie.Need-returns-2
@@ -53,7 +53,7 @@ returns-2 c =
     let at = a .self .code in
     let n = measured .padding-len .result in
     let why = sym (after-why-not-align .why-not-align .ensures) ∙ checked .if1 .left in
-    let fits = align-accepted _ _ _ _ why in
+    let fits = align-accepted why in
     let padded = over-padded (a .code .now) at (at + n - at) n (a .self .arch) (omega arith) (omega (arith, measured .padding-len .ensures, fits .fits)) in
     rw (← after-record-alignment .record-alignment .ensures, ← measured .padding-len .ensures, after-pad .pad .ensures, padded) (sym (yes-eq _ 0 _ _ why))
 

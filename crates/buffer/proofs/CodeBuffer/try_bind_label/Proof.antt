@@ -17,7 +17,7 @@ put-word-requires : tie.Need-put-word-requires
 put-word-requires c κs =
     let else1 : tie.Else1 = search in
     let after-why-not-bind : tie.After-why-not-bind = search in
-    omega (arith, bind-accepted _ _ _ (sym (after-why-not-bind .why-not-bind .ensures) ∙ else1 .if1 .left))
+    omega (arith, bind-accepted (sym (after-why-not-bind .why-not-bind .ensures) ∙ else1 .if1 .left))
 
 returns-2 : tie.Need-returns-2
 unfolding bindLabel

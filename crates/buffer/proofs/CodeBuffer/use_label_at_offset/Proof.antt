@@ -19,13 +19,13 @@ put-use-requires : tie.Need-put-use-requires
 put-use-requires c κs =
     let else1 : tie.Else1 = search in
     let after-why-no-use : tie.After-why-no-use = search in
-    omega (arith, use-accepted _ _ _ _ (sym (after-why-no-use .why-no-use .ensures) ∙ else1 .if1 .left))
+    omega (arith, use-accepted (sym (after-why-no-use .why-no-use .ensures) ∙ else1 .if1 .left))
 
 add-self : tie.Need-add-self
 add-self c =
     let else1 : tie.Else1 = search in
     let after-why-no-use : tie.After-why-no-use = search in
-    omega (arith, use-accepted _ _ _ _ (sym (after-why-no-use .why-no-use .ensures) ∙ else1 .if1 .left))
+    omega (arith, use-accepted (sym (after-why-no-use .why-no-use .ensures) ∙ else1 .if1 .left))
 
 returns-2 : tie.Need-returns-2
 unfolding useLabel

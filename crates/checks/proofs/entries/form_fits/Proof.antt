@@ -9,7 +9,7 @@ returns c =
     let after-both2 : tie.After-both2 = search in
     let after-both : tie.After-both = search in
     let then1 : tie.Then1 = search in
-    rw (c .both3 .ensures, after-both2 .both2 .ensures, after-both .both .ensures) (form-jump _ _ _ _ _ _ (then1 .if1 .taken))
+    form-jump (record { jump = then1 .if1 .taken; tested = rw (after-both2 .both2 .ensures, after-both .both .ensures) at (c .both3 .ensures) })
 
 returns-2 : tie.Need-returns-2
 returns-2 c =
@@ -17,7 +17,7 @@ returns-2 c =
     let after-padding-len : tie.After-padding-len = search in
     let after-is-alignment : tie.After-is-alignment = search in
     let else1 : tie.Else1 = search in
-    rw (c .both5 .ensures, after-both4 .both4 .ensures, after-padding-len .padding-len .ensures, after-is-alignment .is-alignment .ensures) (form-alignment _ _ _ _ _ _ (else1 .if1 .left))
+    form-alignment (record { other = else1 .if1 .left; tested = rw (after-both4 .both4 .ensures, after-padding-len .padding-len .ensures, after-is-alignment .is-alignment .ensures) at (c .both5 .ensures) })
 
 pub form-fits-spec : {M : Type 1} → statement M
 form-fits-spec =

@@ -39,7 +39,7 @@ returns-3 c =
     let p = start .pre in
     let constant = after-word-at .word-at .ensures in
     let label = rw constant at (after-word-at2 .word-at2 .ensures) in
-    rw (c .both .ensures, label, constant) (new-marked _ _ _ _ _ _ (p .1 .1 .0) (p .1 .1 .1) (p .1 .0) (rw constant at (else1 .if1 .left)) (λ e. else2 .if2 .left (label ∙ e)))
+    rw (c .both .ensures, label, constant) (new-marked (start .args .asked .now) (p .1 .1 .0) (p .1 .1 .1) (p .1 .0) (rw constant at (else1 .if1 .left)) (λ e. else2 .if2 .left (label ∙ e)))
 
 pub is-new-spec : {M : Type 1} → statement M
 is-new-spec =

@@ -12,7 +12,7 @@ returns c =
     let after-word-at2 : tie.After-word-at2 = search in
     let after-word-at : tie.After-word-at = search in
     let start : tie.Start = search in
-    ref-past _ _ _ _ _ _ _ _ _ _ _ (record { at = after-word-at .word-at .ensures; long = rw (after-word-at2 .word-at2 .ensures) at (after-size-of .size-of .ensures .0); end = start .pre .0 .2 }) (c .if1 .taken)
+    ref-past (record { at = after-word-at .word-at .ensures; long = rw (after-word-at2 .word-at2 .ensures) at (after-size-of .size-of .ensures .0); end = start .pre .0 .2 }) (c .if1 .taken)
 
 returns-2 : tie.Need-returns-2
 returns-2 c =
@@ -22,7 +22,7 @@ returns-2 c =
     let after-word-at2 : tie.After-word-at2 = search in
     let after-word-at : tie.After-word-at = search in
     let start : tie.Start = search in
-    ref-over _ _ _ _ _ _ _ _ _ _ _ (record { at = after-word-at .word-at .ensures; long = rw (after-word-at2 .word-at2 .ensures) at (after-size-of .size-of .ensures .0); end = start .pre .0 .2 }) (else1 .if1 .left) (sym (after-clear-of-events .clear-of-events .ensures) ∙ not-true _ (c .if2 .taken))
+    ref-over (record { at = after-word-at .word-at .ensures; long = rw (after-word-at2 .word-at2 .ensures) at (after-size-of .size-of .ensures .0); end = start .pre .0 .2 }) (else1 .if1 .left) (sym (after-clear-of-events .clear-of-events .ensures) ∙ not-true _ (c .if2 .taken))
 
 returns-3 : tie.Need-returns-3
 returns-3 c =
@@ -33,7 +33,7 @@ returns-3 c =
     let after-word-at2 : tie.After-word-at2 = search in
     let after-word-at : tie.After-word-at = search in
     let start : tie.Start = search in
-    rw (c .clear-of-pool .ensures) (ref-rest _ _ _ _ _ _ _ _ _ _ _ (record { at = after-word-at .word-at .ensures; long = rw (after-word-at2 .word-at2 .ensures) at (after-size-of .size-of .ensures .0); end = start .pre .0 .2 }) (else1 .if1 .left) (sym (after-clear-of-events .clear-of-events .ensures) ∙ not-false _ (else2 .if2 .left)))
+    rw (c .clear-of-pool .ensures) (ref-rest (record { at = after-word-at .word-at .ensures; long = rw (after-word-at2 .word-at2 .ensures) at (after-size-of .size-of .ensures .0); end = start .pre .0 .2 }) (else1 .if1 .left) (sym (after-clear-of-events .clear-of-events .ensures) ∙ not-false _ (else2 .if2 .left)))
 
 pub ref-clear-spec : {M : Type 1} → statement M
 ref-clear-spec =

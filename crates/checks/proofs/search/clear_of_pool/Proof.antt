@@ -24,7 +24,7 @@ returns-2 : tie.Need-returns-2
 returns-2 c =
     let after-alignments-before : tie.After-alignments-before = search in
     let start : tie.Start = search in
-    rw (c .offset-at .ensures) (pool-clear-last _ _ _ _ _ _ _ _ (omega arith) (start .pre) (after-alignments-before .alignments-before .ensures))
+    rw (c .offset-at .ensures) (pool-clear-last (start .args .from) (start .pre) (after-alignments-before .alignments-before .ensures) (omega arith))
 
 pub clear-of-pool-spec : {M : Type 1} → statement M
 clear-of-pool-spec =

@@ -12,7 +12,7 @@ returns c =
     let then1 : tie.Then1 = search in
     let start : tie.Start = search in
     let a = start .args in
-    λ labels uses refs constants asked relocs. bytes-called (a .b) (a .kind) (a .arguments .now) (a .code .now) labels (a .events .now) uses refs constants asked relocs _ _ _ (then1 .if1 .taken) (counted-bytes _ _ (start .pre .0) (after-count-in .count-in .ensures)) (after-put-bytes .put-bytes .ensures)
+    λ labels uses refs constants asked relocs. bytes-called (a .b) (a .kind) (a .arguments .now) (a .code .now) labels (a .events .now) uses refs constants asked relocs (then1 .if1 .taken) (counted-bytes _ _ (start .pre .0) (after-count-in .count-in .ensures)) (after-put-bytes .put-bytes .ensures)
 
 returns-2 : tie.Need-returns-2
 returns-2 c =
@@ -21,7 +21,7 @@ returns-2 c =
     let else1 : tie.Else1 = search in
     let start : tie.Start = search in
     let a = start .args in
-    λ labels uses refs constants asked relocs. align-called (a .b) (a .kind) (a .arguments .now) (a .code .now) labels (a .events .now) uses refs constants asked relocs _ _ _ _ (the-other (start .pre .1) (else1 .if1 .left)) (as-word (after-word-at .word-at .result) _ 0 (after-word-at .word-at .ensures) (omega arith)) (after-try-align-to .try-align-to .ensures)
+    λ labels uses refs constants asked relocs. align-called (a .b) (a .kind) (a .arguments .now) (a .code .now) labels (a .events .now) uses refs constants asked relocs (the-other (start .pre .1) (else1 .if1 .left)) (as-word (after-word-at .word-at .result) _ 0 (after-word-at .word-at .ensures) (omega arith)) (after-try-align-to .try-align-to .ensures)
 
 pub call-code-spec : {M : Type 1} → statement M
 call-code-spec =
