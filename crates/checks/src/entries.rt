@@ -4,7 +4,6 @@ ghost use mathlib.Core.Bool.{true};
 ghost use Prim.Native.Nat.{_+_, _*_, _≤_, _<_};
 ghost use lib.ListN.{length};
 ghost use Rattle.words.specs.Words.{wordAt};
-ghost use Rattle.buffer.specs.Refusals.{lastEnd};
 ghost use Rattle.recording.specs.Sound.{startAt, endAt};
 ghost use Rattle.checks.specs.Entries.{all, formFits, eventFits, keptOnly, eventsFit, outside, labelFits, labelsFit, useFits, usesFit, refFits, refsFit, relocFits, relocsFit, constantFits, constantsFit, orderFits, entriesFit};
 ghost use Rattle.checks.specs.Search.{Ordered};
@@ -30,17 +29,6 @@ fn form_fits(labels: u32, kind: u32, start: u32, len: u32, what: u32, cc: u32) -
     )
 }
 
-// The end of the event before event `j`.
-fn last_end(events: &[u8], j: usize) -> u64
-    requires { ⌜ j * 20 ≤ length (now events) ⌝ }
-    ensures { λ r. ⌜ r ≡ lastEnd (now (events .entry)) j ⌝ }
-{
-    if j == 0 {
-        return 0;
-    }
-    relax::event_end(relax::event_at(events, j - 1))
-}
-
 fn event_fits(events: &[u8], labels: u32, code: u32, j: usize) -> bool
     requires { ⌜ j * 20 + 20 ≤ length (now events) ⌝ }
     ensures { λ r. ⌜ r ≡ eventFits (now (events .entry)) labels code j ⌝ }
@@ -51,7 +39,7 @@ fn event_fits(events: &[u8], labels: u32, code: u32, j: usize) -> bool
     let what = words::word_at(events, j * 5 + 3);
     let cc = words::word_at(events, j * 5 + 4);
     let formed = form_fits(labels, kind, start, len, what, cc);
-    let last = last_end(events, j);
+    let last = buffer::jumps::last_end(events, j);
     buffer::both(
         formed,
         buffer::both(
