@@ -15,24 +15,25 @@ use Rattle.recording.specs.Sound.{startAt, endAt}
 use Rattle.pool.specs.Pool.{poolStart, poolOffset}
 use Rattle.checks.specs.Entries.{all}
 
-unfoldable pub isBound : List ℕ → ℕ → Bool
-isBound labels label = not (eqb (wordAt labels label) none)
+-- `isBound` (finish/specs/Refusals), of the bytes of the table of labels
+unfoldable pub isBoundAt : List ℕ → ℕ → Bool
+isBoundAt labels label = not (eqb (wordAt labels label) none)
 
 -- 15: "a use, label relocation, ref or jump names an unbound label"; each of these holds where none does
 unfoldable pub usesBound : List ℕ → ℕ → List ℕ → Bool
-usesBound uses n labels = all (λ (i : ℕ). isBound labels (wordAt uses (i * 3 + 1))) n
+usesBound uses n labels = all (λ (i : ℕ). isBoundAt labels (wordAt uses (i * 3 + 1))) n
 
 unfoldable pub refsBound : List ℕ → ℕ → List ℕ → Bool
-refsBound refs n labels = all (λ (i : ℕ). isBound labels (wordAt refs (i * 4 + 1))) n
+refsBound refs n labels = all (λ (i : ℕ). isBoundAt labels (wordAt refs (i * 4 + 1))) n
 
 -- an event of kind 1 is a jump
 unfoldable pub jumpsBound : List ℕ → ℕ → List ℕ → Bool
-jumpsBound events n labels = all (λ (i : ℕ). not (eqb (wordAt events (i * 5)) 1) || isBound labels (wordAt events (i * 5 + 3))) n
+jumpsBound events n labels = all (λ (i : ℕ). not (eqb (wordAt events (i * 5)) 1) || isBoundAt labels (wordAt events (i * 5 + 3))) n
 
 -- a target from 2^31 on is a label's
 unfoldable pub relocsBound : List ℕ → ℕ → List ℕ → Bool
 relocsBound relocs n labels =
-    all (λ (i : ℕ). ltb (wordAt relocs (i * 6 + 2)) labelTarget || isBound labels (wordAt relocs (i * 6 + 2) - labelTarget)) n
+    all (λ (i : ℕ). ltb (wordAt relocs (i * 6 + 2)) labelTarget || isBoundAt labels (wordAt relocs (i * 6 + 2) - labelTarget)) n
 
 -- a field's size, by its code
 abbrev pub sizeOf : Decoded → ℕ

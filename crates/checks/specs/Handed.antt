@@ -12,7 +12,7 @@ use Rattle.buffer.specs.State.{none, mostEntries, labelTarget}
 use Rattle.recording.specs.Calls.{Recording}
 use Rattle.recording.specs.Sound.{labelOf}
 use Rattle.checks.specs.Entries.{all, askedFits, askedOnce}
-use Rattle.checks.specs.Fields.{isBound}
+use Rattle.checks.specs.Fields.{isBoundAt}
 
 -- the counts of a recording, but that of its code, fit its tables; those of labels and constants are within the limit
 pub record CountsFit (b : CodeBuffer) (labels events uses refs constants asked relocs : List ℕ) : Type 0 where
@@ -40,11 +40,11 @@ refLabel refs i = wordAt refs (i * 4 + 1)
 
 -- event i is no jump, or its label is bound
 abbrev pub jumpBound : List ℕ → List ℕ → ℕ → Bool
-jumpBound events labels i = not (eqb (wordAt events (i * 5)) 1) || isBound labels (wordAt events (i * 5 + 3))
+jumpBound events labels i = not (eqb (wordAt events (i * 5)) 1) || isBoundAt labels (wordAt events (i * 5 + 3))
 
 -- relocation i names a symbol, or a label that is bound
 abbrev pub targetBound : List ℕ → List ℕ → ℕ → Bool
-targetBound relocs labels i = ltb (wordAt relocs (i * 6 + 2)) labelTarget || isBound labels (wordAt relocs (i * 6 + 2) - labelTarget)
+targetBound relocs labels i = ltb (wordAt relocs (i * 6 + 2)) labelTarget || isBoundAt labels (wordAt relocs (i * 6 + 2) - labelTarget)
 
 -- the labels that the first n entries name lie in the table of labels
 pub record Named (label : ℕ → ℕ) (n : ℕ) (labels : List ℕ) : Type 0 where

@@ -10,14 +10,14 @@ ghost use Rattle.recording.specs.View.{entries};
 ghost use Rattle.recording.specs.Sound.{startAt, endAt};
 ghost use Rattle.fresh.specs.Forms.{isMoving, moves};
 ghost use Rattle.pool.specs.Pool.{poolStart};
-ghost use Rattle.checks.specs.Fields.{isBound, usesBound, refsBound, jumpsBound, relocsBound, sizeOf, refClear, refsClear, reachOf, whyUnreached, whyUses};
+ghost use Rattle.checks.specs.Fields.{isBoundAt, usesBound, refsBound, jumpsBound, relocsBound, sizeOf, refClear, refsClear, reachOf, whyUnreached, whyUses};
 ghost use Rattle.checks.specs.Search.{Ordered, Placed};
 ghost use Rattle.checks.specs.Handed.{useLabel, refLabel, Named, JumpsNamed, TargetsNamed, jumpBound, targetBound};
 use relax::LayoutEvent;
 
-fn is_bound(labels: &[u8], label: u32) -> bool
+fn is_bound_at(labels: &[u8], label: u32) -> bool
     requires { ⌜ label * 4 + 4 ≤ length (now labels) ⌝ }
-    ensures { λ r. ⌜ r ≡ isBound (now (labels .entry)) label ⌝ }
+    ensures { λ r. ⌜ r ≡ isBoundAt (now (labels .entry)) label ⌝ }
 {
     words::word_at(labels, label as usize) != buffer::NONE
 }
@@ -29,7 +29,7 @@ pub fn uses_bound(uses: &[u8], n: usize, labels: &[u8]) -> bool
     let mut i: usize = 0;
     while i < n {
         let label = words::word_at(uses, i * 3 + 1);
-        if !is_bound(labels, label) {
+        if !is_bound_at(labels, label) {
             return false;
         }
         i += 1;
@@ -44,7 +44,7 @@ pub fn refs_bound(refs: &[u8], n: usize, labels: &[u8]) -> bool
     let mut i: usize = 0;
     while i < n {
         let label = words::word_at(refs, i * 4 + 1);
-        if !is_bound(labels, label) {
+        if !is_bound_at(labels, label) {
             return false;
         }
         i += 1;
@@ -60,7 +60,7 @@ fn jump_bound(events: &[u8], labels: &[u8], i: usize) -> bool
     if words::word_at(events, i * 5) != 1 {
         return true;
     }
-    is_bound(labels, words::word_at(events, i * 5 + 3))
+    is_bound_at(labels, words::word_at(events, i * 5 + 3))
 }
 
 pub fn jumps_bound(events: &[u8], n: usize, labels: &[u8]) -> bool
@@ -86,7 +86,7 @@ fn target_bound(relocs: &[u8], labels: &[u8], i: usize) -> bool
     if target < buffer::LABEL_TARGET {
         return true;
     }
-    is_bound(labels, target - buffer::LABEL_TARGET)
+    is_bound_at(labels, target - buffer::LABEL_TARGET)
 }
 
 pub fn relocs_bound(relocs: &[u8], n: usize, labels: &[u8]) -> bool

@@ -26,7 +26,7 @@ use Rattle.recording.proofs.Views.{getD-entries}
 use Rattle.fresh.specs.Pooled.{Pooled}
 use Rattle.fresh.specs.Forms.{moves, roleOf}
 use Rattle.fresh.proofs.Moves.{moves-append, still-all}
-use Rattle.pool.specs.Pool.{labelAt, poolStart, poolOffset, poolEvent, poolIsBound}
+use Rattle.pool.specs.Pool.{labelAt, poolStart, poolOffset, poolEvent, isAnyBound}
 use Rattle.checks.specs.Entries.{all}
 use Rattle.checks.specs.Fields as checked
 use Rattle.finish.specs.Refusals.{every, isBound, poolBoundBefore, jumpBound, relocBound, refClear, useRefusal, usesRefusal}
@@ -55,14 +55,14 @@ every-entries f g h (suc n) e =
 
 -- a label below the count is bound in the list as in the table
 pub bound-entries : (labels : List ℕ) (count label : ℕ) → label < count
-    → isBound (tables.entries (wordAt labels) count) label ≡ checked.isBound labels label
-unfolding checked.isBound
+    → isBound (tables.entries (wordAt labels) count) label ≡ checked.isBoundAt labels label
+unfolding checked.isBoundAt
 bound-entries labels count label h = rw (getD-entries (wordAt labels) count label none h)
 
 -- 13
 none-bound : (labels constants asked : List ℕ) (n : ℕ)
-    → not (all (λ (j : ℕ). not (not (eqb (wordAt labels (labelAt constants asked j)) none))) n) ≡ poolIsBound labels constants asked n
-unfolding all poolIsBound
+    → not (all (λ (j : ℕ). not (not (eqb (wordAt labels (labelAt constants asked j)) none))) n) ≡ isAnyBound labels constants asked n
+unfolding all isAnyBound
 none-bound labels constants asked zero = refl
 none-bound labels constants asked (suc n) =
     rw (← none-bound labels constants asked n)
@@ -78,7 +78,7 @@ pub pool-bound : (v : tables.View) (labels constants asked : List ℕ) (count kn
     → v .labels ≡ tables.entries (wordAt labels) count → v .constants ≡ tables.entries (tables.constantAt constants) known
     → v .asked ≡ tables.entries (wordAt asked) n
     → ((j : ℕ) → j < n → wordAt asked j < known) → ((j : ℕ) → j < n → labelAt constants asked j < count)
-    → poolBoundBefore v ≡ poolIsBound labels constants asked n
+    → poolBoundBefore v ≡ isAnyBound labels constants asked n
 unfolding poolBoundBefore
 pool-bound v labels constants asked count known n el ec ea listed named =
     rw (el, ec, ea)
@@ -91,7 +91,7 @@ pool-bound v labels constants asked count known n el ec ea listed named =
 
 -- the columns of an event: a jump where its kind is 1
 jump-at : (labels : List ℕ) (count kind start len what cc : ℕ) → (kind ≡ 1 → what < count)
-    → jumpBound (tables.entries (wordAt labels) count) (eventOf kind start len what cc) ≡ (not (eqb kind 1) || checked.isBound labels what)
+    → jumpBound (tables.entries (wordAt labels) count) (eventOf kind start len what cc) ≡ (not (eqb kind 1) || checked.isBoundAt labels what)
 unfolding eventOf pick roleOf
 jump-at labels count kind start len what cc known =
     ⊎-elim

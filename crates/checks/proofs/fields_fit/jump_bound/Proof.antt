@@ -10,8 +10,8 @@ returns c =
     let after-word-at : tie.After-word-at = search in
     jump-none _ _ _ _ (after-word-at .word-at .ensures) (c .if1 .taken)
 
-is-bound-requires : tie.Need-is-bound-requires
-is-bound-requires c κs =
+is-bound-at-requires : tie.Need-is-bound-at-requires
+is-bound-at-requires c κs =
     let else1 : tie.Else1 = search in
     let after-word-at : tie.After-word-at = search in
     let start : tie.Start = search in
@@ -22,7 +22,7 @@ returns-2 c =
     let after-word-at2 : tie.After-word-at2 = search in
     let else1 : tie.Else1 = search in
     let after-word-at : tie.After-word-at = search in
-    rw (c .is-bound .ensures, after-word-at2 .word-at2 .ensures) (jump-named _ _ _ _ (after-word-at .word-at .ensures) (else1 .if1 .left))
+    rw (c .is-bound-at .ensures, after-word-at2 .word-at2 .ensures) (jump-named _ _ _ _ (after-word-at .word-at .ensures) (else1 .if1 .left))
 
 pub jump-bound-spec : {M : Type 1} → statement M
 jump-bound-spec =
@@ -34,5 +34,5 @@ jump-bound-spec =
     (λ c. search needs)
     (λ c. search needs)
     (λ c κs. search needs)
-    is-bound-requires
+    is-bound-at-requires
     returns-2)
