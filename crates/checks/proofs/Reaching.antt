@@ -27,8 +27,7 @@ use Rattle.fields.specs.declared.LabelUse.the-variants.{
   A64AddAbsLo12,
 }
 use Rattle.pool.specs.Pool.{poolStart}
-use Rattle.checks.specs.Fields.{isBoundAt, sizeOf, clearOfEvents, clearOfPool, refClear, whyUnreached, whyUses}
-use Rattle.checks.specs.Handed.{jumpBound, targetBound}
+use Rattle.checks.specs.Fields.{isBoundAt, jumpBound, targetBound, sizeOf, clearOfEvents, clearOfPool, refClear, whyUnreached, whyUses}
 
 pub jump-none : (events labels : List ℕ) (i kind : ℕ) → kind ≡ wordAt events (i * 5) → kind ≢ 1 → true ≡ jumpBound events labels i
 jump-none events labels i kind e h = rw (ne-eqb (wordAt events (i * 5)) 1 (λ (q : wordAt events (i * 5) ≡ 1). h (e ∙ q)))

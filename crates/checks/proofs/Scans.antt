@@ -67,12 +67,22 @@ unfolding all
 all-both f g zero = refl
 all-both f g (suc n) = rw (all-both f g n) (four (all f n) (all g n) (f n) (g n))
 
--- a turn that fails, one that does not, and the end
-pub scan-fails : (f : ℕ → Bool) (n i : ℕ) (t : Bool) → i < n → t ≡ f i → not t ≡ true → false ≡ all f n
-scan-fails f n i t l e h = sym (all-fails f n i l (sym e ∙ not-true t h))
+-- a scan that has passed the first i of n entries
+pub record AllPassed (f : ℕ → Bool) (n i : ℕ) : Type 0 where
+  pub within : i ≤ n
+  pub holds : all f i ≡ true
 
-pub scan-goes : (f : ℕ → Bool) (i : ℕ) (t : Bool) → all f i ≡ true → t ≡ f i → not t ≡ false → all f (i + 1) ≡ true
-scan-goes f i t h e k = all-step f i h (sym e ∙ not-false t k)
+-- before the first turn, after a turn that holds, at one that fails, and at the end
+pub pass-none : (f : ℕ → Bool) (n : ℕ) → AllPassed f n 0
+pass-none f n = record { within = omega arith; holds = all-none f }
 
-pub scan-ends : (f : ℕ → Bool) (n i : ℕ) → i ≤ n → n ≤ i → all f i ≡ true → true ≡ all f n
-scan-ends f n i h l e = let same : i ≡ n = omega arith in sym (rw same at e)
+pub pass-one : {f : ℕ → Bool} {n i : ℕ} {t : Bool} → AllPassed f n i → i < n → t ≡ f i → not t ≡ false → AllPassed f n (i + 1)
+pass-one {f} {n} {i} {t} p l e h = record { within = omega arith; holds = all-step f i (p .holds) (sym e ∙ not-false t h) }
+
+pub pass-fails : {f : ℕ → Bool} {n i : ℕ} {t : Bool} → AllPassed f n i → i < n → t ≡ f i → not t ≡ true → false ≡ all f n
+pass-fails {f} {n} {i} {t} p l e h = sym (all-fails f n i l (sym e ∙ not-true t h))
+
+pub pass-all : {f : ℕ → Bool} {n i : ℕ} → AllPassed f n i → n ≤ i → true ≡ all f n
+pass-all {f} {n} {i} p l = let same : i ≡ n = omega (arith, p .within) in sym (rw same at (p .holds))
+
+pub ruleset scans = (pass-none, pass-one, pass-fails, pass-all)

@@ -4,7 +4,7 @@ use mathlib.Core.Logic.{_≢_}
 use mathlib.Core.Bool.{Bool, false, not, _&&_, _||_}
 use mathlib.Core.List.{List, []}
 use Prim.Native.Nat.{ℕ, _+_, _-_, _*_, _≤_, _<_}
-use lib.Dec.{eqb, ltb}
+use lib.Dec.{eqb}
 use lib.ListN.{length, getD}
 use Rattle.words.specs.Words.{wordAt}
 use Rattle.buffer.specs.declared.CodeBuffer.{CodeBuffer}
@@ -12,7 +12,6 @@ use Rattle.buffer.specs.State.{none, mostEntries, labelTarget}
 use Rattle.recording.specs.Calls.{Recording}
 use Rattle.recording.specs.Sound.{labelOf}
 use Rattle.checks.specs.Entries.{all, askedFits, askedOnce}
-use Rattle.checks.specs.Fields.{isBoundAt}
 
 -- the counts of a recording, but that of its code, fit its tables; those of labels and constants are within the limit
 pub record CountsFit (b : CodeBuffer) (labels events uses refs constants asked relocs : List ℕ) : Type 0 where
@@ -37,14 +36,6 @@ useLabel uses i = wordAt uses (i * 3 + 1)
 
 abbrev pub refLabel : List ℕ → ℕ → ℕ
 refLabel refs i = wordAt refs (i * 4 + 1)
-
--- event i is no jump, or its label is bound
-abbrev pub jumpBound : List ℕ → List ℕ → ℕ → Bool
-jumpBound events labels i = not (eqb (wordAt events (i * 5)) 1) || isBoundAt labels (wordAt events (i * 5 + 3))
-
--- relocation i names a symbol, or a label that is bound
-abbrev pub targetBound : List ℕ → List ℕ → ℕ → Bool
-targetBound relocs labels i = ltb (wordAt relocs (i * 6 + 2)) labelTarget || isBoundAt labels (wordAt relocs (i * 6 + 2) - labelTarget)
 
 -- the labels that the first n entries name lie in the table of labels
 pub record Named (label : ℕ → ℕ) (n : ℕ) (labels : List ℕ) : Type 0 where

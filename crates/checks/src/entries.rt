@@ -86,10 +86,11 @@ fn is_outside(events: &[u8], n: usize, offset: u32) -> bool
     crate::search::clear_of_events(events, n, offset as u64, offset as u64)
 }
 
-fn label_fits(events: &[u8], n: usize, code: u32, offset: u32) -> bool
-    requires { ⌜ n * 20 ≤ length (now events) ⌝ ∗ ⌜ Ordered (startAt (now events)) (endAt (now events)) n ⌝ }
-    ensures { λ r. ⌜ r ≡ labelFits (now (events .entry)) n code offset ⌝ }
+fn label_fits(labels: &[u8], events: &[u8], n: usize, code: u32, i: usize) -> bool
+    requires { ⌜ i * 4 + 4 ≤ length (now labels) ⌝ ∗ ⌜ n * 20 ≤ length (now events) ⌝ ∗ ⌜ Ordered (startAt (now events)) (endAt (now events)) n ⌝ }
+    ensures { λ r. ⌜ r ≡ labelFits (now (events .entry)) n code (wordAt (now (labels .entry)) i) ⌝ }
 {
+    let offset = words::word_at(labels, i);
     if offset == buffer::NONE {
         return true;
     }
@@ -105,8 +106,7 @@ pub fn labels_fit(labels: &[u8], n: usize, events: &[u8], m: usize, code: u32) -
 {
     let mut i: usize = 0;
     while i < n {
-        let offset = words::word_at(labels, i);
-        if !label_fits(events, m, code, offset) {
+        if !label_fits(labels, events, m, code, i) {
             return false;
         }
         i += 1;
@@ -280,6 +280,15 @@ fn mark_asked(
     true
 }
 
+// Whether constant `i` has no label or is marked.
+fn is_marked(constants: &[u8], seen: &[bool], i: usize) -> bool
+    requires { ⌜ i * 72 + 72 ≤ length (now constants) ⌝ ∗ ⌜ i < length (now seen) ⌝ }
+    ensures { λ r. ⌜ r ≡ unlabelledOr (now (constants .entry)) (now (seen .entry)) i ⌝ }
+{
+    let label = words::word_at(constants, i * 18 + 1);
+    buffer::either(label == buffer::NONE, seen[i])
+}
+
 // Whether every constant that has a label is marked.
 fn is_each_marked(constants: &[u8], n: u32, seen: &[bool]) -> bool
     requires { ⌜ n * 72 ≤ length (now constants) ⌝ ∗ ⌜ n ≤ length (now seen) ⌝ }
@@ -288,9 +297,7 @@ fn is_each_marked(constants: &[u8], n: u32, seen: &[bool]) -> bool
     let count = n as usize;
     let mut i: usize = 0;
     while i < count {
-        let label = words::word_at(constants, i * 18 + 1);
-        let marked = seen[i];
-        if !buffer::either(label == buffer::NONE, marked) {
+        if !is_marked(constants, seen, i) {
             return false;
         }
         i += 1;

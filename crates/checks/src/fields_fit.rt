@@ -10,16 +10,25 @@ ghost use Rattle.recording.specs.View.{entries};
 ghost use Rattle.recording.specs.Sound.{startAt, endAt};
 ghost use Rattle.fresh.specs.Forms.{isMoving, moves};
 ghost use Rattle.pool.specs.Pool.{poolStart};
-ghost use Rattle.checks.specs.Fields.{isBoundAt, usesBound, refsBound, jumpsBound, relocsBound, sizeOf, refClear, refsClear, reachOf, whyUnreached, whyUses};
+ghost use Rattle.checks.specs.Fields.{isBoundAt, jumpBound, targetBound, usesBound, refsBound, jumpsBound, relocsBound, sizeOf, refClear, refsClear, reachOf, whyUnreached, whyUses};
 ghost use Rattle.checks.specs.Search.{Ordered, Placed};
-ghost use Rattle.checks.specs.Handed.{useLabel, refLabel, Named, JumpsNamed, TargetsNamed, jumpBound, targetBound};
+ghost use Rattle.checks.specs.Handed.{useLabel, refLabel, Named, JumpsNamed, TargetsNamed};
 use relax::LayoutEvent;
 
+// Whether a label is bound.
 fn is_bound_at(labels: &[u8], label: u32) -> bool
     requires { ⌜ label * 4 + 4 ≤ length (now labels) ⌝ }
     ensures { λ r. ⌜ r ≡ isBoundAt (now (labels .entry)) label ⌝ }
 {
     words::word_at(labels, label as usize) != buffer::NONE
+}
+
+// The same of the label that word `k` of a table names.
+fn is_named_bound(table: &[u8], k: usize, labels: &[u8]) -> bool
+    requires { ⌜ k * 4 + 4 ≤ length (now table) ⌝ ∗ ⌜ wordAt (now table) k * 4 + 4 ≤ length (now labels) ⌝ }
+    ensures { λ r. ⌜ r ≡ isBoundAt (now (labels .entry)) (wordAt (now (table .entry)) k) ⌝ }
+{
+    is_bound_at(labels, words::word_at(table, k))
 }
 
 pub fn uses_bound(uses: &[u8], n: usize, labels: &[u8]) -> bool
@@ -28,8 +37,7 @@ pub fn uses_bound(uses: &[u8], n: usize, labels: &[u8]) -> bool
 {
     let mut i: usize = 0;
     while i < n {
-        let label = words::word_at(uses, i * 3 + 1);
-        if !is_bound_at(labels, label) {
+        if !is_named_bound(uses, i * 3 + 1, labels) {
             return false;
         }
         i += 1;
@@ -43,8 +51,7 @@ pub fn refs_bound(refs: &[u8], n: usize, labels: &[u8]) -> bool
 {
     let mut i: usize = 0;
     while i < n {
-        let label = words::word_at(refs, i * 4 + 1);
-        if !is_bound_at(labels, label) {
+        if !is_named_bound(refs, i * 4 + 1, labels) {
             return false;
         }
         i += 1;
@@ -60,7 +67,7 @@ fn jump_bound(events: &[u8], labels: &[u8], i: usize) -> bool
     if words::word_at(events, i * 5) != 1 {
         return true;
     }
-    is_bound_at(labels, words::word_at(events, i * 5 + 3))
+    is_named_bound(events, i * 5 + 3, labels)
 }
 
 pub fn jumps_bound(events: &[u8], n: usize, labels: &[u8]) -> bool
