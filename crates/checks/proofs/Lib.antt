@@ -1,4 +1,3 @@
-pub mod Scans
 pub mod Clear
 pub mod Forms
 pub mod Marking

@@ -13,7 +13,7 @@ use Rattle.fields.specs.Reach.{reachRefusal}
 use Rattle.buffer.specs.State.{none, labelTarget}
 use Rattle.recording.specs.Sound.{startAt, endAt}
 use Rattle.pool.specs.Pool.{poolStart, poolOffset}
-use Rattle.checks.specs.Entries.{all}
+use Rattle.seqs.specs.Every.{all}
 
 -- `isBound` (finish/specs/Refusals), of the bytes of the table of labels
 unfoldable pub isBoundAt : List ℕ → ℕ → Bool

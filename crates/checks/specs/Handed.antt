@@ -11,7 +11,8 @@ use Rattle.buffer.specs.declared.CodeBuffer.{CodeBuffer}
 use Rattle.buffer.specs.State.{none, mostEntries, labelTarget}
 use Rattle.recording.specs.Calls.{Recording}
 use Rattle.recording.specs.Sound.{labelOf}
-use Rattle.checks.specs.Entries.{all, askedFits, askedOnce}
+use Rattle.seqs.specs.Every.{all}
+use Rattle.checks.specs.Entries.{askedFits, askedOnce}
 
 -- the counts of a recording, but that of its code, fit its tables; those of labels and constants are within the limit
 pub record CountsFit (b : CodeBuffer) (labels events uses refs constants asked relocs : List ℕ) : Type 0 where

@@ -1,7 +1,7 @@
 -- What the scans of crate checks find of the tables, as the definitions say it of the pooled recording.
 use mathlib.Core.Path.{_≡_, refl, sym, ap, _∙_}
 use mathlib.Core.Logic.{_≢_, ⊎-elim}
-use mathlib.Core.Bool.{Bool, true, false, not, _&&_, _||_, or-false}
+use mathlib.Core.Bool.{Bool, true, false, not, _&&_, _||_, or-false, and-true}
 use mathlib.Core.List.{List, [], _∷_, _++_}
 use Prim.Native.Nat.{ℕ, zero, suc, _+_, _-_, _*_, _≤_, _<_}
 use native.Mathlib.Omega.{arith}
@@ -9,6 +9,7 @@ use lib.Dec.{eqb, leb}
 use lib.ListN.{length}
 use borrow.Author.Tests.{ne-eqb, lt-ltb}
 use Rattle.seqs.specs.Pick.{pick, orElse}
+use Rattle.seqs.proofs.Every.{all-of, every-append}
 use Rattle.seqs.proofs.Numbers.{lt-or-ge, eq-or-ne}
 use Rattle.seqs.proofs.Picking.{no-eq}
 use Rattle.words.specs.Words.{wordAt}
@@ -22,36 +23,15 @@ use Rattle.relax.specs.declared.Alignment.{Alignment}
 use Rattle.buffer.specs.State.{none}
 use Rattle.recording.specs.Sound.{startAt, endAt}
 use Rattle.recording.specs.View as tables
-use Rattle.recording.proofs.Views.{getD-entries}
+use Rattle.recording.proofs.Views.{getD-entries, every-entries}
 use Rattle.fresh.specs.Pooled.{Pooled}
 use Rattle.fresh.specs.Forms.{moves, roleOf}
 use Rattle.fresh.proofs.Moves.{moves-append, still-all}
 use Rattle.pool.specs.Pool.{labelAt, poolStart, poolOffset, poolEvent, isAnyBound}
-use Rattle.checks.specs.Entries.{all}
+use Rattle.seqs.specs.Every.{all}
 use Rattle.checks.specs.Fields as checked
-use Rattle.finish.specs.Refusals.{every, isBound, poolBoundBefore, jumpBound, relocBound, refClear, useRefusal, usesRefusal}
-
-and-assoc : (a b c : Bool) → (a && (b && c)) ≡ ((a && b) && c)
-and-assoc true b c = refl
-and-assoc false b c = refl
-
-every-append : {A : Type 0} (f : A → Bool) (xs ys : List A) → every f (xs ++ ys) ≡ (every f xs && every f ys)
-unfolding every
-every-append f [] ys = refl
-every-append f (x ∷ xs) ys = rw (every-append f xs ys) (and-assoc (f x) (every f xs) (every f ys))
-
-and-true : (t : Bool) → (t && true) ≡ t
-and-true true = refl
-and-true false = refl
-
--- a test of every entry of a table is a test of every number below their count
-pub every-entries : {A : Type 0} (f : A → Bool) (g : ℕ → A) (h : ℕ → Bool) (n : ℕ) → ((i : ℕ) → i < n → f (g i) ≡ h i)
-    → every f (tables.entries g n) ≡ all h n
-unfolding every all
-every-entries f g h zero e = refl
-every-entries f g h (suc n) e =
-    every-append f (tables.entries g n) (g n ∷ [])
-    ∙ rw (every-entries f g h n (λ i l. e i (omega arith)), and-true (f (g n)), e n (omega arith))
+use Rattle.seqs.specs.Every.{every}
+use Rattle.finish.specs.Refusals.{isBound, poolBoundBefore, jumpBound, relocBound, refClear, useRefusal, usesRefusal}
 
 -- a label below the count is bound in the list as in the table
 pub bound-entries : (labels : List ℕ) (count label : ℕ) → label < count
@@ -101,11 +81,8 @@ jump-at labels count kind start len what cc known =
 
 every-aligned : (f : LayoutEvent → Bool) (from : ℕ) (constants asked : List ℕ) (n : ℕ) → ((a : Alignment) → f (Align a) ≡ true)
     → every f (tables.entries (poolEvent from constants asked) n) ≡ true
-unfolding every
-every-aligned f from constants asked zero h = refl
-every-aligned f from constants asked (suc n) h =
-    every-append f (tables.entries (poolEvent from constants asked) n) (poolEvent from constants asked n ∷ [])
-    ∙ rw (every-aligned f from constants asked n h, h _)
+every-aligned f from constants asked n h =
+    every-entries f (poolEvent from constants asked) (λ (i : ℕ). true) n (λ i l. h _) ∙ all-of (λ (i : ℕ). true) n (λ i l. refl)
 
 -- 15, of the jumps
 pub jumps-bound : (p : Pooled) (labels events constants asked : List ℕ) (count from n m : ℕ)

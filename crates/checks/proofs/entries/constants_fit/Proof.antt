@@ -1,7 +1,7 @@
 -- `constants_fit` meets its contract: all the constants passed fit.
 use Prim.Native.Nat.{_-_}
 use Rattle.checks.specs.Entries.{constantFits, constantsFit}
-use Rattle.checks.proofs.Scans.{AllPassed, scans}
+use Rattle.seqs.proofs.Scans.{AllPassed, scans}
 use borrow.Author.Needs.{needs}
 use Rattle.checks.proofs.entries.constants_fit.Statement.{statement}
 use Rattle.checks.proofs.entries.constants_fit.Tie as tie

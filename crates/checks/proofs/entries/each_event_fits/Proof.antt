@@ -1,7 +1,7 @@
 -- `each_event_fits` meets its contract: all the events passed fit.
 use Prim.Native.Nat.{_-_}
 use Rattle.checks.specs.Entries.{eventFits}
-use Rattle.checks.proofs.Scans.{AllPassed, scans}
+use Rattle.seqs.proofs.Scans.{AllPassed, scans}
 use borrow.Author.Needs.{needs}
 use Rattle.checks.proofs.entries.each_event_fits.Statement.{statement}
 use Rattle.checks.proofs.entries.each_event_fits.Tie as tie

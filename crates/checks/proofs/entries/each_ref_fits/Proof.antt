@@ -1,7 +1,7 @@
 -- `each_ref_fits` meets its contract: all the refs passed fit.
 use Prim.Native.Nat.{_-_}
 use Rattle.checks.specs.Entries.{refFits}
-use Rattle.checks.proofs.Scans.{AllPassed, scans}
+use Rattle.seqs.proofs.Scans.{AllPassed, scans}
 use borrow.Author.Needs.{needs}
 use Rattle.checks.proofs.entries.each_ref_fits.Statement.{statement}
 use Rattle.checks.proofs.entries.each_ref_fits.Tie as tie

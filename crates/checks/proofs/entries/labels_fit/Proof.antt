@@ -3,7 +3,7 @@ use Prim.Native.Nat.{_-_}
 use Prim.Native.Nat.{ℕ}
 use Rattle.words.specs.Words.{wordAt}
 use Rattle.checks.specs.Entries.{labelFits, labelsFit}
-use Rattle.checks.proofs.Scans.{AllPassed, scans}
+use Rattle.seqs.proofs.Scans.{AllPassed, scans}
 use borrow.Author.Needs.{needs}
 use Rattle.checks.proofs.entries.labels_fit.Statement.{statement}
 use Rattle.checks.proofs.entries.labels_fit.Tie as tie

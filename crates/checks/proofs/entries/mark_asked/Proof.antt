@@ -7,7 +7,7 @@ use native.Mathlib.Omega.{arith}
 use Prim.Native.Nat.{_-_}
 use Rattle.checks.specs.Handed.{askedLabel, Marks, newAt}
 use Rattle.words.specs.Words.{wordAt}
-use Rattle.checks.proofs.Scans.{AllPassed, pass-none, pass-one, pass-fails, pass-all}
+use Rattle.seqs.proofs.Scans.{AllPassed, pass-none, pass-one, pass-fails, pass-all}
 use borrow.Author.Needs.{needs}
 use Rattle.checks.proofs.entries.mark_asked.Statement.{statement}
 use Rattle.checks.proofs.entries.mark_asked.Tie as tie

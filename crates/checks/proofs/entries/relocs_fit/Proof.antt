@@ -1,7 +1,7 @@
 -- `relocs_fit` meets its contract: all the relocations passed fit.
 use Prim.Native.Nat.{_-_}
 use Rattle.checks.specs.Entries.{relocFits, relocsFit}
-use Rattle.checks.proofs.Scans.{AllPassed, scans}
+use Rattle.seqs.proofs.Scans.{AllPassed, scans}
 use borrow.Author.Needs.{needs}
 use Rattle.checks.proofs.entries.relocs_fit.Statement.{statement}
 use Rattle.checks.proofs.entries.relocs_fit.Tie as tie

@@ -1,7 +1,7 @@
 -- `uses_fit` meets its contract: all the uses passed fit.
 use Prim.Native.Nat.{_-_}
 use Rattle.checks.specs.Entries.{useFits, usesFit}
-use Rattle.checks.proofs.Scans.{AllPassed, scans}
+use Rattle.seqs.proofs.Scans.{AllPassed, scans}
 use borrow.Author.Needs.{needs}
 use Rattle.checks.proofs.entries.uses_fit.Statement.{statement}
 use Rattle.checks.proofs.entries.uses_fit.Tie as tie

@@ -2,7 +2,7 @@
 use Prim.Native.Nat.{_-_}
 use native.Mathlib.Omega.{arith}
 use Rattle.checks.specs.Fields.{jumpBound, jumpsBound}
-use Rattle.checks.proofs.Scans.{AllPassed, scans}
+use Rattle.seqs.proofs.Scans.{AllPassed, scans}
 use borrow.Author.Needs.{needs}
 use Rattle.checks.proofs.fields_fit.jumps_bound.Statement.{statement}
 use Rattle.checks.proofs.fields_fit.jumps_bound.Tie as tie

@@ -1,15 +1,16 @@
--- Laws of `all`: what a scan that stops at the first entry that fails has found.
-use mathlib.Core.Path.{_≡_, refl, sym, _∙_}
+-- Laws of `all` and `every`.
+use mathlib.Core.Path.{_≡_, refl, sym, ap, _∙_}
 use mathlib.Core.Logic.{⊎-elim}
-use mathlib.Core.Bool.{Bool, true, false, not, _&&_}
-use borrow.Author.Tests.{not-true, not-false}
-use Prim.Native.Nat.{ℕ, zero, suc, _+_, _≤_, _<_}
+use mathlib.Core.Bool.{Bool, true, false, _&&_, and-true, and-assoc}
+use mathlib.Core.List.{List, [], _∷_, _++_}
+use Prim.Native.Nat.{ℕ, zero, suc, _+_, _<_}
 use native.Mathlib.Nat.{not-suc-le-zero}
 use native.Mathlib.Numerals.{add-one}
 use native.Mathlib.Omega.{arith}
+use lib.ListN.{length, getD}
+use Rattle.seqs.specs.Every.{every, all}
 use Rattle.seqs.proofs.Numbers.{eq-or-ne}
 use Rattle.seqs.proofs.Booleans.{both-true, true-is-not-false}
-use Rattle.checks.specs.Entries.{all}
 
 pub all-none : (f : ℕ → Bool) → all f 0 ≡ true
 unfolding all
@@ -67,22 +68,21 @@ unfolding all
 all-both f g zero = refl
 all-both f g (suc n) = rw (all-both f g n) (four (all f n) (all g n) (f n) (g n))
 
--- a scan that has passed the first i of n entries
-pub record AllPassed (f : ℕ → Bool) (n i : ℕ) : Type 0 where
-  pub within : i ≤ n
-  pub holds : all f i ≡ true
+all-first : (f : ℕ → Bool) (n : ℕ) → all f (suc n) ≡ (f 0 && all (λ (i : ℕ). f (suc i)) n)
+unfolding all
+all-first f zero = sym (and-true (f 0))
+all-first f (suc n) = rw (all-first f n) (and-assoc (f 0) (all (λ (i : ℕ). f (suc i)) n) (f (suc n)))
 
--- before the first turn, after a turn that holds, at one that fails, and at the end
-pub pass-none : (f : ℕ → Bool) (n : ℕ) → AllPassed f n 0
-pass-none f n = record { within = omega arith; holds = all-none f }
+-- a list is tested by its indexes
+pub every-all : {A : Type 0} (f : A → Bool) (xs : List A) (d : A) → every f xs ≡ all (λ (i : ℕ). f (getD xs i d)) (length xs)
+unfolding every all
+every-all f [] d = refl
+every-all f (x ∷ xs) d = ap (λ (t : Bool). f x && t) (every-all f xs d) ∙ sym (all-first (λ (i : ℕ). f (getD (x ∷ xs) i d)) (length xs))
 
-pub pass-one : {f : ℕ → Bool} {n i : ℕ} {t : Bool} → AllPassed f n i → i < n → t ≡ f i → not t ≡ false → AllPassed f n (i + 1)
-pass-one {f} {n} {i} {t} p l e h = record { within = omega arith; holds = all-step f i (p .holds) (sym e ∙ not-false t h) }
+pub every-at : {A : Type 0} (f : A → Bool) (xs : List A) (d : A) → every f xs ≡ true → (i : ℕ) → i < length xs → f (getD xs i d) ≡ true
+every-at f xs d h i k = all-at (λ (j : ℕ). f (getD xs j d)) (length xs) i (sym (every-all f xs d) ∙ h) k
 
-pub pass-fails : {f : ℕ → Bool} {n i : ℕ} {t : Bool} → AllPassed f n i → i < n → t ≡ f i → not t ≡ true → false ≡ all f n
-pass-fails {f} {n} {i} {t} p l e h = sym (all-fails f n i l (sym e ∙ not-true t h))
-
-pub pass-all : {f : ℕ → Bool} {n i : ℕ} → AllPassed f n i → n ≤ i → true ≡ all f n
-pass-all {f} {n} {i} p l = let same : i ≡ n = omega (arith, p .within) in sym (rw same at (p .holds))
-
-pub ruleset scans = (pass-none, pass-one, pass-fails, pass-all)
+pub every-append : {A : Type 0} (f : A → Bool) (xs ys : List A) → every f (xs ++ ys) ≡ (every f xs && every f ys)
+unfolding every
+every-append f [] ys = refl
+every-append f (x ∷ xs) ys = rw (every-append f xs ys) (sym (and-assoc (f x) (every f xs) (every f ys)))
