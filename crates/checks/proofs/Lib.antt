@@ -2,7 +2,6 @@ pub mod Clear
 pub mod Forms
 pub mod Marking
 pub mod Reaching
-pub mod Judged
 pub mod SoundEvents
 pub mod SoundTables
 pub mod Sound
