@@ -14,7 +14,7 @@ use crate::both;
 use crate::either;
 
 // The end of the last of `n` events.
-fn last_end(events: &[u8], n: usize) -> u64
+pub fn last_end(events: &[u8], n: usize) -> u64
     requires { ⌜ n * eventSize ≤ length (now events) ⌝ }
     ensures { λ r. ⌜ r ≡ lastEnd (now (events .entry)) n ⌝ }
 {

@@ -8,7 +8,7 @@ ghost use Rattle.buffer.specs.Calls.{started};
 
 pub mod bytes;
 mod constants;
-mod jumps;
+pub mod jumps;
 mod labels;
 pub mod relocs;
 pub mod uses;

@@ -3,21 +3,20 @@ use mathlib.Core.Bool.{true, false, cond}
 use mathlib.Core.List.{List, [], _∷_}
 use Prim.Native.Nat.{ℕ, _+_}
 use lib.Dec.{eqb}
-use lib.ListN.{length, drop, replicate}
+use lib.ListN.{length, drop}
 use Rattle.words.specs.Words.{bytesOf, wordAt}
 use Rattle.fields.specs.declared.LabelUse.{LabelUse}
 use Rattle.fields.specs.declared.Decoded.{Decoded}
 use Rattle.fields.specs.declared.Decoded.the-variants.{Use, Unsupported, Unknown}
-use Rattle.fields.specs.Kinds.{archX64, decoded}
+use Rattle.fields.specs.Kinds.{decoded}
 use Rattle.fields.specs.Reach.{reachRefusal}
 use Rattle.fields.specs.Patch.{patchedUse}
-use Rattle.relax.specs.declared.Condition.the-variants.{Always}
-use Rattle.relax.specs.declared.LayoutEvent.{LayoutEvent}
-use Rattle.relax.specs.declared.LayoutEvent.the-variants.{Jump, Align}
+use Rattle.relax.specs.declared.LayoutEvent.the-variants.{Align}
 use Rattle.fresh.specs.Pooled.{Pooled}
 use Rattle.fresh.specs.Fresh.{Choice}
 use Rattle.fresh.specs.Rounds.{Settled, settled}
 use Rattle.fresh.specs.Fill.{assembled}
+use Rattle.fresh.specs.Samples.{jmp, zeros}
 
 pub data Case : Type 0 where
   -- a recording that is finished, and the offset from which on its code is looked at
@@ -61,14 +60,6 @@ usedBy Unknown word offset code label = refused 1
 abbrev pub answer : Case → Answer
 answer (finish p from) = finishedBy p from (settled p)
 answer (usage word offset code label) = usedBy (decoded code) word offset code label
-
--- a `jmp` of 5 recorded bytes
-abbrev pub jmp : ℕ → ℕ → LayoutEvent
-jmp start label = Jump (record { start = start; len = 5; label = label; cc = Always })
-
--- events over n zeros, on X64
-abbrev pub zeros : ℕ → List LayoutEvent → List ℕ → Pooled
-zeros n es labels = record { arch = archX64; code = replicate n 0; events = es; labels = labels; uses = []; refs = []; pool = [] }
 
 -- A to L
 unfoldable pub table : List Row

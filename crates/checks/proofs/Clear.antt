@@ -1,7 +1,7 @@
 -- Pieces of code in order: of those that start before an offset the last decides.
 use mathlib.Core.Path.{_≡_, refl, sym, subst}
 use mathlib.Core.Logic.{⊎-elim}
-use mathlib.Core.Bool.{Bool, true, false, _||_}
+use mathlib.Core.Bool.{Bool, true, _||_, or-true, or-comm}
 use mathlib.Core.List.{List}
 use Prim.Native.Nat.{ℕ, zero, suc, _+_, _-_, _≤_, _<_}
 use native.Mathlib.Nat.{not-suc-le-zero}
@@ -12,19 +12,11 @@ use Rattle.seqs.proofs.Numbers.{lt-or-ge, eq-or-ne}
 use Rattle.recording.specs.Sound.{startAt, endAt}
 use Rattle.words.specs.Words.{wordAt}
 use Rattle.pool.specs.Pool.{sizeAt, labelAt, poolStart, poolOffset}
-use Rattle.checks.specs.Entries.{all, outside}
+use Rattle.seqs.specs.Every.{all}
+use Rattle.checks.specs.Entries.{outside}
 use Rattle.checks.specs.Fields.{clearOfEvents, clearOfPool}
 use Rattle.checks.specs.Search.{Ordered, Before, Placed}
-use Rattle.checks.proofs.Scans.{all-of, all-fails, all-same}
-
-or-true : (t : Bool) → (t || true) ≡ true
-or-true true = refl
-or-true false = refl
-
-or-comm : (a b : Bool) → (a || b) ≡ (b || a)
-or-comm true b = sym (or-true b)
-or-comm false true = refl
-or-comm false false = refl
+use Rattle.seqs.proofs.Every.{all-of, all-fails, all-same}
 
 module _ (start end : ℕ → ℕ) where
   -- halving: a piece that starts before the offset, and one that does not

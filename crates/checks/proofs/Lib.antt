@@ -1,9 +1,7 @@
-pub mod Scans
 pub mod Clear
 pub mod Forms
 pub mod Marking
 pub mod Reaching
-pub mod Judged
 pub mod SoundEvents
 pub mod SoundTables
 pub mod Sound

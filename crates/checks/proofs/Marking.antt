@@ -16,9 +16,10 @@ use Rattle.words.specs.Words.{wordAt}
 use Rattle.buffer.specs.State.{none}
 use Rattle.buffer.specs.Tables.{mostEntries, constantSize}
 use Rattle.recording.specs.Sound.{labelOf}
-use Rattle.checks.specs.Entries.{all, askedFits, askedOnce, isAsked, orderFits}
+use Rattle.seqs.specs.Every.{all}
+use Rattle.checks.specs.Entries.{askedFits, askedOnce, isAsked, orderFits}
 use Rattle.checks.specs.Handed.{occurs, Marks, Labelled, askedLabel, newAt, unlabelledOr}
-use Rattle.checks.proofs.Scans.{all-same, all-both}
+use Rattle.seqs.proofs.Every.{all-same, all-both}
 
 marks-none : (marks : List Bool) (f : ℕ → ℕ) → length marks ≡ mostEntries → ((k : ℕ) → k < mostEntries → getD marks k false ≡ false) → Marks marks f 0
 unfolding occurs all

@@ -29,21 +29,20 @@ use Rattle.fields.specs.declared.LabelUse.the-variants.{
 use Rattle.relax.specs.Events.{eventWords}
 use Rattle.buffer.specs.Tables.{refWords, relocWords}
 use Rattle.pool.specs.Pool.{poolStart}
-use Rattle.checks.specs.Fields.{isBound, sizeOf, clearOfEvents, clearOfPool, refClear, whyUnreached, whyUses}
-use Rattle.checks.specs.Handed.{jumpBound, targetBound}
+use Rattle.checks.specs.Fields.{isBoundAt, jumpBound, targetBound, sizeOf, clearOfEvents, clearOfPool, refClear, whyUnreached, whyUses}
 
 pub jump-none : (events labels : List ℕ) (i kind : ℕ) → kind ≡ wordAt events (i * eventWords) → kind ≢ 1 → true ≡ jumpBound events labels i
 jump-none events labels i kind e h = rw (ne-eqb (wordAt events (i * eventWords)) 1 (λ (q : wordAt events (i * eventWords) ≡ 1). h (e ∙ q)))
 
 pub jump-named : (events labels : List ℕ) (i kind : ℕ) → kind ≡ wordAt events (i * eventWords) → kind ≡ 1
-    → isBound labels (wordAt events (i * eventWords + 3)) ≡ jumpBound events labels i
+    → isBoundAt labels (wordAt events (i * eventWords + 3)) ≡ jumpBound events labels i
 jump-named events labels i kind e h = rw (eq-eqb (wordAt events (i * eventWords)) 1 (sym e ∙ h))
 
 pub target-symbol : (relocs labels : List ℕ) (i target : ℕ) → target ≡ wordAt relocs (i * relocWords + 2) → target < 2147483648 → true ≡ targetBound relocs labels i
 target-symbol relocs labels i target e h = rw (lt-ltb (wordAt relocs (i * relocWords + 2)) 2147483648 (rw e at h))
 
 pub target-label : (relocs labels : List ℕ) (i target : ℕ) → target ≡ wordAt relocs (i * relocWords + 2) → 2147483648 ≤ target
-    → isBound labels (target - 2147483648) ≡ targetBound relocs labels i
+    → isBoundAt labels (target - 2147483648) ≡ targetBound relocs labels i
 target-label relocs labels i target e h = rw (e, le-ltb (wordAt relocs (i * relocWords + 2)) 2147483648 (rw e at h))
 
 -- no field has more than four bytes

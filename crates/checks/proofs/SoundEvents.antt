@@ -18,9 +18,10 @@ use Rattle.relax.specs.Events.{eventAt, endOf, eventWords, eventSize}
 use Rattle.relax.proofs.Columns.{end-at}
 use Rattle.buffer.specs.Refusals.{isAlignment, lastEnd}
 use Rattle.recording.specs.Sound.{startAt, endAt, FormOf, EventSound, EventsSound}
-use Rattle.checks.specs.Entries.{all, formFits, eventFits, keptOnly, eventsFit}
+use Rattle.seqs.specs.Every.{all}
+use Rattle.checks.specs.Entries.{formFits, eventFits, keptOnly, eventsFit}
 use Rattle.checks.specs.Search.{Ordered}
-use Rattle.checks.proofs.Scans.{all-at, all-of}
+use Rattle.seqs.proofs.Every.{all-at, all-of}
 
 -- `&&` and `||`
 pub and-by : (a b : Bool) → a ≡ true → b ≡ true → (a && b) ≡ true

@@ -19,9 +19,10 @@ use Rattle.buffer.specs.Refusals.{foreign, foreignReloc, targetKnown}
 use Rattle.buffer.specs.Tables.{mostEntries, labelSize, useWords, useSize, refWords, refSize, constantWords, constantSize, askedSize, relocWords, relocSize}
 use Rattle.recording.specs.Sound.{startAt, endAt, labelOf, LabelSound, LabelsSound, UsesSound, RefsSound, Target, RelocsSound, ConstantsSound, AskedSound}
 use Rattle.recording.proofs.Tables.{known-target}
-use Rattle.checks.specs.Entries.{all, outside, labelFits, labelsFit, useFits, usesFit, refFits, refsFit, relocFits, relocsFit, constantFits, constantsFit, askedFits, askedOnce, isAsked, orderFits}
+use Rattle.seqs.specs.Every.{all}
+use Rattle.checks.specs.Entries.{outside, labelFits, labelsFit, useFits, usesFit, refFits, refsFit, relocFits, relocsFit, constantFits, constantsFit, askedFits, askedOnce, isAsked, orderFits}
 use Rattle.checks.specs.Handed.{Labelled, newAt}
-use Rattle.checks.proofs.Scans.{all-at, all-of, all-not, all-fails}
+use Rattle.seqs.proofs.Every.{all-at, all-of, all-not, all-fails}
 use Rattle.checks.proofs.SoundEvents.{and-by, or-by, or-first, or-second, kept, keeps}
 
 label-sound : (events : List ℕ) (n code offset : ℕ) → labelFits events n code offset ≡ true → LabelSound events n code offset

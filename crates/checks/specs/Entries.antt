@@ -1,9 +1,10 @@
 -- The table entries that finish takes; it answers 1 to any other: document 01, "An entry meant by 1 is a value outside the ranges here or foreign to the
 -- architecture; a number past its count; ..". `Sound` (recording/specs/Sound) says the same of every recording that calls make (`sound-fits`).
-use mathlib.Core.Bool.{Bool, true, not, _&&_, _||_}
+use mathlib.Core.Bool.{Bool, not, _&&_, _||_}
 use mathlib.Core.List.{List}
-use Prim.Native.Nat.{ℕ, zero, suc, _+_, _*_}
+use Prim.Native.Nat.{ℕ, _+_, _*_}
 use lib.Dec.{eqb, leb, ltb}
+use Rattle.seqs.specs.Every.{all}
 use Rattle.words.specs.Words.{wordAt}
 use Rattle.encoder.specs.Padding.{paddingLength}
 use Rattle.fields.specs.Kinds.{decoded, unsupportedCode, lastCode}
@@ -14,11 +15,6 @@ use Rattle.buffer.specs.Refusals.{isAlignment, foreign, foreignReloc, targetKno
 use Rattle.buffer.specs.Tables.{lastOffset, mostConstant, lastReloc, useWords, refWords, constantWords, relocWords}
 use Rattle.recording.specs.Calls.{Recording}
 use Rattle.recording.specs.Sound.{startAt, endAt, labelOf}
-
--- it holds of every number below n
-unfoldable pub all : (ℕ → Bool) → ℕ → Bool
-all f zero = true
-all f (suc n) = all f n && f n
 
 -- The columns of an event: a jump (length 2..15, a known label, a condition up to 16), or an alignment (a power of two up to 4,096, "of least length").
 unfoldable pub formFits : ℕ → ℕ → ℕ → ℕ → ℕ → ℕ → Bool

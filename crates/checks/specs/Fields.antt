@@ -16,26 +16,37 @@ use Rattle.buffer.specs.State.{none, labelTarget}
 use Rattle.buffer.specs.Tables.{useWords, refWords, relocWords}
 use Rattle.recording.specs.Sound.{startAt, endAt}
 use Rattle.pool.specs.Pool.{poolStart, poolOffset}
-use Rattle.checks.specs.Entries.{all}
+use Rattle.seqs.specs.Every.{all}
 
-unfoldable pub isBound : List ℕ → ℕ → Bool
-isBound labels label = not (eqb (wordAt labels label) none)
+-- `isBound` (finish/specs/Refusals), of the bytes of the table of labels
+unfoldable pub isBoundAt : List ℕ → ℕ → Bool
+isBoundAt labels label = not (eqb (wordAt labels label) none)
+
+-- what an entry names is bound: of a use, of a ref; of an event where it is a jump; of a relocation where its target is a label's, from 2^31 on
+abbrev pub useBound : List ℕ → List ℕ → ℕ → Bool
+useBound uses labels i = isBoundAt labels (wordAt uses (i * useWords + 1))
+
+abbrev pub refBound : List ℕ → List ℕ → ℕ → Bool
+refBound refs labels i = isBoundAt labels (wordAt refs (i * refWords + 1))
+
+abbrev pub jumpBound : List ℕ → List ℕ → ℕ → Bool
+jumpBound events labels i = not (eqb (wordAt events (i * eventWords)) jumpKind) || isBoundAt labels (wordAt events (i * eventWords + 3))
+
+abbrev pub targetBound : List ℕ → List ℕ → ℕ → Bool
+targetBound relocs labels i = ltb (wordAt relocs (i * relocWords + 2)) labelTarget || isBoundAt labels (wordAt relocs (i * relocWords + 2) - labelTarget)
 
 -- 15: "a use, label relocation, ref or jump names an unbound label"; each of these holds where none does
 unfoldable pub usesBound : List ℕ → ℕ → List ℕ → Bool
-usesBound uses n labels = all (λ (i : ℕ). isBound labels (wordAt uses (i * useWords + 1))) n
+usesBound uses n labels = all (useBound uses labels) n
 
 unfoldable pub refsBound : List ℕ → ℕ → List ℕ → Bool
-refsBound refs n labels = all (λ (i : ℕ). isBound labels (wordAt refs (i * refWords + 1))) n
+refsBound refs n labels = all (refBound refs labels) n
 
--- an event of kind 1 is a jump
 unfoldable pub jumpsBound : List ℕ → ℕ → List ℕ → Bool
-jumpsBound events n labels = all (λ (i : ℕ). not (eqb (wordAt events (i * eventWords)) jumpKind) || isBound labels (wordAt events (i * eventWords + 3))) n
+jumpsBound events n labels = all (jumpBound events labels) n
 
--- a target from 2^31 on is a label's
 unfoldable pub relocsBound : List ℕ → ℕ → List ℕ → Bool
-relocsBound relocs n labels =
-    all (λ (i : ℕ). ltb (wordAt relocs (i * relocWords + 2)) labelTarget || isBound labels (wordAt relocs (i * relocWords + 2) - labelTarget)) n
+relocsBound relocs n labels = all (targetBound relocs labels) n
 
 -- a field's size, by its code
 abbrev pub sizeOf : Decoded → ℕ

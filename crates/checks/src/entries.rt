@@ -4,11 +4,11 @@ ghost use mathlib.Core.Bool.{true};
 ghost use Prim.Native.Nat.{_+_, _*_, _≤_, _<_};
 ghost use lib.ListN.{length};
 ghost use Rattle.words.specs.Words.{wordAt};
-ghost use Rattle.relax.specs.Events.{eventSize};
-ghost use Rattle.buffer.specs.Refusals.{lastEnd};
-ghost use Rattle.buffer.specs.Tables.{labelSize, useSize, refSize, constantSize, askedSize, relocSize};
 ghost use Rattle.recording.specs.Sound.{startAt, endAt};
-ghost use Rattle.checks.specs.Entries.{all, formFits, eventFits, keptOnly, eventsFit, outside, labelFits, labelsFit, useFits, usesFit, refFits, refsFit, relocFits, relocsFit, constantFits, constantsFit, orderFits, entriesFit};
+ghost use Rattle.seqs.specs.Every.{all};
+ghost use Rattle.relax.specs.Events.{eventSize};
+ghost use Rattle.buffer.specs.Tables.{labelSize, useSize, refSize, constantSize, askedSize, relocSize};
+ghost use Rattle.checks.specs.Entries.{formFits, eventFits, keptOnly, eventsFit, outside, labelFits, labelsFit, useFits, usesFit, refFits, refsFit, relocFits, relocsFit, constantFits, constantsFit, orderFits, entriesFit};
 ghost use Rattle.checks.specs.Search.{Ordered};
 ghost use Rattle.checks.specs.Handed.{CountsFit, tables, Labelled, askedLabel, Marks, newAt, unlabelledOr};
 use buffer::CodeBuffer;
@@ -32,17 +32,6 @@ fn form_fits(labels: u32, kind: u32, start: u32, len: u32, what: u32, cc: u32) -
     )
 }
 
-// The end of the event before event `j`.
-fn last_end(events: &[u8], j: usize) -> u64
-    requires { ⌜ j * eventSize ≤ length (now events) ⌝ }
-    ensures { λ r. ⌜ r ≡ lastEnd (now (events .entry)) j ⌝ }
-{
-    if j == 0 {
-        return 0;
-    }
-    relax::event_end(relax::event_at(events, j - 1))
-}
-
 fn event_fits(events: &[u8], labels: u32, code: u32, j: usize) -> bool
     requires { ⌜ j * eventSize + eventSize ≤ length (now events) ⌝ }
     ensures { λ r. ⌜ r ≡ eventFits (now (events .entry)) labels code j ⌝ }
@@ -53,7 +42,7 @@ fn event_fits(events: &[u8], labels: u32, code: u32, j: usize) -> bool
     let what = words::word_at(events, j * relax::EVENT_WORDS + 3);
     let cc = words::word_at(events, j * relax::EVENT_WORDS + 4);
     let formed = form_fits(labels, kind, start, len, what, cc);
-    let last = last_end(events, j);
+    let last = buffer::jumps::last_end(events, j);
     buffer::both(
         formed,
         buffer::both(
@@ -100,10 +89,11 @@ fn is_outside(events: &[u8], n: usize, offset: u32) -> bool
     crate::search::clear_of_events(events, n, offset as u64, offset as u64)
 }
 
-fn label_fits(events: &[u8], n: usize, code: u32, offset: u32) -> bool
-    requires { ⌜ n * eventSize ≤ length (now events) ⌝ ∗ ⌜ Ordered (startAt (now events)) (endAt (now events)) n ⌝ }
-    ensures { λ r. ⌜ r ≡ labelFits (now (events .entry)) n code offset ⌝ }
+fn label_fits(labels: &[u8], events: &[u8], n: usize, code: u32, i: usize) -> bool
+    requires { ⌜ i * labelSize + labelSize ≤ length (now labels) ⌝ ∗ ⌜ n * eventSize ≤ length (now events) ⌝ ∗ ⌜ Ordered (startAt (now events)) (endAt (now events)) n ⌝ }
+    ensures { λ r. ⌜ r ≡ labelFits (now (events .entry)) n code (wordAt (now (labels .entry)) i) ⌝ }
 {
+    let offset = words::word_at(labels, i);
     if offset == buffer::NONE {
         return true;
     }
@@ -119,8 +109,7 @@ pub fn labels_fit(labels: &[u8], n: usize, events: &[u8], m: usize, code: u32) -
 {
     let mut i: usize = 0;
     while i < n {
-        let offset = words::word_at(labels, i);
-        if !label_fits(events, m, code, offset) {
+        if !label_fits(labels, events, m, code, i) {
             return false;
         }
         i += 1;
@@ -297,6 +286,15 @@ fn mark_asked(
     true
 }
 
+// Whether constant `i` has no label or is marked.
+fn is_marked(constants: &[u8], seen: &[bool], i: usize) -> bool
+    requires { ⌜ i * constantSize + constantSize ≤ length (now constants) ⌝ ∗ ⌜ i < length (now seen) ⌝ }
+    ensures { λ r. ⌜ r ≡ unlabelledOr (now (constants .entry)) (now (seen .entry)) i ⌝ }
+{
+    let label = words::word_at(constants, i * buffer::CONSTANT_WORDS + 1);
+    buffer::either(label == buffer::NONE, seen[i])
+}
+
 // Whether every constant that has a label is marked.
 fn is_each_marked(constants: &[u8], n: u32, seen: &[bool]) -> bool
     requires { ⌜ n * constantSize ≤ length (now constants) ⌝ ∗ ⌜ n ≤ length (now seen) ⌝ }
@@ -305,9 +303,7 @@ fn is_each_marked(constants: &[u8], n: u32, seen: &[bool]) -> bool
     let count = n as usize;
     let mut i: usize = 0;
     while i < count {
-        let label = words::word_at(constants, i * buffer::CONSTANT_WORDS + 1);
-        let marked = seen[i];
-        if !buffer::either(label == buffer::NONE, marked) {
+        if !is_marked(constants, seen, i) {
             return false;
         }
         i += 1;

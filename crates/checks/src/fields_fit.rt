@@ -11,16 +11,25 @@ ghost use Rattle.recording.specs.View.{entries};
 ghost use Rattle.recording.specs.Sound.{startAt, endAt};
 ghost use Rattle.fresh.specs.Forms.{isMoving, moves};
 ghost use Rattle.pool.specs.Pool.{poolStart};
-ghost use Rattle.checks.specs.Fields.{isBound, usesBound, refsBound, jumpsBound, relocsBound, sizeOf, refClear, refsClear, reachOf, whyUnreached, whyUses};
+ghost use Rattle.checks.specs.Fields.{isBoundAt, jumpBound, targetBound, usesBound, refsBound, jumpsBound, relocsBound, sizeOf, refClear, refsClear, reachOf, whyUnreached, whyUses};
 ghost use Rattle.checks.specs.Search.{Ordered, Placed};
-ghost use Rattle.checks.specs.Handed.{useLabel, refLabel, Named, JumpsNamed, TargetsNamed, jumpBound, targetBound};
+ghost use Rattle.checks.specs.Handed.{useLabel, refLabel, Named, JumpsNamed, TargetsNamed};
 use relax::LayoutEvent;
 
-fn is_bound(labels: &[u8], label: u32) -> bool
+// Whether a label is bound.
+fn is_bound_at(labels: &[u8], label: u32) -> bool
     requires { ⌜ label * labelSize + labelSize ≤ length (now labels) ⌝ }
-    ensures { λ r. ⌜ r ≡ isBound (now (labels .entry)) label ⌝ }
+    ensures { λ r. ⌜ r ≡ isBoundAt (now (labels .entry)) label ⌝ }
 {
     words::word_at(labels, label as usize) != buffer::NONE
+}
+
+// The same of the label that word `k` of a table names.
+fn is_named_bound(table: &[u8], k: usize, labels: &[u8]) -> bool
+    requires { ⌜ k * 4 + 4 ≤ length (now table) ⌝ ∗ ⌜ wordAt (now table) k * labelSize + labelSize ≤ length (now labels) ⌝ }
+    ensures { λ r. ⌜ r ≡ isBoundAt (now (labels .entry)) (wordAt (now (table .entry)) k) ⌝ }
+{
+    is_bound_at(labels, words::word_at(table, k))
 }
 
 pub fn uses_bound(uses: &[u8], n: usize, labels: &[u8]) -> bool
@@ -29,8 +38,7 @@ pub fn uses_bound(uses: &[u8], n: usize, labels: &[u8]) -> bool
 {
     let mut i: usize = 0;
     while i < n {
-        let label = words::word_at(uses, i * buffer::USE_WORDS + 1);
-        if !is_bound(labels, label) {
+        if !is_named_bound(uses, i * buffer::USE_WORDS + 1, labels) {
             return false;
         }
         i += 1;
@@ -44,8 +52,7 @@ pub fn refs_bound(refs: &[u8], n: usize, labels: &[u8]) -> bool
 {
     let mut i: usize = 0;
     while i < n {
-        let label = words::word_at(refs, i * buffer::REF_WORDS + 1);
-        if !is_bound(labels, label) {
+        if !is_named_bound(refs, i * buffer::REF_WORDS + 1, labels) {
             return false;
         }
         i += 1;
@@ -60,7 +67,7 @@ fn jump_bound(events: &[u8], labels: &[u8], i: usize) -> bool
     if words::word_at(events, i * relax::EVENT_WORDS) != relax::JUMP {
         return true;
     }
-    is_bound(labels, words::word_at(events, i * relax::EVENT_WORDS + 3))
+    is_named_bound(events, i * relax::EVENT_WORDS + 3, labels)
 }
 
 pub fn jumps_bound(events: &[u8], n: usize, labels: &[u8]) -> bool
@@ -86,7 +93,7 @@ fn target_bound(relocs: &[u8], labels: &[u8], i: usize) -> bool
     if target < buffer::LABEL_TARGET {
         return true;
     }
-    is_bound(labels, target - buffer::LABEL_TARGET)
+    is_bound_at(labels, target - buffer::LABEL_TARGET)
 }
 
 pub fn relocs_bound(relocs: &[u8], n: usize, labels: &[u8]) -> bool

@@ -33,7 +33,8 @@ use Rattle.checks.proofs.Sound.{fits-sound}
 use Rattle.finish.specs.declared.Finished.{Finished}
 use Rattle.finish.specs.declared.Outcome.{Outcome}
 use Rattle.checks.specs.Lent.{countsFit, withinLimits}
-use Rattle.finish.specs.Refusals.{every, poolBoundBefore, allBound, refClear, refReaches, whyNotLaid, whyNotWritten, usesRefusal, whyNotInPlace, whyUnfit}
+use Rattle.seqs.specs.Every.{every}
+use Rattle.finish.specs.Refusals.{poolBoundBefore, allBound, refClear, refReaches, whyNotLaid, whyNotWritten, usesRefusal, whyNotInPlace, whyUnfit}
 use Rattle.finish.specs.Finish.{overWords, Left, relaxed, unrelaxed, finishedWith, placedBy, finish}
 use Rattle.demands.specs.Demand2.{finishedCode}
 

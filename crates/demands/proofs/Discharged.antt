@@ -43,9 +43,11 @@ use Rattle.checks.specs.Fields.{sizeOf, reachOf}
 use Rattle.emit.specs.Emit.{Writes}
 use Rattle.finish.specs.Tables.{poolPlaced, tablesPooled}
 use Rattle.finish.specs.Ready.{Landed, Ready}
-use Rattle.finish.specs.Refusals.{every, isBound, jumpBound, relocBound, allBound, refClear, refReaches, useRefusal, usesRefusal}
+use Rattle.seqs.proofs.Every.{every-at}
+use Rattle.seqs.specs.Every.{every}
+use Rattle.finish.specs.Refusals.{isBound, jumpBound, relocBound, allBound, refClear, refReaches, useRefusal, usesRefusal}
 use Rattle.finish.proofs.Sounds.{tied, offsets-small, pooled-is, ready}
-use Rattle.finish.proofs.Formed.{AtTable, AtPool, event-at, every-at, ref-apart, pooled-length, well-formed, recorded-writes}
+use Rattle.finish.proofs.Formed.{AtTable, AtPool, event-at, ref-apart, pooled-length, well-formed, recorded-writes}
 use Rattle.demands.specs.Demand2 as demand
 use Rattle.demands.specs.Demand2.{Bytes, useOf, refOf, constantOf}
 use Rattle.demands.proofs.Bytes.{bytes-take, bytes-pooled}

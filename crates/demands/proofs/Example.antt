@@ -14,14 +14,16 @@ use Rattle.fields.specs.Kinds.{archX64}
 use Rattle.relax.specs.declared.Segment.{Segment}
 use Rattle.relax.specs.Events.{conditionOf, eventOf, eventAt}
 use Rattle.buffer.specs.Refusals.{standing, lastEnd}
-use Rattle.checks.specs.Entries.{all, formFits, eventFits, keptOnly, eventsFit, outside, labelFits, labelsFit, usesFit, refsFit, relocsFit, constantsFit, orderFits, entriesFit}
+use Rattle.seqs.specs.Every.{all}
+use Rattle.checks.specs.Entries.{formFits, eventFits, keptOnly, eventsFit, outside, labelFits, labelsFit, usesFit, refsFit, relocsFit, constantsFit, orderFits, entriesFit}
 use Rattle.fresh.specs.Forms.{form, width, roleOf, moves}
 use Rattle.fresh.specs.Fresh.{items, writes, starts, stands, moved}
 use Rattle.fresh.specs.Rounds.{jumps, reaches, isFar, farOf, any, settle}
 use Rattle.fresh.specs.Fill.{fillField, fillRefs, fillJump, fillJumps, fillPool, fill, assembled}
 use Rattle.fresh.specs.Segments.{segments}
 use Rattle.checks.specs.Lent.{countsFit, withinLimits}
-use Rattle.finish.specs.Refusals.{every, poolBoundBefore, allBound, whyNotLaid, whyNotWritten, whyUnfit}
+use Rattle.seqs.specs.Every.{every}
+use Rattle.finish.specs.Refusals.{poolBoundBefore, allBound, whyNotLaid, whyNotWritten, whyUnfit}
 use Rattle.finish.specs.Finish.{relocated, relaxed, placedBy, finish}
 use Rattle.demands.specs.Demand2.{finishedCode}
 

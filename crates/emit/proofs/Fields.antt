@@ -13,6 +13,7 @@ use Rattle.fields.specs.declared.Decoded.the-variants.{Use, Unsupported, Unknow
 use Rattle.fields.specs.Words64.{plus, signExtend}
 use Rattle.fields.specs.Kinds.{patchSize, decoded}
 use Rattle.fields.specs.Patch.{patched, patchedUse, heldAddend}
+use Rattle.buffer.specs.Tables.{refWords}
 use Rattle.fresh.specs.Fill.{part, fillField, fillUse}
 use Rattle.fresh.proofs.Past.{length-patched}
 use Rattle.emit.specs.Emit.{Within, refFilled}
@@ -40,9 +41,9 @@ use-back xs field kind at size label e h f =
 
 -- ref i as it is read: what its code decodes to, where its label stands, and its addend
 pub record RefRead (refs labels : List ℕ) (i : ℕ) (d : Decoded) (label addend : ℕ) : Type 0 where
-  pub coded : d ≡ decoded (wordAt refs (i * 4 + 2))
-  pub labelled : label ≡ wordAt labels (wordAt refs (i * 4 + 1))
-  pub added : addend ≡ wordAt refs (i * 4 + 3)
+  pub coded : d ≡ decoded (wordAt refs (i * refWords + 2))
+  pub labelled : label ≡ wordAt labels (wordAt refs (i * refWords + 1))
+  pub added : addend ≡ wordAt refs (i * refWords + 3)
 
 -- the decoded kind of an entry, by cases
 module _ {refs labels : List ℕ} {i : ℕ} {d : Decoded} {label addend : ℕ} (r : RefRead refs labels i d label addend) (at : ℕ) (l : List ℕ) where

@@ -1,20 +1,19 @@
 -- One turn of each loop over entries.
 use mathlib.Core.Path.{_≡_, refl, _∙_}
-use mathlib.Core.Logic.{_≢_, ⊎-elim}
-use mathlib.Core.Bool.{Bool, true, false, _&&_}
+use mathlib.Core.Logic.{_≢_}
+use mathlib.Core.Bool.{Bool, false}
 use mathlib.Core.List.{List}
-use Prim.Native.Nat.{ℕ, zero, suc, _+_, _*_, _≤_, _<_}
-use native.Mathlib.Nat.{not-suc-le-zero, mul-lt-mul-of-pos-right}
+use Prim.Native.Nat.{ℕ, zero, suc, _+_, _*_, _<_}
+use native.Mathlib.Nat.{mul-lt-mul-of-pos-right}
 use native.Mathlib.Numerals.{add-one}
 use native.Mathlib.Omega.{arith}
 use lib.ListN.{getD}
-use Rattle.seqs.proofs.Numbers.{eq-or-ne}
 use Rattle.words.specs.Words.{wordAt, setWord}
 use Rattle.words.proofs.Laws.{wordAt-other}
 use Rattle.relax.specs.declared.Segment.{Segment}
 use Rattle.relax.specs.Events.{eventAt}
 use Rattle.fresh.specs.Fill.{fillJump}
-use Rattle.emit.specs.Emit.{useFilled, usesFilled, refAt, refFilled, refsFilled, refReaches, refsReach, jumpsFilled, startAt, mappedWords}
+use Rattle.emit.specs.Emit.{useFilled, usesFilled, refAt, refFilled, refsFilled, jumpsFilled, startAt, mappedWords}
 
 pub uses-turn : (output uses labels : List ℕ) (i : ℕ) (now next : List ℕ) → now ≡ usesFilled output uses labels i → next ≡ useFilled uses labels i now
     → next ≡ usesFilled output uses labels (i + 1)
@@ -31,25 +30,6 @@ pub jumps-turn : (output events labels : List ℕ) (long : List Bool) (ss : List
     → next ≡ jumpsFilled output events labels long ss (i + 1)
 unfolding jumpsFilled
 jumps-turn output events labels long ss i now next e f = f ∙ rw (e, add-one i)
-
-and-false : (t : Bool) → (t && false) ≡ false
-and-false true = refl
-and-false false = refl
-
-pub one-short : (refs labels : List ℕ) (ss : List Segment) (n i count : ℕ) → i < count → refReaches refs labels ss n i ≡ false
-    → refsReach refs labels ss n count ≡ false
-unfolding refsReach
-one-short refs labels ss n i zero h e = absurd (not-suc-le-zero h)
-one-short refs labels ss n i (suc count) h e =
-    ⊎-elim
-    (λ (same : i ≡ count). rw (← same, e) (and-false (refsReach refs labels ss n i)))
-    (λ other. rw (one-short refs labels ss n i count (omega arith) e))
-    (eq-or-ne i count)
-
-pub all-reach : (refs labels : List ℕ) (ss : List Segment) (n i : ℕ) → refsReach refs labels ss n i ≡ true → refReaches refs labels ss n i ≡ true
-    → refsReach refs labels ss n (i + 1) ≡ true
-unfolding refsReach
-all-reach refs labels ss n i h e = rw (add-one i, h, e)
 
 -- a word that is none of those mapped
 mapped-other : (f : ℕ → ℕ) (t : List ℕ) (stride i k : ℕ) → ((j : ℕ) → j < i → k ≢ j * stride) → wordAt (mappedWords f t stride i) k ≡ wordAt t k

@@ -2,10 +2,11 @@
 -- have them. Fill and Segments (fresh/specs) say the same of lists.
 use mathlib.Core.Path.{_≡_}
 use mathlib.Core.Logic.{_≢_}
-use mathlib.Core.Bool.{Bool, true, false, _&&_}
+use mathlib.Core.Bool.{Bool, true, false}
 use mathlib.Core.List.{List}
 use Prim.Native.Nat.{ℕ, zero, suc, _+_, _*_, _≤_, _<_}
 use lib.ListN.{length, getD, take}
+use Rattle.seqs.specs.Every.{all}
 use Rattle.words.specs.Words.{wordAt, setWord}
 use Rattle.fields.specs.declared.Decoded.{Decoded}
 use Rattle.fields.specs.declared.Decoded.the-variants.{Use, Unsupported, Unknown}
@@ -116,8 +117,7 @@ refReaches refs labels ss n i =
 
 -- the first refs all do
 unfoldable pub refsReach : List ℕ → List ℕ → List Segment → ℕ → ℕ → Bool
-refsReach refs labels ss n zero = true
-refsReach refs labels ss n (suc i) = refsReach refs labels ss n i && refReaches refs labels ss n i
+refsReach refs labels ss n count = all (refReaches refs labels ss n) count
 
 pub record RefKnown (refs labels : List ℕ) (i : ℕ) : Type 0 where
   pub entry : i * refSize + refSize ≤ length refs

@@ -1,7 +1,7 @@
 -- What the scans of crate checks find of the tables, as the definitions say it of the pooled recording.
 use mathlib.Core.Path.{_≡_, refl, sym, ap, _∙_}
 use mathlib.Core.Logic.{_≢_, ⊎-elim}
-use mathlib.Core.Bool.{Bool, true, false, not, _&&_, _||_, or-false}
+use mathlib.Core.Bool.{Bool, true, false, not, _&&_, _||_, or-false, and-true}
 use mathlib.Core.List.{List, [], _∷_, _++_}
 use Prim.Native.Nat.{ℕ, zero, suc, _+_, _-_, _*_, _≤_, _<_}
 use native.Mathlib.Omega.{arith}
@@ -9,6 +9,7 @@ use lib.Dec.{eqb, leb}
 use lib.ListN.{length}
 use borrow.Author.Tests.{ne-eqb, lt-ltb}
 use Rattle.seqs.specs.Pick.{pick, orElse}
+use Rattle.seqs.proofs.Every.{all-of, every-append}
 use Rattle.seqs.proofs.Numbers.{lt-or-ge, eq-or-ne}
 use Rattle.seqs.proofs.Picking.{no-eq}
 use Rattle.words.specs.Words.{wordAt}
@@ -23,47 +24,26 @@ use Rattle.buffer.specs.State.{none}
 use Rattle.buffer.specs.Tables.{useWords, refWords, relocWords}
 use Rattle.recording.specs.Sound.{startAt, endAt}
 use Rattle.recording.specs.View as tables
-use Rattle.recording.proofs.Views.{getD-entries}
+use Rattle.recording.proofs.Views.{getD-entries, every-entries}
 use Rattle.fresh.specs.Pooled.{Pooled}
 use Rattle.fresh.specs.Forms.{moves, roleOf}
 use Rattle.fresh.proofs.Moves.{moves-append, still-all}
-use Rattle.pool.specs.Pool.{labelAt, poolStart, poolOffset, poolEvent, poolIsBound}
-use Rattle.checks.specs.Entries.{all}
+use Rattle.pool.specs.Pool.{labelAt, poolStart, poolOffset, poolEvent, isAnyBound}
+use Rattle.seqs.specs.Every.{all}
 use Rattle.checks.specs.Fields as checked
-use Rattle.finish.specs.Refusals.{every, isBound, poolBoundBefore, jumpBound, relocBound, refClear, useRefusal, usesRefusal}
-
-and-assoc : (a b c : Bool) → (a && (b && c)) ≡ ((a && b) && c)
-and-assoc true b c = refl
-and-assoc false b c = refl
-
-every-append : {A : Type 0} (f : A → Bool) (xs ys : List A) → every f (xs ++ ys) ≡ (every f xs && every f ys)
-unfolding every
-every-append f [] ys = refl
-every-append f (x ∷ xs) ys = rw (every-append f xs ys) (and-assoc (f x) (every f xs) (every f ys))
-
-and-true : (t : Bool) → (t && true) ≡ t
-and-true true = refl
-and-true false = refl
-
--- a test of every entry of a table is a test of every number below their count
-pub every-entries : {A : Type 0} (f : A → Bool) (g : ℕ → A) (h : ℕ → Bool) (n : ℕ) → ((i : ℕ) → i < n → f (g i) ≡ h i)
-    → every f (tables.entries g n) ≡ all h n
-unfolding every all
-every-entries f g h zero e = refl
-every-entries f g h (suc n) e =
-    every-append f (tables.entries g n) (g n ∷ [])
-    ∙ rw (every-entries f g h n (λ i l. e i (omega arith)), and-true (f (g n)), e n (omega arith))
+use Rattle.seqs.specs.Every.{every}
+use Rattle.finish.specs.Refusals.{isBound, poolBoundBefore, jumpBound, relocBound, refClear, useRefusal, usesRefusal}
 
 -- a label below the count is bound in the list as in the table
 pub bound-entries : (labels : List ℕ) (count label : ℕ) → label < count
-    → isBound (tables.entries (wordAt labels) count) label ≡ checked.isBound labels label
-unfolding checked.isBound
+    → isBound (tables.entries (wordAt labels) count) label ≡ checked.isBoundAt labels label
+unfolding checked.isBoundAt
 bound-entries labels count label h = rw (getD-entries (wordAt labels) count label none h)
 
 -- 13
 none-bound : (labels constants asked : List ℕ) (n : ℕ)
-    → not (all (λ (j : ℕ). not (not (eqb (wordAt labels (labelAt constants asked j)) none))) n) ≡ poolIsBound labels constants asked n
-unfolding all poolIsBound
+    → not (all (λ (j : ℕ). not (not (eqb (wordAt labels (labelAt constants asked j)) none))) n) ≡ isAnyBound labels constants asked n
+unfolding all isAnyBound
 none-bound labels constants asked zero = refl
 none-bound labels constants asked (suc n) =
     rw (← none-bound labels constants asked n)
@@ -79,7 +59,7 @@ pub pool-bound : (v : tables.View) (labels constants asked : List ℕ) (count kn
     → v .labels ≡ tables.entries (wordAt labels) count → v .constants ≡ tables.entries (tables.constantAt constants) known
     → v .asked ≡ tables.entries (wordAt asked) n
     → ((j : ℕ) → j < n → wordAt asked j < known) → ((j : ℕ) → j < n → labelAt constants asked j < count)
-    → poolBoundBefore v ≡ poolIsBound labels constants asked n
+    → poolBoundBefore v ≡ isAnyBound labels constants asked n
 unfolding poolBoundBefore
 pool-bound v labels constants asked count known n el ec ea listed named =
     rw (el, ec, ea)
@@ -92,7 +72,7 @@ pool-bound v labels constants asked count known n el ec ea listed named =
 
 -- the columns of an event: a jump where its kind is 1
 jump-at : (labels : List ℕ) (count kind start len what cc : ℕ) → (kind ≡ 1 → what < count)
-    → jumpBound (tables.entries (wordAt labels) count) (eventOf kind start len what cc) ≡ (not (eqb kind 1) || checked.isBound labels what)
+    → jumpBound (tables.entries (wordAt labels) count) (eventOf kind start len what cc) ≡ (not (eqb kind 1) || checked.isBoundAt labels what)
 unfolding eventOf pick roleOf
 jump-at labels count kind start len what cc known =
     ⊎-elim
@@ -102,11 +82,8 @@ jump-at labels count kind start len what cc known =
 
 every-aligned : (f : LayoutEvent → Bool) (from : ℕ) (constants asked : List ℕ) (n : ℕ) → ((a : Alignment) → f (Align a) ≡ true)
     → every f (tables.entries (poolEvent from constants asked) n) ≡ true
-unfolding every
-every-aligned f from constants asked zero h = refl
-every-aligned f from constants asked (suc n) h =
-    every-append f (tables.entries (poolEvent from constants asked) n) (poolEvent from constants asked n ∷ [])
-    ∙ rw (every-aligned f from constants asked n h, h _)
+every-aligned f from constants asked n h =
+    every-entries f (poolEvent from constants asked) (λ (i : ℕ). true) n (λ i l. h _) ∙ all-of (λ (i : ℕ). true) n (λ i l. refl)
 
 -- 15, of the jumps
 pub jumps-bound : (p : Pooled) (labels events constants asked : List ℕ) (count from n m : ℕ)

@@ -24,7 +24,7 @@ use Rattle.recording.specs.View.{entries, view, relocAt}
 use Rattle.recording.proofs.Views.{word-set}
 use Rattle.fresh.specs.Pooled.{Pooled, pooled}
 use Rattle.fresh.specs.Forms.{moves}
-use Rattle.pool.specs.Pool.{labelAt, poolOffset, poolBound, poolUnbound, poolIsBound}
+use Rattle.pool.specs.Pool.{labelAt, poolOffset, poolBound, poolUnbound, isAnyBound}
 use Rattle.pool.proofs.Pool.{length-poolBound, poolUnbound-poolBound, setWord-same}
 use Rattle.finish.specs.declared.Outcome.{Outcome}
 use Rattle.finish.specs.declared.Finished.{Finished}
@@ -36,11 +36,11 @@ use Rattle.finish.proofs.Fit.{limits, asked-few, sound, Passed}
 use Rattle.finish.proofs.Mapped.{set-over-words, over-words-set}
 
 -- no constant's label is bound
-unbound-at : (labels constants asked : List ℕ) (n : ℕ) → poolIsBound labels constants asked n ≡ false → (j : ℕ) → j < n → wordAt labels (labelAt constants asked j) ≡ none
-unfolding poolIsBound
+unbound-at : (labels constants asked : List ℕ) (n : ℕ) → isAnyBound labels constants asked n ≡ false → (j : ℕ) → j < n → wordAt labels (labelAt constants asked j) ≡ none
+unfolding isAnyBound
 unbound-at labels constants asked zero h j k = absurd (omega arith)
 unbound-at labels constants asked (suc n) h j k =
-    let both = both-false (poolIsBound labels constants asked n) (not (eqb (wordAt labels (labelAt constants asked n)) none)) h in
+    let both = both-false (isAnyBound labels constants asked n) (not (eqb (wordAt labels (labelAt constants asked n)) none)) h in
     ⊎-elim
     (λ (lt : j < n). unbound-at labels constants asked n (both .0) j lt)
     (λ ge. let e : j ≡ n = omega arith in rw e (eqb-true (wordAt labels (labelAt constants asked n)) none (not-false _ (both .1))))

@@ -16,7 +16,7 @@ use Rattle.recording.specs.Calls.{Recording}
 use Rattle.recording.specs.Sound.{CodeSound, Sound}
 use Rattle.recording.specs.View.{view}
 use Rattle.fresh.specs.Pooled.{Pooled, pooled}
-use Rattle.pool.specs.Pool.{poolStart, poolBytes, poolIsBound}
+use Rattle.pool.specs.Pool.{poolStart, poolBytes, isAnyBound}
 use Rattle.pool.proofs.Pool.{length-poolBytes}
 use Rattle.checks.specs.Entries.{entriesFit}
 use Rattle.checks.specs.Handed.{CountsFit, tables}
@@ -61,7 +61,7 @@ module _ (r : Recording) (segments output : ℕ) (stood : standing (r .buffer) (
     ties = tied r sound asked-few
 
     -- 13, as the table says it
-    pub bound-before : poolBoundBefore (view r) ≡ poolIsBound (r .labels) (r .constants) (r .asked) (r .buffer .asked)
+    pub bound-before : poolBoundBefore (view r) ≡ isAnyBound (r .labels) (r .constants) (r .asked) (r .buffer .asked)
     bound-before =
         pool-bound (view r) (r .labels) (r .constants) (r .asked) (r .buffer .labels) (r .buffer .constants) (r .buffer .asked) refl refl refl
         (λ j h. sound .asked .listed j h .0) (ties .known)
@@ -91,12 +91,12 @@ module _ (r : Recording) (segments output : ℕ) where
     unfit-entries e = sym (yes-eq _ 0 _ _ stood ∙ yes-not (entriesFit r) 1 _ e)
 
     module _ (fit : entriesFit r ≡ true) where
-      pub unfit-bound : poolIsBound (r .labels) (r .constants) (r .asked) (r .buffer .asked) ≡ true → refusals.poolLabelBound ≡ whyUnfit r segments output
+      pub unfit-bound : isAnyBound (r .labels) (r .constants) (r .asked) (r .buffer .asked) ≡ true → refusals.poolLabelBound ≡ whyUnfit r segments output
       unfolding whyUnfit
       unfit-bound e =
           sym (yes-eq _ 0 _ _ stood ∙ no-not (entriesFit r) 1 _ fit ∙ pick-yes (poolBoundBefore (view r)) 13 _ (bound-before r segments output stood fit ∙ e))
 
-      module _ (free : poolIsBound (r .labels) (r .constants) (r .asked) (r .buffer .asked) ≡ false) where
+      module _ (free : isAnyBound (r .labels) (r .constants) (r .asked) (r .buffer .asked) ≡ false) where
         pub unfit-long : mostCode < poolStart (r .buffer .code) (r .constants) (r .asked) (r .buffer .asked) → refusals.poolTooLarge ≡ whyUnfit r segments output
         unfolding whyUnfit
         unfit-long h =
@@ -117,7 +117,7 @@ module _ (r : Recording) (segments output : ℕ) where
 pub record Passed (r : Recording) (segments output : ℕ) : Type 0 where
   pub stood : standing (r .buffer) (countsFit r) (withinLimits r segments output) ≡ 0
   pub fit : entriesFit r ≡ true
-  pub free : poolIsBound (r .labels) (r .constants) (r .asked) (r .buffer .asked) ≡ false
+  pub free : isAnyBound (r .labels) (r .constants) (r .asked) (r .buffer .asked) ≡ false
   pub short : poolStart (r .buffer .code) (r .constants) (r .asked) (r .buffer .asked) ≤ mostCode
 
 pub passed-unfit : (r : Recording) (segments output : ℕ) → whyUnfit r segments output ≡ 0 → Passed r segments output

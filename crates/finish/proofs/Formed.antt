@@ -2,8 +2,8 @@
 use mathlib.Core.Path.{_≡_, refl, sym, ap, _∙_}
 use mathlib.Core.Logic.{_⊎_, inl, inr, _≢_, ⊎-elim}
 use mathlib.Core.Bool.{Bool, true, false, not, _||_}
-use mathlib.Core.List.{List, [], _∷_, _++_}
-use Prim.Native.Nat.{ℕ, zero, suc, _+_, _-_, _*_, _%_, _≤_, _<_}
+use mathlib.Core.List.{List, [], _++_}
+use Prim.Native.Nat.{ℕ, suc, _+_, _-_, _*_, _%_, _≤_, _<_}
 use native.Mathlib.Nat.{mod-eq-of-lt}
 use native.Mathlib.Omega.{arith}
 use lib.ListN.{length, getD, take, drop, length-append, length-drop, List·getD-append, List·getD-eq-default}
@@ -33,7 +33,9 @@ use Rattle.fields.specs.Kinds.{decoded}
 use Rattle.buffer.specs.Tables.{constantSize, constantHead}
 use Rattle.emit.specs.Emit.{Encodes, Writes}
 use Rattle.checks.specs.Fields.{sizeOf}
-use Rattle.finish.specs.Refusals.{every, refClear}
+use Rattle.seqs.proofs.Every.{every-at}
+use Rattle.seqs.specs.Every.{every}
+use Rattle.finish.specs.Refusals.{refClear}
 use Rattle.finish.specs.Tables.{poolPlaced, tablesPooled}
 use Rattle.finish.specs.Ready.{Landed, Ready}
 
@@ -257,13 +259,6 @@ module _ (code labels events constants asked : List ℕ) (arch len count n m : �
       (eq-or-ne (a .number) j))
       (lt-or-ge j (a .number)))
       (at i h)
-
--- what holds of every entry holds of one
-pub every-at : {A : Type 0} (f : A → Bool) (xs : List A) (d : A) → every f xs ≡ true → (i : ℕ) → i < length xs → f (getD xs i d) ≡ true
-unfolding every
-every-at f [] d h i k = absurd (omega arith)
-every-at f (x ∷ xs) d h zero k = both-true (f x) (every f xs) h .0
-every-at f (x ∷ xs) d h (suc i) k = every-at f xs d (both-true (f x) (every f xs) h .1) i (omega arith)
 
 either-true : (a b : Bool) → (a || b) ≡ true → (a ≡ true) ⊎ (b ≡ true)
 either-true true b h = inl refl

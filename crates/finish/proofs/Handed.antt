@@ -37,10 +37,12 @@ use Rattle.layout.proofs.Table.{table-laid, rising-laid}
 use Rattle.emit.specs.Emit.{Within, startAt, RefsFit, RefsKnown, JumpsFit, WordsFit}
 use Rattle.checks.specs.Fields.{sizeOf, refsClear}
 use Rattle.checks.specs.Handed.{useLabel, refLabel, Named, JumpsNamed, TargetsNamed}
-use Rattle.finish.specs.Refusals.{every, refClear}
+use Rattle.seqs.proofs.Every.{every-at}
+use Rattle.seqs.specs.Every.{every}
+use Rattle.finish.specs.Refusals.{refClear}
 use Rattle.finish.specs.Tables.{tablesPooled}
 use Rattle.finish.specs.Ready.{Ready, Entered, Clearing, Writing, endOfRuns}
-use Rattle.finish.proofs.Formed.{recorded-ordered, recorded-modest, recorded-writes, jump-label, offset-lies, every-at, ref-apart, constant-size, pooled-length, well-formed, pool-apart}
+use Rattle.finish.proofs.Formed.{recorded-ordered, recorded-modest, recorded-writes, jump-label, offset-lies, ref-apart, constant-size, pooled-length, well-formed, pool-apart}
 use Rattle.finish.proofs.Checked.{refs-clear}
 use Rattle.finish.proofs.Written.{any·ref, start-segment}
 use Rattle.finish.proofs.Emission.{PoolRuns, pool-runs}

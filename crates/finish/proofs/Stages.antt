@@ -25,7 +25,7 @@ use Rattle.relax.specs.Events.{eventAt}
 use Rattle.buffer.specs.State.{none}
 use Rattle.buffer.specs.Tables.{mostEntries, useWords, refWords}
 use Rattle.recording.specs.View as tables
-use Rattle.recording.proofs.Views.{getD-entries}
+use Rattle.recording.proofs.Views.{getD-entries, every-entries}
 use Rattle.fresh.specs.Pooled.{Pooled}
 use Rattle.fresh.specs.Fresh.{Choice, moved}
 use Rattle.fresh.specs.Rounds.{Settled, settled}
@@ -44,13 +44,13 @@ use Rattle.emit.specs.Emit.{mappedWords}
 use Rattle.layout.specs.Layout.{allEvents, finishedLength, relaxedBy, Relaxed, Rising}
 use Rattle.layout.proofs.Pooling.{length-all}
 use Rattle.layout.proofs.Settled.{relaxed-entries, relaxed-settled, finished-placed, all-short}
-use Rattle.checks.specs.Entries.{all}
 use Rattle.finish.specs.declared.Outcome.{Outcome}
-use Rattle.finish.specs.Refusals.{every, reachesBy, refReaches, whyNotLaid, whyNotWritten, whyNotInPlace}
+use Rattle.seqs.specs.Every.{every}
+use Rattle.finish.specs.Refusals.{reachesBy, refReaches, whyNotLaid, whyNotWritten, whyNotInPlace}
 use Rattle.finish.specs.Finish.{refusedWith, overWords, relocated, settledSegments, relaxed}
 use Rattle.finish.specs.Tables.{tablesPooled}
 use Rattle.finish.specs.Ready.{Relaxable, Layable, codeWritten, endOfRuns, Writing, codeCopied, Copying, Keepable, kept}
-use Rattle.finish.proofs.Checked.{refs-clear, every-entries, uses-refused}
+use Rattle.finish.proofs.Checked.{refs-clear, uses-refused}
 use Rattle.finish.proofs.Handed.{rising-all, within-size, ref-beside, clear-all, formed, table-all, writing, landed-small}
 use Rattle.finish.proofs.Mapped.{word-over, labels-mapped, relocs-mapped, map-entries}
 use Rattle.finish.proofs.Formed.{pooled-length, jump-label}
@@ -130,11 +130,6 @@ field-reaches (Use k) offset label addend = refl
 field-reaches Unsupported offset label addend = refl
 field-reaches Unknown offset label addend = refl
 
-reach-all : (refs labels : List ℕ) (ss : List Segment) (k f : ℕ) → all (λ (i : ℕ). emit.refReaches refs labels ss k i) f ≡ emit.refsReach refs labels ss k f
-unfolding all emit.refsReach
-reach-all refs labels ss k zero = refl
-reach-all refs labels ss k (suc f) = rw (reach-all refs labels ss k f)
-
 -- what nothing refused before the layout says
 module _ {code labels events refs constants asked relocs output : List ℕ} {cap len count n m f l : ℕ}
     (x : Layable code labels events refs constants asked relocs output cap len count n m f l) where
@@ -210,7 +205,7 @@ module _ {code labels events refs constants asked relocs output : List ℕ} {len
 
         -- 18, as the segments say it
         reach-is : every (refReaches p c) (p .refs) ≡ emit.refsReach refs labels ss′ (n + m) f
-        unfolding refReaches
+        unfolding refReaches emit.refsReach
         reach-is =
             every-entries (refReaches p c) (tables.refAt refs) (λ (i : ℕ). emit.refReaches refs labels ss′ (n + m) i) f
             (λ i h.
@@ -221,7 +216,6 @@ module _ {code labels events refs constants asked relocs output : List ℕ} {len
               table-is,
             )
             (field-reaches (decoded (wordAt refs (i * refWords + 2))) _ _ _))
-            ∙ reach-all refs labels ss′ (n + m) f
 
         late-is : whyNotWritten p (length output) ≡ first ((not (emit.refsReach refs labels ss′ (n + m) f), refusals.refOutOfReach) ∷ (ltb (length output) len′, refusals.outputTooSmall) ∷ [])
         unfolding whyNotWritten

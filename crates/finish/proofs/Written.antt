@@ -31,10 +31,12 @@ use Rattle.pool.proofs.Pool.{poolStart-bound, length-poolBytes, poolStart-suc, 
 use Rattle.layout.specs.Layout.{zeroSegment}
 use Rattle.emit.specs.Emit.{usesFilled, refsFilled, jumpsFilled, startAt}
 use Rattle.checks.specs.Fields.{sizeOf}
-use Rattle.finish.specs.Refusals.{every, refClear}
+use Rattle.seqs.proofs.Every.{every-at}
+use Rattle.seqs.specs.Every.{every}
+use Rattle.finish.specs.Refusals.{refClear}
 use Rattle.finish.specs.Tables.{poolPlaced, tablesPooled}
 use Rattle.finish.specs.Ready.{Ready, Keepable, endOfRuns, codeWritten}
-use Rattle.finish.proofs.Formed.{every-at, ref-apart, pooled-length, well-formed, constant-size, pool-apart, recorded-ordered}
+use Rattle.finish.proofs.Formed.{ref-apart, pooled-length, well-formed, constant-size, pool-apart, recorded-ordered}
 use Rattle.finish.proofs.Filled.{uses-filled, refs-filled, jumps-filled, pool-filled}
 use Rattle.finish.proofs.Emission.{pool-runs}
 

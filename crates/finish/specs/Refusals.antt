@@ -6,6 +6,7 @@ use Prim.Native.Nat.{ℕ, _+_, _-_}
 use lib.Dec.{eqb, leb, ltb}
 use lib.ListN.{length, getD}
 use Rattle.refusals.specs.Numbers as refusals
+use Rattle.seqs.specs.Every.{every}
 use Rattle.seqs.specs.Pick.{pick, first, orElse}
 use Rattle.fields.specs.declared.Decoded.{Decoded}
 use Rattle.fields.specs.declared.Decoded.the-variants.{Use, Unsupported, Unknown}
@@ -27,11 +28,6 @@ use Rattle.fresh.specs.Forms.{Role, pads, branches, roleOf}
 use Rattle.checks.specs.Lent.{countsFit, withinLimits}
 use Rattle.checks.specs.Entries.{entriesFit}
 use Rattle.checks.specs.Fields.{sizeOf, reachOf}
-
--- it holds of every entry
-unfoldable pub every : {A : Type 0} → (A → Bool) → List A → Bool
-every f [] = true
-every f (x ∷ xs) = f x && every f xs
 
 abbrev pub isBound : List ℕ → ℕ → Bool
 isBound labels label = not (eqb (getD labels label none) none)

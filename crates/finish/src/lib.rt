@@ -91,7 +91,7 @@ fn why_unfit(
         return refusals::MALFORMED;
     }
     let m = b.asked as usize;
-    if pool::is_bound(labels, constants, asked, m) {
+    if pool::is_any_bound(labels, constants, asked, m) {
         return refusals::POOL_LABEL_BOUND;
     }
     if buffer::MOST_CODE < pool::pool_end(b.code, constants, asked, m) as usize {

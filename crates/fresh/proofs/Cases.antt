@@ -2,32 +2,21 @@
 use mathlib.Core.Path.{_≡_, refl}
 use mathlib.Core.Logic.{_≢_}
 use mathlib.Core.Bool.{false}
-use mathlib.Core.List.{List, [], _∷_}
+use mathlib.Core.List.{[], _∷_}
 use Prim.Native.Nat.{ℕ, zero, suc}
 use native.Mathlib.Omega.{arith}
 use lib.Dec.{lit≤}
-use lib.ListN.{getD, replicate}
+use lib.ListN.{getD}
 use borrow.Author.Tests.{eqb-false}
 use Rattle.encoder.specs.Padding.{paddingLength}
-use Rattle.fields.specs.Kinds.{archX64}
-use Rattle.relax.specs.declared.Condition.the-variants.{Always}
-use Rattle.relax.specs.declared.LayoutEvent.{LayoutEvent}
-use Rattle.relax.specs.declared.LayoutEvent.the-variants.{Jump, Align}
+use Rattle.relax.specs.declared.LayoutEvent.the-variants.{Align}
 use Rattle.relax.specs.Events.{noEvent}
 use Rattle.buffer.specs.State.{none}
-use Rattle.fresh.specs.Pooled.{Pooled}
+use Rattle.fresh.specs.Samples.{jmp, zeros}
 use Rattle.fresh.specs.Forms.{width, Branch, branches, roleOf}
 use Rattle.fresh.specs.Fresh.{items, stands, moved}
 use Rattle.fresh.specs.Segments.{segments, image, chosen, decided, mapOffset, segmentsOf}
 use Rattle.fresh.proofs.Shape.{Ordered, Clear, Lies, RefsLie, PoolLies, WellFormed, Bound}
-
--- a `jmp` of 5 recorded bytes
-abbrev jmp : ℕ → ℕ → LayoutEvent
-jmp start label = Jump (record { start = start; len = 5; label = label; cc = Always })
-
--- events over zeros
-abbrev zeros : ℕ → List LayoutEvent → List ℕ → Pooled
-zeros n es labels = record { arch = archX64; code = replicate n 0; events = es; labels = labels; uses = []; refs = []; pool = [] }
 
 -- A label at an alignment of length 0 goes behind the padding that it gains: 2 bytes of jump, 11 plain ones, 3 of padding.
 pub behind-gained-padding : moved (zeros 16 (jmp 0 0 ∷ Align (record { start = 16; len = 0; align = 16 }) ∷ []) (16 ∷ [])) (false ∷ false ∷ []) 16 ≡ 16

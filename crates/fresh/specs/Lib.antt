@@ -5,3 +5,4 @@ pub mod Rounds
 pub mod Fill
 pub mod Segments
 pub mod Demand
+pub mod Samples

@@ -21,7 +21,7 @@ use Rattle.buffer.specs.Calls.{padding}
 use Rattle.buffer.proofs.Appends.{padding-length, over-padded}
 use Rattle.buffer.specs.Tables.{labelSize, constantSize, constantHead}
 use Rattle.fresh.specs.Pooled.{constantAlignment}
-use Rattle.pool.specs.Pool.{sizeAt, labelAt, bytesAt, poolStart, poolPadding, poolOffset, poolBytes, poolBound, poolUnbound, poolWritten, poolIsBound, PoolFits, PoolRoom}
+use Rattle.pool.specs.Pool.{sizeAt, labelAt, bytesAt, poolStart, poolPadding, poolOffset, poolBytes, poolBound, poolUnbound, poolWritten, isAnyBound, PoolFits, PoolRoom}
 
 -- a constant's padding is at most 15 bytes
 pub padding-small : (offset size : ℕ) → paddingLength offset (constantAlignment size) ≤ 15
@@ -73,18 +73,18 @@ or-true true = refl
 or-true false = refl
 
 pub one-bound : (labels constants asked : List ℕ) (j n : ℕ) → j < n → not (eqb (wordAt labels (labelAt constants asked j)) none) ≡ true
-    → poolIsBound labels constants asked n ≡ true
-unfolding poolIsBound
+    → isAnyBound labels constants asked n ≡ true
+unfolding isAnyBound
 one-bound labels constants asked j zero h e = absurd (not-suc-le-zero h)
 one-bound labels constants asked j (suc n) h e =
     ⊎-elim
-    (λ (same : j ≡ n). rw (← same, e) (or-true (poolIsBound labels constants asked j)))
+    (λ (same : j ≡ n). rw (← same, e) (or-true (isAnyBound labels constants asked j)))
     (λ other. rw (one-bound labels constants asked j n (omega arith) e))
     (eq-or-ne j n)
 
-pub none-bound : (labels constants asked : List ℕ) (j : ℕ) → poolIsBound labels constants asked j ≡ false
-    → not (eqb (wordAt labels (labelAt constants asked j)) none) ≡ false → poolIsBound labels constants asked (j + 1) ≡ false
-unfolding poolIsBound
+pub none-bound : (labels constants asked : List ℕ) (j : ℕ) → isAnyBound labels constants asked j ≡ false
+    → not (eqb (wordAt labels (labelAt constants asked j)) none) ≡ false → isAnyBound labels constants asked (j + 1) ≡ false
+unfolding isAnyBound
 none-bound labels constants asked j h e = rw (add-one j, h, e)
 
 -- where the pool ends: its length, and bounds

@@ -80,10 +80,10 @@ poolWritten output labels constants asked (suc j) =
     over (poolWritten output labels constants asked j) (wordAt labels (labelAt constants asked j)) (bytesAt constants asked j)
 
 -- the label of one of the first n constants is bound
-unfoldable pub poolIsBound : List ℕ → List ℕ → List ℕ → ℕ → Bool
-poolIsBound labels constants asked zero = false
-poolIsBound labels constants asked (suc j) =
-    poolIsBound labels constants asked j || not (eqb (wordAt labels (labelAt constants asked j)) none)
+unfoldable pub isAnyBound : List ℕ → List ℕ → List ℕ → ℕ → Bool
+isAnyBound labels constants asked zero = false
+isAnyBound labels constants asked (suc j) =
+    isAnyBound labels constants asked j || not (eqb (wordAt labels (labelAt constants asked j)) none)
 
 -- what the functions of the pool are handed: entries that lie in their tables
 pub record PoolFits (constants asked : List ℕ) (n : ℕ) : Type 0 where

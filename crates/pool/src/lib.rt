@@ -7,7 +7,7 @@ ghost use Rattle.seqs.specs.Over.{over};
 ghost use Rattle.words.specs.Words.{wordAt};
 ghost use Rattle.buffer.specs.Tables.{constantSize, askedSize};
 ghost use Rattle.fresh.specs.Pooled.{constantAlignment};
-ghost use Rattle.pool.specs.Pool.{sizeAt, labelAt, poolStart, poolBytes, poolBound, poolUnbound, poolWritten, poolIsBound, PoolFits, PoolLabels, PoolRoom, offsetBound};
+ghost use Rattle.pool.specs.Pool.{sizeAt, labelAt, poolStart, poolBytes, poolBound, poolUnbound, poolWritten, isAnyBound, PoolFits, PoolLabels, PoolRoom, offsetBound};
 
 // What a constant of `size` bytes is aligned on.
 pub fn constant_alignment(size: u32) -> u32
@@ -51,9 +51,9 @@ pub fn pool_end(from: u32, constants: &[u8], asked: &[u8], n: usize) -> u32
 }
 
 // Whether the label of one of the constants is bound.
-pub fn is_bound(labels: &[u8], constants: &[u8], asked: &[u8], n: usize) -> bool
+pub fn is_any_bound(labels: &[u8], constants: &[u8], asked: &[u8], n: usize) -> bool
     requires { ⌜ PoolFits (now constants) (now asked) n ⌝ ∗ ⌜ PoolLabels (now labels) (now constants) (now asked) n ⌝ }
-    ensures { λ r. ⌜ r ≡ poolIsBound (now (labels .entry)) (now (constants .entry)) (now (asked .entry)) n ⌝ }
+    ensures { λ r. ⌜ r ≡ isAnyBound (now (labels .entry)) (now (constants .entry)) (now (asked .entry)) n ⌝ }
 {
     let mut j: usize = 0;
     while j < n {

@@ -1,6 +1,7 @@
 -- What each call that is not turned down does to the view of a sound recording.
 use mathlib.Core.Path.{_≡_, refl, sym, ap, _∙_}
 use mathlib.Core.Logic.{_≢_, ⊎-elim}
+use mathlib.Core.Bool.{Bool, and-true}
 use mathlib.Core.List.{List, [], _∷_, _++_}
 use Prim.Native.Nat.{ℕ, zero, suc, _+_, _*_, _/_, _%_, _≤_, _<_}
 use native.Mathlib.Numerals.{add-one}
@@ -8,7 +9,9 @@ use native.Mathlib.Omega.{arith}
 use native.Mathlib.Nat.{not-suc-le-zero}
 use lib.ListN.{length, take, drop, set, getD, length-append, length-set, List·getD-append}
 use lib.Seq.{ext-getD, getD-at, getD-set-same, getD-set-other}
+use Rattle.seqs.specs.Every.{every, all}
 use Rattle.seqs.specs.Over.{over}
+use Rattle.seqs.proofs.Every.{every-append}
 use Rattle.seqs.proofs.Overwrites.{part-before, part-over, drop-over}
 use Rattle.seqs.proofs.Numbers.{lt-or-ge, eq-or-ne}
 use Rattle.words.specs.Words.{wordAt, setWord}
@@ -42,6 +45,14 @@ getD-entries f (suc n) i d h =
     let e : i ≡ n = omega arith in
     rw e (getD-at (entries f n) (f n) [] d n (length-entries f n)))
     (lt-or-ge i n)
+
+-- a test of every entry of a table is a test of every number below their count
+pub every-entries : {A : Type 0} (f : A → Bool) (g : ℕ → A) (h : ℕ → Bool) (n : ℕ) → ((i : ℕ) → i < n → f (g i) ≡ h i)
+    → every f (entries g n) ≡ all h n
+unfolding every all
+every-entries f g h zero e = refl
+every-entries f g h (suc n) e =
+    every-append f (entries g n) (g n ∷ []) ∙ rw (every-entries f g h n (λ i l. e i (omega arith)), and-true (f (g n)), e n (omega arith))
 
 module _ (t u : List ℕ) (n : ℕ) where
   pub one-use-more : (offset label code : ℕ) → Appended t u (n * useWords) (offset ∷ label ∷ code ∷ [])

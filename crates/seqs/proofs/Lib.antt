@@ -3,3 +3,5 @@ pub mod Overwrites
 pub mod Lists
 pub mod Picking
 pub mod Booleans
+pub mod Every
+pub mod Scans

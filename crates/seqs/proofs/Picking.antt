@@ -46,6 +46,9 @@ module _ {A : Type 0} where
   pub no-not : (t : Bool) (x y : A) → t ≡ true → pick (not t) x y ≡ y
   no-not t x y h = pick-no (not t) x y (rw h)
 
+-- a chain of tests is followed by these: each is put where its premise, the fact of a branch, is found
+pub ruleset picks = (yes-lt, no-lt, yes-le, no-le, yes-eq, no-eq, yes-ne, no-ne, pick-yes, pick-no)
+
 -- a chain that answers 0 passed its first test
 pub passed : (t : Bool) (n rest : ℕ) → n ≢ 0 → pick t n rest ≡ 0 → (t ≡ false) × (rest ≡ 0)
 unfolding pick

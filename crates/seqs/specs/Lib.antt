@@ -1,2 +1,3 @@
+pub mod Every
 pub mod Over
 pub mod Pick

@@ -1,9 +1,9 @@
 -- The form of a sheet: what each scan over it has found.
 use mathlib.Core.Path.{_≡_, refl, sym, ap, _∙_}
-use mathlib.Core.Logic.{_≢_, ⊎-elim}
+use mathlib.Core.Logic.{⊎-elim}
 use mathlib.Core.Bool.{Bool, true, false}
 use mathlib.Core.List.{List, [], _∷_}
-use borrow.Author.Tests.{eq-eqb, ne-eqb, le-leb, lt-leb, leb-true}
+use borrow.Author.Tests.{ne-eqb, le-leb, lt-leb, leb-true}
 use Prim.Native.Nat.{ℕ, zero, suc, _+_, _*_, _-_, _≤_, _<_}
 use native.Mathlib.Numerals.{add-one}
 use native.Mathlib.Omega.{arith}
@@ -16,20 +16,6 @@ use Rattle.seqs.proofs.Booleans.{true-is-not-false}
 use Rattle.seqs.proofs.Picking.{pick-yes, pick-no}
 use Rattle.words.specs.Words.{wordAt}
 use Rattle.sheet.specs.Form.{isCounted, inRange, usedBytes, used, isClear, isFormed, firstBroken, argumentSize, mostBytes}
-
-module _ (l : List ℕ) (i : ℕ) where
-  -- a zero passed changes nothing
-  pub clear-step : i < length l → getD l i 0 ≡ 0 → isClear (drop i l) ≡ isClear (drop (i + 1) l)
-  unfolding isClear
-  clear-step h e = rw (drop-cons l i 0 h, eq-eqb (getD l i 0) 0 e, add-one i)
-
-  pub clear-fails : i < length l → getD l i 0 ≢ 0 → isClear (drop i l) ≡ false
-  unfolding isClear
-  clear-fails h e = rw (drop-cons l i 0 h, ne-eqb (getD l i 0) 0 e)
-
-  pub clear-end : length l ≤ i → isClear (drop i l) ≡ true
-  unfolding isClear
-  clear-end h = rw (drop-of-length-le l {i = i} h)
 
 module _ (kinds arguments : List ℕ) (i : ℕ) where
   pub next-arguments : drop argumentSize (drop (i * argumentSize) arguments) ≡ drop ((i + 1) * argumentSize) arguments

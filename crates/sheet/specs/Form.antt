@@ -4,6 +4,7 @@ use mathlib.Core.List.{List, [], _∷_}
 use Prim.Native.Nat.{ℕ, suc, _+_, _*_}
 use lib.Dec.{eqb, leb}
 use lib.ListN.{length, getD, take, drop}
+use Rattle.seqs.specs.Every.{every}
 use Rattle.seqs.specs.Pick.{pick}
 use Rattle.words.specs.Words.{wordAt}
 use Rattle.fields.specs.Kinds.{lastCode}
@@ -82,9 +83,8 @@ unfoldable pub used : ℕ → List ℕ → ℕ
 used kind arguments = getD usedBytes kind 0 + pick (isCounted kind) (wordAt arguments 0) 0
 
 -- every byte is 0
-unfoldable pub isClear : List ℕ → Bool
-isClear [] = true
-isClear (x ∷ xs) = eqb x 0 && isClear xs
+abbrev pub isClear : List ℕ → Bool
+isClear bytes = every (λ (x : ℕ). eqb x 0) bytes
 
 -- a call's form: its kind is 1 to 10, what has a range is in it, and "unused words and bytes are 0"
 unfoldable pub isFormed : ℕ → List ℕ → Bool

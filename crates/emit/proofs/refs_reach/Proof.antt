@@ -1,25 +1,18 @@
 -- `refs_reach` meets its contract: every ref passed reaches.
 mod Tie
-use mathlib.Core.Path.{_≡_, refl, sym, _∙_}
-use mathlib.Core.Bool.{true}
-use Prim.Native.Nat.{_-_, _≤_}
+use Prim.Native.Nat.{_-_}
 use native.Mathlib.Omega.{arith}
-use borrow.Author.Tests.{not-true, not-false}
-use Rattle.emit.specs.Emit.{refsReach}
-use Rattle.emit.proofs.Turns.{one-short, all-reach}
+use Rattle.seqs.proofs.Scans.{AllPassed, pass-one, pass-fails, scans}
+use Rattle.emit.specs.Emit.{refReaches, refsReach}
 use borrow.Author.Needs.{needs}
 use Rattle.emit.proofs.refs_reach.Statement.{statement}
 use Rattle.emit.proofs.refs_reach.Proof.Tie as tie
 
 abbrev Inv-loop : tie.InvT-loop
-Inv-loop refs labels segments count n i₀ i = (i ≤ count) × (refsReach refs labels segments n i ≡ true)
+Inv-loop refs labels segments count n i₀ i = AllPassed (refReaches refs labels segments n) count i
 
 abbrev μ-loop : tie.MeasureT-loop
 μ-loop refs labels segments count n i₀ i = count - i
-
-loop-holds : tie.Need-loop-holds Inv-loop μ-loop
-unfolding refsReach
-loop-holds c = (omega arith, refl)
 
 mul-word-at : tie.Need-mul-word-at Inv-loop μ-loop
 mul-word-at c =
@@ -56,6 +49,7 @@ ref-reaches-requires c κs =
     start .pre .1 .each _ (in-loop .loop-test .taken) .entry
 
 returns : tie.Need-returns Inv-loop μ-loop
+unfolding refsReach
 returns c =
     let after-ref-reaches : tie.After-ref-reaches Inv-loop μ-loop = search in
     let after-map2 : tie.After-map2 Inv-loop μ-loop = search in
@@ -64,7 +58,7 @@ returns c =
     let after-word-at : tie.After-word-at Inv-loop μ-loop = search in
     let at-loop : tie.At-loop Inv-loop μ-loop = search in
     let said = rw (after-map2 .map2 .ensures, after-ref-label .ref-label .ensures, after-map .map .ensures, after-word-at .word-at .ensures) at (after-ref-reaches .ref-reaches .ensures) in
-    sym (one-short _ _ _ _ (at-loop .loop .i) _ (omega arith) (sym said ∙ not-true _ (c .if1 .taken)))
+    pass-fails (at-loop .loop .inv) (omega arith) said (c .if1 .taken)
 
 loop-again : tie.Need-loop-again Inv-loop μ-loop
 loop-again c =
@@ -75,21 +69,16 @@ loop-again c =
     let after-word-at : tie.After-word-at Inv-loop μ-loop = search in
     let at-loop : tie.At-loop Inv-loop μ-loop = search in
     let said = rw (after-map2 .map2 .ensures, after-ref-label .ref-label .ensures, after-map .map .ensures, after-word-at .word-at .ensures) at (after-ref-reaches .ref-reaches .ensures) in
-    (omega arith, all-reach _ _ _ _ _ (at-loop .loop .inv .1) (sym said ∙ not-false _ (c .if1 .left)))
-
-returns-2 : tie.Need-returns-2 Inv-loop μ-loop
-returns-2 c =
-    let at-loop : tie.At-loop Inv-loop μ-loop = search in
-    let start : tie.Start Inv-loop μ-loop = search in
-    let all : at-loop .loop .i ≡ start .args .count = omega arith in sym (rw all at (at-loop .loop .inv .1))
+    pass-one (at-loop .loop .inv) (omega arith) said (c .if1 .left)
 
 pub refs-reach-spec : {M : Type 1} → statement M
+unfolding refsReach
 refs-reach-spec =
     tie.close
     (tie.spec
     Inv-loop
     μ-loop
-    loop-holds
+    (λ c. search scans)
     mul-word-at
     word-at-requires
     map-requires
@@ -100,4 +89,4 @@ refs-reach-spec =
     (λ c. search needs)
     (λ c. search needs)
     loop-again
-    returns-2)
+    (λ c. search scans))

@@ -33,8 +33,8 @@ returns-2 c =
     let start = start-from-after-why-not-standing after-why-not-standing in
     let r = recordingOf (start .args .b) (start .args .code .now) (start .args .labels .now) (start .args .events .now) (start .args .uses .now) (start .args .refs .now) (start .args .constants .now) (start .args .asked .now) (start .args .relocs .now) in unfit-entries r _ _ (sym (after-why-not-standing .why-not-standing .ensures) ∙ else1 .if1 .left) (entries-read r _ false (after-entries-fit .entries-fit .ensures) (not-true _ (c .if2 .taken)))
 
-is-bound-requires : tie.Need-is-bound-requires
-is-bound-requires c κs =
+is-any-bound-requires : tie.Need-is-any-bound-requires
+is-any-bound-requires c κs =
     let else2 : tie.Else2 = search in
     let after-entries-fit : tie.After-entries-fit = search in
     let else1 : tie.Else1 = search in
@@ -47,13 +47,13 @@ is-bound-requires c κs =
 
 returns-3 : tie.Need-returns-3
 returns-3 c =
-    let after-is-bound : tie.After-is-bound = search in
+    let after-is-any-bound : tie.After-is-any-bound = search in
     let else2 : tie.Else2 = search in
     let after-entries-fit : tie.After-entries-fit = search in
     let else1 : tie.Else1 = search in
     let after-why-not-standing : tie.After-why-not-standing = search in
     let start = start-from-after-why-not-standing after-why-not-standing in
-    let r = recordingOf (start .args .b) (start .args .code .now) (start .args .labels .now) (start .args .events .now) (start .args .uses .now) (start .args .refs .now) (start .args .constants .now) (start .args .asked .now) (start .args .relocs .now) in unfit-bound r _ _ (sym (after-why-not-standing .why-not-standing .ensures) ∙ else1 .if1 .left) (entries-read r _ true (after-entries-fit .entries-fit .ensures) (not-false _ (else2 .if2 .left))) (sym (after-is-bound .is-bound .ensures) ∙ c .if3 .taken)
+    let r = recordingOf (start .args .b) (start .args .code .now) (start .args .labels .now) (start .args .events .now) (start .args .uses .now) (start .args .refs .now) (start .args .constants .now) (start .args .asked .now) (start .args .relocs .now) in unfit-bound r _ _ (sym (after-why-not-standing .why-not-standing .ensures) ∙ else1 .if1 .left) (entries-read r _ true (after-entries-fit .entries-fit .ensures) (not-false _ (else2 .if2 .left))) (sym (after-is-any-bound .is-any-bound .ensures) ∙ c .if3 .taken)
 
 pool-end-requires : tie.Need-pool-end-requires
 pool-end-requires c κs =
@@ -69,25 +69,25 @@ returns-4 : tie.Need-returns-4
 returns-4 c =
     let after-pool-end : tie.After-pool-end = search in
     let else3 : tie.Else3 = search in
-    let after-is-bound : tie.After-is-bound = search in
+    let after-is-any-bound : tie.After-is-any-bound = search in
     let else2 : tie.Else2 = search in
     let after-entries-fit : tie.After-entries-fit = search in
     let else1 : tie.Else1 = search in
     let after-why-not-standing : tie.After-why-not-standing = search in
     let start = start-from-after-why-not-standing after-why-not-standing in
-    let r = recordingOf (start .args .b) (start .args .code .now) (start .args .labels .now) (start .args .events .now) (start .args .uses .now) (start .args .refs .now) (start .args .constants .now) (start .args .asked .now) (start .args .relocs .now) in unfit-long r _ _ (sym (after-why-not-standing .why-not-standing .ensures) ∙ else1 .if1 .left) (entries-read r _ true (after-entries-fit .entries-fit .ensures) (not-false _ (else2 .if2 .left))) (sym (after-is-bound .is-bound .ensures) ∙ else3 .if3 .left) (omega (arith, c .if4 .taken, after-pool-end .pool-end .ensures .0))
+    let r = recordingOf (start .args .b) (start .args .code .now) (start .args .labels .now) (start .args .events .now) (start .args .uses .now) (start .args .refs .now) (start .args .constants .now) (start .args .asked .now) (start .args .relocs .now) in unfit-long r _ _ (sym (after-why-not-standing .why-not-standing .ensures) ∙ else1 .if1 .left) (entries-read r _ true (after-entries-fit .entries-fit .ensures) (not-false _ (else2 .if2 .left))) (sym (after-is-any-bound .is-any-bound .ensures) ∙ else3 .if3 .left) (omega (arith, c .if4 .taken, after-pool-end .pool-end .ensures .0))
 
 returns-5 : tie.Need-returns-5
 returns-5 c =
     let after-pool-end : tie.After-pool-end = search in
     let else3 : tie.Else3 = search in
-    let after-is-bound : tie.After-is-bound = search in
+    let after-is-any-bound : tie.After-is-any-bound = search in
     let else2 : tie.Else2 = search in
     let after-entries-fit : tie.After-entries-fit = search in
     let else1 : tie.Else1 = search in
     let after-why-not-standing : tie.After-why-not-standing = search in
     let start = start-from-after-why-not-standing after-why-not-standing in
-    let r = recordingOf (start .args .b) (start .args .code .now) (start .args .labels .now) (start .args .events .now) (start .args .uses .now) (start .args .refs .now) (start .args .constants .now) (start .args .asked .now) (start .args .relocs .now) in unfit-none r _ _ (sym (after-why-not-standing .why-not-standing .ensures) ∙ else1 .if1 .left) (entries-read r _ true (after-entries-fit .entries-fit .ensures) (not-false _ (else2 .if2 .left))) (sym (after-is-bound .is-bound .ensures) ∙ else3 .if3 .left) (omega (arith, c .if4 .left, after-pool-end .pool-end .ensures .0))
+    let r = recordingOf (start .args .b) (start .args .code .now) (start .args .labels .now) (start .args .events .now) (start .args .uses .now) (start .args .refs .now) (start .args .constants .now) (start .args .asked .now) (start .args .relocs .now) in unfit-none r _ _ (sym (after-why-not-standing .why-not-standing .ensures) ∙ else1 .if1 .left) (entries-read r _ true (after-entries-fit .entries-fit .ensures) (not-false _ (else2 .if2 .left))) (sym (after-is-any-bound .is-any-bound .ensures) ∙ else3 .if3 .left) (omega (arith, c .if4 .left, after-pool-end .pool-end .ensures .0))
 
 pub why-unfit-spec : {M : Type 1} → statement M
 why-unfit-spec =
@@ -98,7 +98,7 @@ why-unfit-spec =
     entries-fit-requires
     returns-2
     (λ c. search needs)
-    is-bound-requires
+    is-any-bound-requires
     returns-3
     pool-end-requires
     (λ c. search needs)

@@ -1,7 +1,6 @@
 -- `why_no_ref` meets its contract: each return is where the chain of tests ends.
+use Rattle.seqs.proofs.Picking.{picks}
 use Rattle.buffer.specs.Refusals.{whyRef}
-use Rattle.seqs.proofs.Picking.{pick-yes, pick-no, yes-eq, no-eq, yes-le, no-le}
-use mathlib.Core.Path.{sym, _∙_}
 use borrow.Author.Needs.{needs}
 use Rattle.buffer.proofs.CodeBuffer.why_no_ref.Statement.{statement}
 use Rattle.buffer.proofs.CodeBuffer.why_no_ref.Tie as tie
@@ -9,62 +8,48 @@ use Rattle.buffer.proofs.CodeBuffer.why_no_ref.Tie as tie
 returns : tie.Need-returns
 unfolding whyRef
 returns c =
-    let after-standing : tie.After-standing = search in
-    let after-both : tie.After-both = search in
-    rw (← after-both .both .ensures, ← after-standing .standing .ensures) (sym (no-eq _ 0 _ _ (c .if1 .taken)))
+    let asked : tie.After-standing = search in
+    let fit : tie.After-both = search in
+    search (picks, ← fit .both .ensures, ← asked .standing .ensures)
 
 returns-2 : tie.Need-returns-2
 unfolding whyRef
 returns-2 c =
-    let else1 : tie.Else1 = search in
-    let after-standing : tie.After-standing = search in
-    let after-both : tie.After-both = search in
-    rw (← after-both .both .ensures, ← after-standing .standing .ensures) (sym (yes-eq _ 0 _ _ (else1 .if1 .left) ∙ no-eq _ 2 _ _ (c .if2 .taken)))
+    let asked : tie.After-standing = search in
+    let fit : tie.After-both = search in
+    search (picks, ← fit .both .ensures, ← asked .standing .ensures)
 
 returns-3 : tie.Need-returns-3
 unfolding whyRef
 returns-3 c =
-    let after-is-foreign : tie.After-is-foreign = search in
-    let else2 : tie.Else2 = search in
-    let else1 : tie.Else1 = search in
-    let after-standing : tie.After-standing = search in
-    let after-both : tie.After-both = search in
-    rw (← after-both .both .ensures, ← after-standing .standing .ensures) (sym (yes-eq _ 0 _ _ (else1 .if1 .left) ∙ yes-eq _ 2 _ _ (else2 .if2 .left) ∙ pick-yes _ _ _ (sym (after-is-foreign .is-foreign .ensures) ∙ c .if3 .taken)))
+    let told : tie.After-is-foreign = search in
+    let asked : tie.After-standing = search in
+    let fit : tie.After-both = search in
+    search (picks, ← fit .both .ensures, ← asked .standing .ensures, ← told .is-foreign .ensures)
 
 returns-4 : tie.Need-returns-4
 unfolding whyRef
 returns-4 c =
-    let else3 : tie.Else3 = search in
-    let after-is-foreign : tie.After-is-foreign = search in
-    let else2 : tie.Else2 = search in
-    let else1 : tie.Else1 = search in
-    let after-standing : tie.After-standing = search in
-    let after-both : tie.After-both = search in
-    rw (← after-both .both .ensures, ← after-standing .standing .ensures) (sym (yes-eq _ 0 _ _ (else1 .if1 .left) ∙ yes-eq _ 2 _ _ (else2 .if2 .left) ∙ pick-no _ _ _ (sym (after-is-foreign .is-foreign .ensures) ∙ else3 .if3 .left) ∙ yes-le _ _ _ _ (c .if4 .taken)))
+    let told : tie.After-is-foreign = search in
+    let asked : tie.After-standing = search in
+    let fit : tie.After-both = search in
+    search (picks, ← fit .both .ensures, ← asked .standing .ensures, ← told .is-foreign .ensures)
 
 returns-5 : tie.Need-returns-5
 unfolding whyRef
 returns-5 c =
-    let else4 : tie.Else4 = search in
-    let else3 : tie.Else3 = search in
-    let after-is-foreign : tie.After-is-foreign = search in
-    let else2 : tie.Else2 = search in
-    let else1 : tie.Else1 = search in
-    let after-standing : tie.After-standing = search in
-    let after-both : tie.After-both = search in
-    rw (← after-both .both .ensures, ← after-standing .standing .ensures) (sym (yes-eq _ 0 _ _ (else1 .if1 .left) ∙ yes-eq _ 2 _ _ (else2 .if2 .left) ∙ pick-no _ _ _ (sym (after-is-foreign .is-foreign .ensures) ∙ else3 .if3 .left) ∙ no-le _ _ _ _ (else4 .if4 .left) ∙ yes-le _ _ _ _ (c .if5 .taken)))
+    let told : tie.After-is-foreign = search in
+    let asked : tie.After-standing = search in
+    let fit : tie.After-both = search in
+    search (picks, ← fit .both .ensures, ← asked .standing .ensures, ← told .is-foreign .ensures)
 
 returns-6 : tie.Need-returns-6
 unfolding whyRef
 returns-6 c =
-    let else4 : tie.Else4 = search in
-    let else3 : tie.Else3 = search in
-    let after-is-foreign : tie.After-is-foreign = search in
-    let else2 : tie.Else2 = search in
-    let else1 : tie.Else1 = search in
-    let after-standing : tie.After-standing = search in
-    let after-both : tie.After-both = search in
-    rw (← after-both .both .ensures, ← after-standing .standing .ensures) (sym (yes-eq _ 0 _ _ (else1 .if1 .left) ∙ yes-eq _ 2 _ _ (else2 .if2 .left) ∙ pick-no _ _ _ (sym (after-is-foreign .is-foreign .ensures) ∙ else3 .if3 .left) ∙ no-le _ _ _ _ (else4 .if4 .left) ∙ no-le _ _ _ _ (c .if5 .left)))
+    let told : tie.After-is-foreign = search in
+    let asked : tie.After-standing = search in
+    let fit : tie.After-both = search in
+    search (picks, ← fit .both .ensures, ← asked .standing .ensures, ← told .is-foreign .ensures)
 
 pub why-no-ref-spec : {M : Type 1} → statement M
 why-no-ref-spec =

@@ -1,50 +1,18 @@
 -- `each_ref_fits` meets its contract: all the refs passed fit.
-use native.Mathlib.Omega.{arith}
-use Prim.Native.Nat.{_≤_, _-_}
-use mathlib.Core.Path.{_≡_}
-use mathlib.Core.Bool.{true}
-use Rattle.checks.specs.Entries.{all, refFits}
-use Rattle.checks.proofs.Scans.{all-none, scan-fails, scan-goes, scan-ends}
+use Prim.Native.Nat.{_-_}
+use Rattle.checks.specs.Entries.{refFits}
+use Rattle.seqs.proofs.Scans.{AllPassed, scans}
 use borrow.Author.Needs.{needs}
 use Rattle.checks.proofs.entries.each_ref_fits.Statement.{statement}
 use Rattle.checks.proofs.entries.each_ref_fits.Tie as tie
 
 abbrev Inv-loop : tie.InvT-loop
-Inv-loop refs n arch labels i₀ i = (i ≤ n) × (all (refFits refs arch labels) i ≡ true)
+Inv-loop refs n arch labels i₀ i = AllPassed (refFits refs arch labels) n i
 
 abbrev μ-loop : tie.MeasureT-loop
 μ-loop refs n arch labels i₀ i = n - i
 
-loop-holds : tie.Need-loop-holds Inv-loop μ-loop
-loop-holds c = (omega arith, all-none _)
-
-returns : tie.Need-returns Inv-loop μ-loop
-returns c =
-    let after-ref-fits : tie.After-ref-fits Inv-loop μ-loop = search in
-    let at-loop : tie.At-loop Inv-loop μ-loop = search in
-    let l = at-loop .loop in scan-fails _ _ (l .i) _ (omega arith) (after-ref-fits .ref-fits .ensures) (c .if1 .taken)
-
-loop-again : tie.Need-loop-again Inv-loop μ-loop
-loop-again c =
-    let after-ref-fits : tie.After-ref-fits Inv-loop μ-loop = search in
-    let at-loop : tie.At-loop Inv-loop μ-loop = search in
-    let l = at-loop .loop in (omega arith, scan-goes _ (l .i) _ (l .inv .1) (after-ref-fits .ref-fits .ensures) (c .if1 .left))
-
-returns-2 : tie.Need-returns-2 Inv-loop μ-loop
-returns-2 c =
-    let at-loop : tie.At-loop Inv-loop μ-loop = search in
-    let l = at-loop .loop in scan-ends _ _ (l .i) (omega arith) (omega arith) (l .inv .1)
-
 pub each-ref-fits-spec : {M : Type 1} → statement M
 each-ref-fits-spec =
     tie.close
-    (tie.spec
-    Inv-loop
-    μ-loop
-    loop-holds
-    (λ c κs. search needs)
-    returns
-    (λ c. search needs)
-    (λ c. search needs)
-    loop-again
-    returns-2)
+    (tie.spec Inv-loop μ-loop (λ c. search scans) (λ c κs. search needs) (λ c. search scans) (λ c. search needs) (λ c. search needs) (λ c. search scans) (λ c. search scans))

@@ -1,17 +1,30 @@
--- `entries_fit` meets its contract: each return is where the first table does not fit.
-use mathlib.Core.Path.{sym, _∙_}
-use borrow.Author.Tests.{not-true, not-false}
-use Rattle.checks.proofs.Judged.{events-fail, labels-fail, uses-fail, refs-fail, constants-fail, order-fail, relocs-decide}
+-- `entries_fit` meets its contract: the tables are judged one after the other, and the first that does not fit decides.
+use mathlib.Core.Path.{_≡_, sym, _∙_}
+use mathlib.Core.Bool.{Bool, _&&_}
+use borrow.Author.Tests.{not-false}
+use Rattle.seqs.proofs.Booleans.{tests}
+use Rattle.checks.specs.Entries.{eventsFit, labelsFit, usesFit, entriesFit}
 use Rattle.checks.proofs.SoundEvents.{events-ordered}
 use Rattle.checks.proofs.SoundTables.{constants-labelled}
 use borrow.Author.Needs.{needs}
 use Rattle.checks.proofs.entries.entries_fit.Statement.{statement}
 use Rattle.checks.proofs.entries.entries_fit.Tie as tie
 
+abbrev entered : tie.Else3 → tie.Start
+entered c = search
+
+-- past the events, the labels and the uses, what follows decides
+past-uses : (c : tie.Else3) {r rest : Bool} → r ≡ rest
+    → let a = entered c .args in
+    let b = a .b in
+    r
+    ≡ (eventsFit (b .arch) (a .events .now) (b .events) (b .labels) (b .code)
+    && (labelsFit (a .labels .now) (b .labels) (a .events .now) (b .events) (b .code) && (usesFit (a .uses .now) (b .uses) (b .arch) (b .labels) && rest)))
+past-uses c h = search tests
+
 returns : tie.Need-returns
-returns c =
-    let after-events-fit : tie.After-events-fit = search in
-    events-fail _ (sym (after-events-fit .events-fit .ensures) ∙ not-true _ (c .if1 .taken))
+unfolding entriesFit
+returns c = search tests
 
 labels-fit-requires : tie.Need-labels-fit-requires
 labels-fit-requires c κs =
@@ -22,11 +35,8 @@ labels-fit-requires c κs =
     (p .labels-room, (p .events-room, events-ordered _ _ _ _ _ (sym (after-events-fit .events-fit .ensures) ∙ not-false _ (else1 .if1 .left))))
 
 returns-2 : tie.Need-returns-2
-returns-2 c =
-    let after-labels-fit : tie.After-labels-fit = search in
-    let else1 : tie.Else1 = search in
-    let after-events-fit : tie.After-events-fit = search in
-    labels-fail _ (sym (after-events-fit .events-fit .ensures) ∙ not-false _ (else1 .if1 .left)) (sym (after-labels-fit .labels-fit .ensures) ∙ not-true _ (c .if2 .taken))
+unfolding entriesFit
+returns-2 c = search tests
 
 uses-fit-requires : tie.Need-uses-fit-requires
 uses-fit-requires c κs =
@@ -34,127 +44,40 @@ uses-fit-requires c κs =
     start .pre .uses-room
 
 returns-3 : tie.Need-returns-3
-returns-3 c =
-    let after-uses-fit : tie.After-uses-fit = search in
-    let else2 : tie.Else2 = search in
-    let after-labels-fit : tie.After-labels-fit = search in
-    let else1 : tie.Else1 = search in
-    let after-events-fit : tie.After-events-fit = search in
-    uses-fail _ (sym (after-events-fit .events-fit .ensures) ∙ not-false _ (else1 .if1 .left)) (sym (after-labels-fit .labels-fit .ensures) ∙ not-false _ (else2 .if2 .left)) (sym (after-uses-fit .uses-fit .ensures) ∙ not-true _ (c .if3 .taken))
-
-abbrev after-events-fit-from-after-struct-known5 : tie.After-struct-known5 → tie.After-events-fit
-after-events-fit-from-after-struct-known5 c = search
-
-abbrev start-from-after-events-fit : tie.After-events-fit → tie.Start
-start-from-after-events-fit c = search
-
-abbrev start-from-after-struct-known5 : tie.After-struct-known5 → tie.Start
-start-from-after-struct-known5 c = start-from-after-events-fit (after-events-fit-from-after-struct-known5 c)
+unfolding entriesFit
+returns-3 c = search tests
 
 refs-fit-requires : tie.Need-refs-fit-requires
-refs-fit-requires c κs =
-    let start = start-from-after-struct-known5 c in
-    start .pre .refs-room
+refs-fit-requires c κs = entered (search) .pre .refs-room
 
 returns-4 : tie.Need-returns-4
-returns-4 c =
-    let after-refs-fit : tie.After-refs-fit = search in
-    let else3 : tie.Else3 = search in
-    let after-uses-fit : tie.After-uses-fit = search in
-    let else2 : tie.Else2 = search in
-    let after-labels-fit : tie.After-labels-fit = search in
-    let else1 : tie.Else1 = search in
-    let after-events-fit : tie.After-events-fit = search in
-    refs-fail _ (sym (after-events-fit .events-fit .ensures) ∙ not-false _ (else1 .if1 .left)) (sym (after-labels-fit .labels-fit .ensures) ∙ not-false _ (else2 .if2 .left)) (sym (after-uses-fit .uses-fit .ensures) ∙ not-false _ (else3 .if3 .left)) (sym (after-refs-fit .refs-fit .ensures) ∙ not-true _ (c .if4 .taken))
-
-abbrev else1-from-after-struct-known6 : tie.After-struct-known6 → tie.Else1
-else1-from-after-struct-known6 c = search
-
-abbrev start-from-else1 : tie.Else1 → tie.Start
-start-from-else1 c = search
-
-abbrev start-from-after-struct-known6 : tie.After-struct-known6 → tie.Start
-start-from-after-struct-known6 c = start-from-else1 (else1-from-after-struct-known6 c)
+unfolding entriesFit
+returns-4 c = past-uses (search) (search tests)
 
 constants-fit-requires : tie.Need-constants-fit-requires
-constants-fit-requires c κs =
-    let start = start-from-after-struct-known6 c in
-    start .pre .constants-room
+constants-fit-requires c κs = entered (search) .pre .constants-room
 
 returns-5 : tie.Need-returns-5
-returns-5 c =
-    let after-constants-fit : tie.After-constants-fit = search in
-    let else4 : tie.Else4 = search in
-    let after-refs-fit : tie.After-refs-fit = search in
-    let else3 : tie.Else3 = search in
-    let after-uses-fit : tie.After-uses-fit = search in
-    let else2 : tie.Else2 = search in
-    let after-labels-fit : tie.After-labels-fit = search in
-    let else1 : tie.Else1 = search in
-    let after-events-fit : tie.After-events-fit = search in
-    constants-fail _ (sym (after-events-fit .events-fit .ensures) ∙ not-false _ (else1 .if1 .left)) (sym (after-labels-fit .labels-fit .ensures) ∙ not-false _ (else2 .if2 .left)) (sym (after-uses-fit .uses-fit .ensures) ∙ not-false _ (else3 .if3 .left)) (sym (after-refs-fit .refs-fit .ensures) ∙ not-false _ (else4 .if4 .left)) (sym (after-constants-fit .constants-fit .ensures) ∙ not-true _ (c .if5 .taken))
-
-abbrev after-struct-known2-from-after-constants-fit : tie.After-constants-fit → tie.After-struct-known2
-after-struct-known2-from-after-constants-fit c = search
-
-abbrev start-from-after-struct-known2 : tie.After-struct-known2 → tie.Start
-start-from-after-struct-known2 c = search
-
-abbrev start-from-after-constants-fit : tie.After-constants-fit → tie.Start
-start-from-after-constants-fit c = start-from-after-struct-known2 (after-struct-known2-from-after-constants-fit c)
+unfolding entriesFit
+returns-5 c = past-uses (search) (search tests)
 
 order-fits-requires : tie.Need-order-fits-requires
 order-fits-requires c κs =
     let else5 : tie.Else5 = search in
     let after-constants-fit : tie.After-constants-fit = search in
-    let start = start-from-after-constants-fit after-constants-fit in
-    let p = start .pre in
+    let p = entered (search) .pre in
     (p .asked-room, constants-labelled _ _ _ (p .constants-room) (p .constants-limit) (p .labels-limit) (sym (after-constants-fit .constants-fit .ensures) ∙ not-false _ (else5 .if5 .left)))
 
 returns-6 : tie.Need-returns-6
-returns-6 c =
-    let after-order-fits : tie.After-order-fits = search in
-    let else5 : tie.Else5 = search in
-    let after-constants-fit : tie.After-constants-fit = search in
-    let else4 : tie.Else4 = search in
-    let after-refs-fit : tie.After-refs-fit = search in
-    let else3 : tie.Else3 = search in
-    let after-uses-fit : tie.After-uses-fit = search in
-    let else2 : tie.Else2 = search in
-    let after-labels-fit : tie.After-labels-fit = search in
-    let else1 : tie.Else1 = search in
-    let after-events-fit : tie.After-events-fit = search in
-    order-fail _ (sym (after-events-fit .events-fit .ensures) ∙ not-false _ (else1 .if1 .left)) (sym (after-labels-fit .labels-fit .ensures) ∙ not-false _ (else2 .if2 .left)) (sym (after-uses-fit .uses-fit .ensures) ∙ not-false _ (else3 .if3 .left)) (sym (after-refs-fit .refs-fit .ensures) ∙ not-false _ (else4 .if4 .left)) (sym (after-constants-fit .constants-fit .ensures) ∙ not-false _ (else5 .if5 .left)) (sym (after-order-fits .order-fits .ensures) ∙ not-true _ (c .if6 .taken))
-
-abbrev after-labels-fit-from-else6 : tie.Else6 → tie.After-labels-fit
-after-labels-fit-from-else6 c = search
-
-abbrev start-from-after-labels-fit : tie.After-labels-fit → tie.Start
-start-from-after-labels-fit c = search
-
-abbrev start-from-else6 : tie.Else6 → tie.Start
-start-from-else6 c = start-from-after-labels-fit (after-labels-fit-from-else6 c)
+unfolding entriesFit
+returns-6 c = past-uses (search) (search tests)
 
 relocs-fit-requires : tie.Need-relocs-fit-requires
-relocs-fit-requires c κs =
-    let start = start-from-else6 c in
-    start .pre .relocs-room
+relocs-fit-requires c κs = entered (search) .pre .relocs-room
 
 returns-7 : tie.Need-returns-7
-returns-7 c =
-    let else6 : tie.Else6 = search in
-    let after-order-fits : tie.After-order-fits = search in
-    let else5 : tie.Else5 = search in
-    let after-constants-fit : tie.After-constants-fit = search in
-    let else4 : tie.Else4 = search in
-    let after-refs-fit : tie.After-refs-fit = search in
-    let else3 : tie.Else3 = search in
-    let after-uses-fit : tie.After-uses-fit = search in
-    let else2 : tie.Else2 = search in
-    let after-labels-fit : tie.After-labels-fit = search in
-    let else1 : tie.Else1 = search in
-    let after-events-fit : tie.After-events-fit = search in
-    rw (c .relocs-fit .ensures) (relocs-decide _ (sym (after-events-fit .events-fit .ensures) ∙ not-false _ (else1 .if1 .left)) (sym (after-labels-fit .labels-fit .ensures) ∙ not-false _ (else2 .if2 .left)) (sym (after-uses-fit .uses-fit .ensures) ∙ not-false _ (else3 .if3 .left)) (sym (after-refs-fit .refs-fit .ensures) ∙ not-false _ (else4 .if4 .left)) (sym (after-constants-fit .constants-fit .ensures) ∙ not-false _ (else5 .if5 .left)) (sym (after-order-fits .order-fits .ensures) ∙ not-false _ (else6 .if6 .left)))
+unfolding entriesFit
+returns-7 c = past-uses (search) (search tests)
 
 pub entries-fit-spec : {M : Type 1} → statement M
 entries-fit-spec =

@@ -1,57 +1,18 @@
 -- `is_each_marked` meets its contract: all the constants passed are marked or have no label.
+use Prim.Native.Nat.{_-_}
 use Rattle.checks.specs.Handed.{unlabelledOr}
-use native.Mathlib.Omega.{arith}
-use Prim.Native.Nat.{_≤_, _-_}
-use mathlib.Core.Path.{_≡_}
-use mathlib.Core.Bool.{true}
-use Rattle.checks.specs.Entries.{all}
-use Rattle.checks.proofs.Scans.{all-none, scan-fails, scan-goes, scan-ends}
+use Rattle.seqs.proofs.Scans.{AllPassed, scans}
 use borrow.Author.Needs.{needs}
 use Rattle.checks.proofs.entries.is_each_marked.Statement.{statement}
 use Rattle.checks.proofs.entries.is_each_marked.Tie as tie
 
 abbrev Inv-loop : tie.InvT-loop
-Inv-loop constants n seen count i₀ i = (i ≤ n) × (all (unlabelledOr constants seen) i ≡ true)
+Inv-loop constants n seen count i₀ i = AllPassed (unlabelledOr constants seen) n i
 
 abbrev μ-loop : tie.MeasureT-loop
 μ-loop constants n seen count i₀ i = n - i
 
-loop-holds : tie.Need-loop-holds Inv-loop μ-loop
-loop-holds c = (omega arith, all-none _)
-
-returns : tie.Need-returns Inv-loop μ-loop
-returns c =
-    let after-either : tie.After-either Inv-loop μ-loop = search in
-    let after-word-at : tie.After-word-at Inv-loop μ-loop = search in
-    let at-loop : tie.At-loop Inv-loop μ-loop = search in
-    let l = at-loop .loop in scan-fails _ _ (l .i) _ (omega arith) (rw (after-word-at .word-at .ensures) at (after-either .either .ensures)) (c .if1 .taken)
-
-loop-again : tie.Need-loop-again Inv-loop μ-loop
-loop-again c =
-    let after-either : tie.After-either Inv-loop μ-loop = search in
-    let after-word-at : tie.After-word-at Inv-loop μ-loop = search in
-    let at-loop : tie.At-loop Inv-loop μ-loop = search in
-    let l = at-loop .loop in (omega arith, scan-goes _ (l .i) _ (l .inv .1) (rw (after-word-at .word-at .ensures) at (after-either .either .ensures)) (c .if1 .left))
-
-returns-2 : tie.Need-returns-2 Inv-loop μ-loop
-returns-2 c =
-    let at-loop : tie.At-loop Inv-loop μ-loop = search in
-    let l = at-loop .loop in scan-ends _ _ (l .i) (omega arith) (omega arith) (l .inv .1)
-
 pub is-each-marked-spec : {M : Type 1} → statement M
 is-each-marked-spec =
     tie.close
-    (tie.spec
-    Inv-loop
-    μ-loop
-    loop-holds
-    (λ c. search needs)
-    (λ c. search needs)
-    (λ c κs. search needs)
-    (λ c. search needs)
-    (λ c κs. search needs)
-    returns
-    (λ c. search needs)
-    (λ c. search needs)
-    loop-again
-    returns-2)
+    (tie.spec Inv-loop μ-loop (λ c. search scans) (λ c κs. search needs) (λ c. search scans) (λ c. search needs) (λ c. search needs) (λ c. search scans) (λ c. search scans))

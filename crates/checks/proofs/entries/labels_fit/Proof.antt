@@ -1,56 +1,21 @@
 -- `labels_fit` meets its contract: all the labels passed fit.
-use native.Mathlib.Omega.{arith}
-use Prim.Native.Nat.{ℕ, _≤_, _-_}
+use Prim.Native.Nat.{_-_}
+use Prim.Native.Nat.{ℕ}
 use Rattle.words.specs.Words.{wordAt}
-use mathlib.Core.Path.{_≡_}
-use mathlib.Core.Bool.{true}
-use Rattle.checks.specs.Entries.{all, labelsFit, labelFits}
-use Rattle.checks.proofs.Scans.{all-none, scan-fails, scan-goes, scan-ends}
+use Rattle.checks.specs.Entries.{labelFits, labelsFit}
+use Rattle.seqs.proofs.Scans.{AllPassed, scans}
 use borrow.Author.Needs.{needs}
 use Rattle.checks.proofs.entries.labels_fit.Statement.{statement}
 use Rattle.checks.proofs.entries.labels_fit.Tie as tie
 
 abbrev Inv-loop : tie.InvT-loop
-Inv-loop labels n events m code i₀ i = (i ≤ n) × (all (λ (k : ℕ). labelFits events m code (wordAt labels k)) i ≡ true)
+Inv-loop labels n events m code i₀ i = AllPassed (λ (k : ℕ). labelFits events m code (wordAt labels k)) n i
 
 abbrev μ-loop : tie.MeasureT-loop
 μ-loop labels n events m code i₀ i = n - i
 
-loop-holds : tie.Need-loop-holds Inv-loop μ-loop
-loop-holds c = (omega arith, all-none _)
-
-returns : tie.Need-returns Inv-loop μ-loop
-unfolding labelsFit
-returns c =
-    let after-label-fits : tie.After-label-fits Inv-loop μ-loop = search in
-    let after-word-at : tie.After-word-at Inv-loop μ-loop = search in
-    let at-loop : tie.At-loop Inv-loop μ-loop = search in
-    let l = at-loop .loop in scan-fails _ _ (l .i) _ (omega arith) (rw (after-word-at .word-at .ensures) at (after-label-fits .label-fits .ensures)) (c .if1 .taken)
-
-loop-again : tie.Need-loop-again Inv-loop μ-loop
-loop-again c =
-    let after-label-fits : tie.After-label-fits Inv-loop μ-loop = search in
-    let after-word-at : tie.After-word-at Inv-loop μ-loop = search in
-    let at-loop : tie.At-loop Inv-loop μ-loop = search in
-    let l = at-loop .loop in (omega arith, scan-goes _ (l .i) _ (l .inv .1) (rw (after-word-at .word-at .ensures) at (after-label-fits .label-fits .ensures)) (c .if1 .left))
-
-returns-2 : tie.Need-returns-2 Inv-loop μ-loop
-unfolding labelsFit
-returns-2 c =
-    let at-loop : tie.At-loop Inv-loop μ-loop = search in
-    let l = at-loop .loop in scan-ends _ _ (l .i) (omega arith) (omega arith) (l .inv .1)
-
 pub labels-fit-spec : {M : Type 1} → statement M
+unfolding labelsFit
 labels-fit-spec =
     tie.close
-    (tie.spec
-    Inv-loop
-    μ-loop
-    loop-holds
-    (λ c κs. search needs)
-    (λ c κs. search needs)
-    returns
-    (λ c. search needs)
-    (λ c. search needs)
-    loop-again
-    returns-2)
+    (tie.spec Inv-loop μ-loop (λ c. search scans) (λ c κs. search needs) (λ c. search scans) (λ c. search needs) (λ c. search needs) (λ c. search scans) (λ c. search scans))

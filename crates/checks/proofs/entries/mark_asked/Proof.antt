@@ -4,18 +4,16 @@ use borrow.Author.Tests.{not-false}
 use Rattle.seqs.proofs.Booleans.{true-is-not-false}
 use Rattle.checks.proofs.Marking.{marks-next, new-entry}
 use native.Mathlib.Omega.{arith}
-use Prim.Native.Nat.{_≤_, _-_}
-use mathlib.Core.Bool.{true}
-use Rattle.checks.specs.Entries.{all}
+use Prim.Native.Nat.{_-_}
 use Rattle.checks.specs.Handed.{askedLabel, Marks, newAt}
 use Rattle.words.specs.Words.{wordAt}
-use Rattle.checks.proofs.Scans.{all-none, scan-fails, scan-goes, scan-ends}
+use Rattle.seqs.proofs.Scans.{AllPassed, pass-none, pass-one, pass-fails, pass-all}
 use borrow.Author.Needs.{needs}
 use Rattle.checks.proofs.entries.mark_asked.Statement.{statement}
 use Rattle.checks.proofs.entries.mark_asked.Tie as tie
 
 abbrev Inv-loop : tie.InvT-loop
-Inv-loop asked n constants known seen₀ taken₀ i₀ seen taken i = (i ≤ n) × (all (newAt asked constants known) i ≡ true) × Marks seen (wordAt asked) i × Marks taken (askedLabel constants asked) i
+Inv-loop asked n constants known seen₀ taken₀ i₀ seen taken i = AllPassed (newAt asked constants known) n i × Marks seen (wordAt asked) i × Marks taken (askedLabel constants asked) i
 
 abbrev μ-loop : tie.MeasureT-loop
 μ-loop asked n constants known seen₀ taken₀ i₀ seen taken i = n - i
@@ -23,14 +21,14 @@ abbrev μ-loop : tie.MeasureT-loop
 loop-holds : tie.Need-loop-holds Inv-loop μ-loop
 loop-holds c =
     let start : tie.Start Inv-loop μ-loop = search in
-    (omega arith, all-none _, start .pre .1 .1 .0, start .pre .1 .1 .1)
+    (pass-none _ _, start .pre .1 .1 .0, start .pre .1 .1 .1)
 
 returns : tie.Need-returns Inv-loop μ-loop
 returns c =
     let after-is-new : tie.After-is-new Inv-loop μ-loop = search in
     let at-loop : tie.At-loop Inv-loop μ-loop = search in
     let l = at-loop .loop in
-    (scan-fails _ _ (l .i) _ (omega arith) (after-is-new .is-new .ensures) (c .if1 .taken), λ e. absurd (true-is-not-false (sym e)))
+    (pass-fails (l .inv .0) (omega arith) (after-is-new .is-new .ensures) (c .if1 .taken), λ e. absurd (true-is-not-false (sym e)))
 
 word-at-requires-2 : tie.Need-word-at-requires-2 Inv-loop μ-loop
 word-at-requires-2 c κs =
@@ -48,7 +46,7 @@ slice-write-seen c =
     let at-loop : tie.At-loop Inv-loop μ-loop = search in
     let start : tie.Start Inv-loop μ-loop = search in
     let new = new-entry _ _ _ _ (start .pre .1 .0) (sym (after-is-new .is-new .ensures) ∙ not-false _ (else1 .if1 .left)) in
-    omega (arith, new .few, after-word-at .word-at .ensures, at-loop .loop .inv .2 .size)
+    omega (arith, new .few, after-word-at .word-at .ensures, at-loop .loop .inv .1 .size)
 
 slice-write-taken : tie.Need-slice-write-taken Inv-loop μ-loop
 slice-write-taken c =
@@ -59,7 +57,7 @@ slice-write-taken c =
     let start : tie.Start Inv-loop μ-loop = search in
     let new = new-entry _ _ _ _ (start .pre .1 .0) (sym (after-is-new .is-new .ensures) ∙ not-false _ (else1 .if1 .left)) in
     let label = rw (after-word-at .word-at .ensures) at (c .word-at2 .ensures) in
-    omega (arith, new .label, label, at-loop .loop .inv .3 .size)
+    omega (arith, new .label, label, at-loop .loop .inv .2 .size)
 
 loop-again : tie.Need-loop-again Inv-loop μ-loop
 loop-again c =
@@ -71,10 +69,9 @@ loop-again c =
     let l = at-loop .loop in
     let new = new-entry _ _ _ _ (start .pre .1 .0) (sym (after-is-new .is-new .ensures) ∙ not-false _ (else1 .if1 .left)) in
     let label = rw (after-word-at .word-at .ensures) at (c .word-at2 .ensures) in (
-      omega arith,
-      scan-goes _ (l .i) _ (l .inv .1) (after-is-new .is-new .ensures) (else1 .if1 .left),
-      marks-next _ _ (l .i) _ (l .inv .2) (after-word-at .word-at .ensures) (omega (arith, new .few, after-word-at .word-at .ensures)),
-      marks-next _ _ (l .i) _ (l .inv .3) label (omega (arith, new .label, label)),
+      pass-one (l .inv .0) (omega arith) (after-is-new .is-new .ensures) (else1 .if1 .left),
+      marks-next _ _ (l .i) _ (l .inv .1) (after-word-at .word-at .ensures) (omega (arith, new .few, after-word-at .word-at .ensures)),
+      marks-next _ _ (l .i) _ (l .inv .2) label (omega (arith, new .label, label)),
     )
 
 returns-2 : tie.Need-returns-2 Inv-loop μ-loop
@@ -83,7 +80,7 @@ returns-2 c =
     let start : tie.Start Inv-loop μ-loop = search in
     let l = at-loop .loop in
     let same : l .i ≡ start .args .n = omega arith in
-    (scan-ends _ _ (l .i) (omega arith) (omega arith) (l .inv .1), λ e. rw same at (l .inv .2))
+    (pass-all (l .inv .0) (omega arith), λ e. rw same at (l .inv .1))
 
 pub mark-asked-spec : {M : Type 1} → statement M
 mark-asked-spec =

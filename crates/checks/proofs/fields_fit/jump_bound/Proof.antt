@@ -1,5 +1,6 @@
 -- `jump_bound` meets its contract: only jumps name labels.
 use mathlib.Core.Path.{sym, _∙_}
+use native.Mathlib.Omega.{arith}
 use Rattle.checks.proofs.Reaching.{jump-none, jump-named}
 use borrow.Author.Needs.{needs}
 use Rattle.checks.proofs.fields_fit.jump_bound.Statement.{statement}
@@ -10,19 +11,18 @@ returns c =
     let after-word-at : tie.After-word-at = search in
     jump-none _ _ _ _ (after-word-at .word-at .ensures) (c .if1 .taken)
 
-is-bound-requires : tie.Need-is-bound-requires
-is-bound-requires c κs =
+is-named-bound-requires : tie.Need-is-named-bound-requires
+is-named-bound-requires c κs =
     let else1 : tie.Else1 = search in
     let after-word-at : tie.After-word-at = search in
     let start : tie.Start = search in
-    rw (c .word-at2 .ensures) (start .pre .1 (sym (after-word-at .word-at .ensures) ∙ else1 .if1 .left))
+    (omega arith, start .pre .1 (sym (after-word-at .word-at .ensures) ∙ else1 .if1 .left))
 
 returns-2 : tie.Need-returns-2
 returns-2 c =
-    let after-word-at2 : tie.After-word-at2 = search in
     let else1 : tie.Else1 = search in
     let after-word-at : tie.After-word-at = search in
-    rw (c .is-bound .ensures, after-word-at2 .word-at2 .ensures) (jump-named _ _ _ _ (after-word-at .word-at .ensures) (else1 .if1 .left))
+    rw (c .is-named-bound .ensures) (jump-named _ _ _ _ (after-word-at .word-at .ensures) (else1 .if1 .left))
 
 pub jump-bound-spec : {M : Type 1} → statement M
 jump-bound-spec =
@@ -33,6 +33,5 @@ jump-bound-spec =
     returns
     (λ c. search needs)
     (λ c. search needs)
-    (λ c κs. search needs)
-    is-bound-requires
+    is-named-bound-requires
     returns-2)

@@ -1,65 +1,26 @@
 -- `uses_bound` meets its contract: all the uses passed name bound labels.
-use Rattle.checks.specs.Handed.{useLabel}
-use Rattle.checks.specs.Fields.{isBound, usesBound}
+use Prim.Native.Nat.{_-_}
 use native.Mathlib.Omega.{arith}
-use Prim.Native.Nat.{ℕ, _≤_, _-_}
-use mathlib.Core.Path.{_≡_}
-use mathlib.Core.Bool.{true}
-use Rattle.checks.specs.Entries.{all}
-use Rattle.checks.proofs.Scans.{all-none, scan-fails, scan-goes, scan-ends}
+use Rattle.checks.specs.Fields.{useBound, usesBound}
+use Rattle.seqs.proofs.Scans.{AllPassed, scans}
 use borrow.Author.Needs.{needs}
 use Rattle.checks.proofs.fields_fit.uses_bound.Statement.{statement}
 use Rattle.checks.proofs.fields_fit.uses_bound.Tie as tie
 
 abbrev Inv-loop : tie.InvT-loop
-Inv-loop uses n labels i₀ i = (i ≤ n) × (all (λ (k : ℕ). isBound labels (useLabel uses k)) i ≡ true)
+Inv-loop uses n labels i₀ i = AllPassed (useBound uses labels) n i
 
 abbrev μ-loop : tie.MeasureT-loop
 μ-loop uses n labels i₀ i = n - i
 
-loop-holds : tie.Need-loop-holds Inv-loop μ-loop
-loop-holds c = (omega arith, all-none _)
-
-is-bound-requires : tie.Need-is-bound-requires Inv-loop μ-loop
-is-bound-requires c κs =
-    let at-loop : tie.At-loop Inv-loop μ-loop = search in
+is-named-bound-requires : tie.Need-is-named-bound-requires Inv-loop μ-loop
+is-named-bound-requires c κs =
+    let turn : tie.In-loop Inv-loop μ-loop = search in
     let start : tie.Start Inv-loop μ-loop = search in
-    rw (c .word-at .ensures) (start .pre .1 .known (at-loop .loop .i) (omega arith))
-
-returns : tie.Need-returns Inv-loop μ-loop
-unfolding usesBound
-returns c =
-    let after-is-bound : tie.After-is-bound Inv-loop μ-loop = search in
-    let after-word-at : tie.After-word-at Inv-loop μ-loop = search in
-    let at-loop : tie.At-loop Inv-loop μ-loop = search in
-    let l = at-loop .loop in scan-fails _ _ (l .i) _ (omega arith) (rw (after-word-at .word-at .ensures) at (after-is-bound .is-bound .ensures)) (c .if1 .taken)
-
-loop-again : tie.Need-loop-again Inv-loop μ-loop
-loop-again c =
-    let after-is-bound : tie.After-is-bound Inv-loop μ-loop = search in
-    let after-word-at : tie.After-word-at Inv-loop μ-loop = search in
-    let at-loop : tie.At-loop Inv-loop μ-loop = search in
-    let l = at-loop .loop in (omega arith, scan-goes _ (l .i) _ (l .inv .1) (rw (after-word-at .word-at .ensures) at (after-is-bound .is-bound .ensures)) (c .if1 .left))
-
-returns-2 : tie.Need-returns-2 Inv-loop μ-loop
-unfolding usesBound
-returns-2 c =
-    let at-loop : tie.At-loop Inv-loop μ-loop = search in
-    let l = at-loop .loop in scan-ends _ _ (l .i) (omega arith) (omega arith) (l .inv .1)
+    (omega arith, start .pre .1 .known _ (turn .loop-test .taken))
 
 pub uses-bound-spec : {M : Type 1} → statement M
+unfolding usesBound
 uses-bound-spec =
     tie.close
-    (tie.spec
-    Inv-loop
-    μ-loop
-    loop-holds
-    (λ c. search needs)
-    (λ c. search needs)
-    (λ c κs. search needs)
-    is-bound-requires
-    returns
-    (λ c. search needs)
-    (λ c. search needs)
-    loop-again
-    returns-2)
+    (tie.spec Inv-loop μ-loop (λ c. search scans) (λ c. search needs) (λ c. search needs) is-named-bound-requires (λ c. search scans) (λ c. search needs) (λ c. search needs) (λ c. search scans) (λ c. search scans))

@@ -1,15 +1,16 @@
--- Laws of `all`: what a scan that stops at the first entry that fails has found.
-use mathlib.Core.Path.{_≡_, refl, sym, _∙_}
+-- Laws of `all` and `every`.
+use mathlib.Core.Path.{_≡_, refl, sym, ap, _∙_}
 use mathlib.Core.Logic.{⊎-elim}
-use mathlib.Core.Bool.{Bool, true, false, not, _&&_}
-use borrow.Author.Tests.{not-true, not-false}
-use Prim.Native.Nat.{ℕ, zero, suc, _+_, _≤_, _<_}
+use mathlib.Core.Bool.{Bool, true, false, _&&_, and-true, and-assoc}
+use mathlib.Core.List.{List, [], _∷_, _++_}
+use Prim.Native.Nat.{ℕ, zero, suc, _+_, _<_}
 use native.Mathlib.Nat.{not-suc-le-zero}
 use native.Mathlib.Numerals.{add-one}
 use native.Mathlib.Omega.{arith}
+use lib.ListN.{length, getD}
+use Rattle.seqs.specs.Every.{every, all}
 use Rattle.seqs.proofs.Numbers.{eq-or-ne}
 use Rattle.seqs.proofs.Booleans.{both-true, true-is-not-false}
-use Rattle.checks.specs.Entries.{all}
 
 pub all-none : (f : ℕ → Bool) → all f 0 ≡ true
 unfolding all
@@ -67,12 +68,21 @@ unfolding all
 all-both f g zero = refl
 all-both f g (suc n) = rw (all-both f g n) (four (all f n) (all g n) (f n) (g n))
 
--- a turn that fails, one that does not, and the end
-pub scan-fails : (f : ℕ → Bool) (n i : ℕ) (t : Bool) → i < n → t ≡ f i → not t ≡ true → false ≡ all f n
-scan-fails f n i t l e h = sym (all-fails f n i l (sym e ∙ not-true t h))
+all-first : (f : ℕ → Bool) (n : ℕ) → all f (suc n) ≡ (f 0 && all (λ (i : ℕ). f (suc i)) n)
+unfolding all
+all-first f zero = sym (and-true (f 0))
+all-first f (suc n) = rw (all-first f n) (and-assoc (f 0) (all (λ (i : ℕ). f (suc i)) n) (f (suc n)))
 
-pub scan-goes : (f : ℕ → Bool) (i : ℕ) (t : Bool) → all f i ≡ true → t ≡ f i → not t ≡ false → all f (i + 1) ≡ true
-scan-goes f i t h e k = all-step f i h (sym e ∙ not-false t k)
+-- a list is tested by its indexes
+pub every-all : {A : Type 0} (f : A → Bool) (xs : List A) (d : A) → every f xs ≡ all (λ (i : ℕ). f (getD xs i d)) (length xs)
+unfolding every all
+every-all f [] d = refl
+every-all f (x ∷ xs) d = ap (λ (t : Bool). f x && t) (every-all f xs d) ∙ sym (all-first (λ (i : ℕ). f (getD (x ∷ xs) i d)) (length xs))
 
-pub scan-ends : (f : ℕ → Bool) (n i : ℕ) → i ≤ n → n ≤ i → all f i ≡ true → true ≡ all f n
-scan-ends f n i h l e = let same : i ≡ n = omega arith in sym (rw same at e)
+pub every-at : {A : Type 0} (f : A → Bool) (xs : List A) (d : A) → every f xs ≡ true → (i : ℕ) → i < length xs → f (getD xs i d) ≡ true
+every-at f xs d h i k = all-at (λ (j : ℕ). f (getD xs j d)) (length xs) i (sym (every-all f xs d) ∙ h) k
+
+pub every-append : {A : Type 0} (f : A → Bool) (xs ys : List A) → every f (xs ++ ys) ≡ (every f xs && every f ys)
+unfolding every
+every-append f [] ys = refl
+every-append f (x ∷ xs) ys = rw (every-append f xs ys) (sym (and-assoc (f x) (every f xs) (every f ys)))

@@ -1,23 +1,23 @@
--- `is_bound` meets its contract: none of the labels passed is bound.
+-- `is_any_bound` meets its contract: none of the labels passed is bound.
 use mathlib.Core.Path.{_≡_, refl, sym}
 use mathlib.Core.Bool.{false}
 use Prim.Native.Nat.{_-_, _≤_}
 use native.Mathlib.Omega.{arith}
 use borrow.Author.Tests.{eq-eqb, ne-eqb}
-use Rattle.pool.specs.Pool.{poolIsBound}
+use Rattle.pool.specs.Pool.{isAnyBound}
 use Rattle.pool.proofs.Pool.{one-bound, none-bound}
 use borrow.Author.Needs.{needs}
-use Rattle.pool.proofs.is_bound.Statement.{statement}
-use Rattle.pool.proofs.is_bound.Tie as tie
+use Rattle.pool.proofs.is_any_bound.Statement.{statement}
+use Rattle.pool.proofs.is_any_bound.Tie as tie
 
 abbrev Inv-loop : tie.InvT-loop
-Inv-loop labels constants asked n j₀ j = (j ≤ n) × (poolIsBound labels constants asked j ≡ false)
+Inv-loop labels constants asked n j₀ j = (j ≤ n) × (isAnyBound labels constants asked j ≡ false)
 
 abbrev μ-loop : tie.MeasureT-loop
 μ-loop labels constants asked n j₀ j = n - j
 
 loop-holds : tie.Need-loop-holds Inv-loop μ-loop
-unfolding poolIsBound
+unfolding isAnyBound
 loop-holds c = (omega arith, refl)
 
 label-at-requires : tie.Need-label-at-requires Inv-loop μ-loop
@@ -51,8 +51,8 @@ returns-2 c =
     let start : tie.Start Inv-loop μ-loop = search in
     let all : at-loop .loop .j ≡ start .args .n = omega arith in sym (rw all at (at-loop .loop .inv .1))
 
-pub is-bound-spec : {M : Type 1} → statement M
-is-bound-spec =
+pub is-any-bound-spec : {M : Type 1} → statement M
+is-any-bound-spec =
     tie.close
     (tie.spec
     Inv-loop
