@@ -15,7 +15,7 @@ use Rattle.fresh.specs.Pooled.{pooled}
 use Rattle.finish.specs.declared.Finished.{Finished}
 use Rattle.finish.specs.Refusals.{allBound, whyUnfit}
 use Rattle.finish.specs.Finish.{overWords, Left, placedBy, finish}
-use Rattle.finish.proofs.Finishing.{LeftAlone, stages-refused}
+use Rattle.finish.proofs.WholeFinish.{LeftAlone, stages-refused}
 use Rattle.demands.specs.Demand1.{Unchanged}
 
 picks : (Q : Finished × Left → Type 0) (s t : Bool) (x y z : Finished × Left) → x .0 .refusal ≡ 0 → (t ≡ false → Q y) → Q z

@@ -24,7 +24,7 @@ use Rattle.fresh.proofs.Fill.{built-assembled, labels-same}
 use Rattle.fresh.proofs.Demand.{demand3}
 use Rattle.fresh.specs.Forms.{moves}
 use Rattle.finish.specs.Finish.{bytesOfAll, overWords, finish}
-use Rattle.finish.proofs.Mapped.{word-over, map-entries}
+use Rattle.finish.proofs.MappedTables.{word-over, map-entries}
 use Rattle.demands.specs.Demand2.{finishedCode}
 use Rattle.demands.proofs.Relaxing.{Fitting}
 use Rattle.demands.proofs.Answers.{finish-answered}

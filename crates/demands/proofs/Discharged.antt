@@ -46,8 +46,8 @@ use Rattle.finish.specs.Ready.{Landed, Ready}
 use Rattle.seqs.proofs.Every.{every-at}
 use Rattle.seqs.specs.Every.{every}
 use Rattle.finish.specs.Refusals.{isBound, jumpBound, relocBound, allBound, refClear, refReaches, useRefusal, usesRefusal}
-use Rattle.finish.proofs.Sounds.{tied, offsets-small, pooled-is, ready}
-use Rattle.finish.proofs.Formed.{AtTable, AtPool, event-at, ref-apart, pooled-length, well-formed, recorded-writes}
+use Rattle.finish.proofs.SoundRecording.{tied, offsets-small, pooled-is, ready}
+use Rattle.finish.proofs.PooledInOrder.{AtTable, AtPool, event-at, ref-apart, pooled-length, well-formed, recorded-writes}
 use Rattle.demands.specs.Demand2 as demand
 use Rattle.demands.specs.Demand2.{Bytes, useOf, refOf, constantOf}
 use Rattle.demands.proofs.Bytes.{bytes-take, bytes-pooled}

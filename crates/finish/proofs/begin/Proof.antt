@@ -4,9 +4,9 @@ use native.Mathlib.Omega.{arith}
 use borrow.Author.Needs.{needs}
 use Rattle.seqs.proofs.Booleans.{true-is-not-false}
 use Rattle.checks.specs.Lent.{recordingOf}
-use Rattle.finish.proofs.Sounds.{pool-fits, pool-labels}
-use Rattle.finish.proofs.Fit.{asked-few, sound, passed-unfit}
-use Rattle.finish.proofs.Finishing.{placeable, finish-unfit, finish-concluded}
+use Rattle.finish.proofs.SoundRecording.{pool-fits, pool-labels}
+use Rattle.finish.proofs.FitOrRefused.{asked-few, sound, passed-unfit}
+use Rattle.finish.proofs.WholeFinish.{placeable, finish-unfit, finish-concluded}
 use Rattle.finish.proofs.begin.Statement.{statement}
 use Rattle.finish.proofs.begin.Tie as tie
 

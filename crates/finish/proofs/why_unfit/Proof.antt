@@ -4,8 +4,8 @@ use mathlib.Core.Bool.{true, false}
 use native.Mathlib.Omega.{arith}
 use borrow.Author.Tests.{not-true, not-false}
 use Rattle.checks.specs.Lent.{recordingOf}
-use Rattle.finish.proofs.Sounds.{pool-fits, pool-labels}
-use Rattle.finish.proofs.Fit.{counts, code-fits, asked-few, sound, entries-read, unfit-standing, unfit-entries, unfit-bound, unfit-long, unfit-none}
+use Rattle.finish.proofs.SoundRecording.{pool-fits, pool-labels}
+use Rattle.finish.proofs.FitOrRefused.{counts, code-fits, asked-few, sound, entries-read, unfit-standing, unfit-entries, unfit-bound, unfit-long, unfit-none}
 use borrow.Author.Needs.{needs}
 use Rattle.finish.proofs.why_unfit.Statement.{statement}
 use Rattle.finish.proofs.why_unfit.Tie as tie

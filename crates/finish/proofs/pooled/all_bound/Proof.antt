@@ -1,6 +1,6 @@
 -- `all_bound` meets its contract.
 use native.Mathlib.Omega.{arith}
-use Rattle.finish.proofs.Handed.{uses-named, refs-named, targets-named, jumps-named}
+use Rattle.finish.proofs.RelaxedRequires.{uses-named, refs-named, targets-named, jumps-named}
 use borrow.Author.Needs.{needs}
 use Rattle.finish.proofs.pooled.all_bound.Statement.{statement}
 use Rattle.finish.proofs.pooled.all_bound.Tie as tie

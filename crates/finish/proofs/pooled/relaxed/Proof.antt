@@ -1,7 +1,7 @@
 -- `relaxed` meets its contract: it lends `relax_and_write` a mark for each event.
 mod Tie
 use native.Mathlib.Omega.{arith}
-use Rattle.finish.proofs.Stages.{few, marks-short}
+use Rattle.finish.proofs.StageAnswers.{few, marks-short}
 use borrow.Author.Needs.{needs}
 use Rattle.finish.proofs.pooled.relaxed.Statement.{statement}
 use Rattle.finish.proofs.pooled.relaxed.Proof.Tie as tie

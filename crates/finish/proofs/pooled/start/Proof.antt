@@ -4,8 +4,8 @@ use native.Mathlib.Omega.{arith}
 use borrow.Author.Needs.{needs}
 use borrow.Author.Tests.{not-true, not-false, eqb-true, eqb-false}
 use Rattle.seqs.proofs.Booleans.{true-is-not-false}
-use Rattle.finish.proofs.Handed.{clearing}
-use Rattle.finish.proofs.Placing.{keepable, placed-unbound, started-refused, starts, placed-kept}
+use Rattle.finish.proofs.RelaxedRequires.{clearing}
+use Rattle.finish.proofs.WithOrWithoutJump.{keepable, placed-unbound, started-refused, starts, placed-kept}
 use Rattle.finish.proofs.pooled.start.Statement.{statement}
 use Rattle.finish.proofs.pooled.start.Tie as tie
 

@@ -2,7 +2,7 @@
 use mathlib.Core.Path.{refl}
 use mathlib.Core.List.{[]}
 use native.Mathlib.Omega.{arith}
-use Rattle.finish.proofs.Stages.{kept-refused, copying, kept-done}
+use Rattle.finish.proofs.StageAnswers.{kept-refused, copying, kept-done}
 use borrow.Author.Needs.{needs}
 use Rattle.finish.proofs.pooled.unrelaxed.Statement.{statement}
 use Rattle.finish.proofs.pooled.unrelaxed.Tie as tie

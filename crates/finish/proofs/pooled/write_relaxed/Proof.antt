@@ -3,7 +3,7 @@ mod Tie
 use mathlib.Core.Path.{_∙_}
 use native.Mathlib.Omega.{arith}
 use borrow.Author.Needs.{needs}
-use Rattle.finish.proofs.Written.{written-in-order}
+use Rattle.finish.proofs.FinishedCode.{written-in-order}
 use Rattle.finish.proofs.pooled.write_relaxed.Statement.{statement}
 use Rattle.finish.proofs.pooled.write_relaxed.Proof.Tie as tie
 

@@ -29,9 +29,9 @@ use Rattle.finish.specs.Refusals.{allBound, whyNotInPlace}
 use Rattle.finish.specs.Finish.{Left, refusedWith, relaxed, unrelaxed}
 use Rattle.finish.specs.Tables.{tablesPooled}
 use Rattle.finish.specs.Ready.{Ready, Relaxable, Keepable, kept, Placeable, pooledOf, placedAs, Starts}
-use Rattle.finish.proofs.Checked.{uses-bound, refs-bound, relocs-bound, jumps-bound, moves-is}
-use Rattle.finish.proofs.Handed.{kind-label}
-use Rattle.finish.proofs.Stages.{refused-early}
+use Rattle.finish.proofs.ScansAgree.{uses-bound, refs-bound, relocs-bound, jumps-bound, moves-is}
+use Rattle.finish.proofs.RelaxedRequires.{kind-label}
+use Rattle.finish.proofs.StageAnswers.{refused-early}
 
 no-entries : {A : Type 0} (f : ℕ → A) (t : Bool) (n : ℕ) → cond t (tables.entries f n) [] ≡ tables.entries f (cond t n 0)
 no-entries f true n = refl

@@ -36,9 +36,9 @@ use Rattle.seqs.specs.Every.{every}
 use Rattle.finish.specs.Refusals.{refClear}
 use Rattle.finish.specs.Tables.{poolPlaced, tablesPooled}
 use Rattle.finish.specs.Ready.{Ready, Keepable, endOfRuns, codeWritten}
-use Rattle.finish.proofs.Formed.{ref-apart, pooled-length, well-formed, constant-size, pool-apart, recorded-ordered}
-use Rattle.finish.proofs.Filled.{uses-filled, refs-filled, jumps-filled, pool-filled}
-use Rattle.finish.proofs.Emission.{pool-runs}
+use Rattle.finish.proofs.PooledInOrder.{ref-apart, pooled-length, well-formed, constant-size, pool-apart, recorded-ordered}
+use Rattle.finish.proofs.FilledFields.{uses-filled, refs-filled, jumps-filled, pool-filled}
+use Rattle.finish.proofs.PooledRuns.{pool-runs}
 
 -- what the code is written from: the tables, the layout of a choice of long jumps, and labels at their new offsets
 pub record Placing (code labels final events refs constants asked : List ℕ) (len count n m f : ℕ) (us : List tables.Use) (c : Choice) (ss : List Segment) : Type 0 where

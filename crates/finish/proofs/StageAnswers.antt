@@ -50,11 +50,11 @@ use Rattle.finish.specs.Refusals.{reachesBy, refReaches, whyNotLaid, why
 use Rattle.finish.specs.Finish.{refusedWith, overWords, relocated, settledSegments, relaxed}
 use Rattle.finish.specs.Tables.{tablesPooled}
 use Rattle.finish.specs.Ready.{Relaxable, Layable, codeWritten, endOfRuns, Writing, codeCopied, Copying, Keepable, kept}
-use Rattle.finish.proofs.Checked.{refs-clear, uses-refused}
-use Rattle.finish.proofs.Handed.{rising-all, within-size, ref-beside, clear-all, formed, table-all, writing, landed-small}
-use Rattle.finish.proofs.Mapped.{word-over, labels-mapped, relocs-mapped, map-entries}
-use Rattle.finish.proofs.Formed.{pooled-length, jump-label}
-use Rattle.finish.proofs.Written.{code-written, kept-length, code-kept}
+use Rattle.finish.proofs.ScansAgree.{refs-clear, uses-refused}
+use Rattle.finish.proofs.RelaxedRequires.{rising-all, within-size, ref-beside, clear-all, formed, table-all, writing, landed-small}
+use Rattle.finish.proofs.MappedTables.{word-over, labels-mapped, relocs-mapped, map-entries}
+use Rattle.finish.proofs.PooledInOrder.{pooled-length, jump-label}
+use Rattle.finish.proofs.FinishedCode.{code-written, kept-length, code-kept}
 
 -- no use is refused where the first refusal is none
 each-reached : (uses labels : List ℕ) (len n : ℕ) → whyUses uses labels len n ≡ 0 → (i : ℕ) → i < n → whyUnreached uses labels len i ≡ 0

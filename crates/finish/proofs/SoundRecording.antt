@@ -19,7 +19,7 @@ use Rattle.pool.specs.Pool.{sizeAt, labelAt, poolOffset, poolBound, PoolFits, P
 use Rattle.pool.proofs.Pool.{Distinct, poolOffset-bound, length-poolBound, poolBound-at, poolBound-other}
 use Rattle.finish.specs.Tables.{tablesPooled}
 use Rattle.finish.specs.Ready.{Ready, pooledOf}
-use Rattle.finish.proofs.Pooling.{Tied, pooledTo-tables}
+use Rattle.finish.proofs.PooledTables.{Tied, pooledTo-tables}
 
 -- a label is that of a constant, or of none
 owner : (constants asked : List ℕ) (l n : ℕ) → ((j : ℕ) × (j < n) × (l ≡ labelAt constants asked j)) ⊎ ((j : ℕ) → j < n → l ≢ labelAt constants asked j)

@@ -31,9 +31,9 @@ use Rattle.finish.specs.declared.Finished.{Finished}
 use Rattle.finish.specs.Refusals.{allBound, whyNotLaid, whyNotWritten, whyNotInPlace, whyUnfit}
 use Rattle.finish.specs.Finish.{overWords, Left, refusedWith, relaxed, unrelaxed, finishedWith, unfinished, placedBy, finish}
 use Rattle.finish.specs.Ready.{Ready, Placeable, pooledOf, placedAs, concluded}
-use Rattle.finish.proofs.Sounds.{pool-distinct, offsets-small, pooled-is, ready}
-use Rattle.finish.proofs.Fit.{limits, asked-few, sound, Passed}
-use Rattle.finish.proofs.Mapped.{set-over-words, over-words-set}
+use Rattle.finish.proofs.SoundRecording.{pool-distinct, offsets-small, pooled-is, ready}
+use Rattle.finish.proofs.FitOrRefused.{limits, asked-few, sound, Passed}
+use Rattle.finish.proofs.MappedTables.{set-over-words, over-words-set}
 
 -- no constant's label is bound
 unbound-at : (labels constants asked : List ℕ) (n : ℕ) → isAnyBound labels constants asked n ≡ false → (j : ℕ) → j < n → wordAt labels (labelAt constants asked j) ≡ none

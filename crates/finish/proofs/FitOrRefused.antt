@@ -23,10 +23,10 @@ use Rattle.checks.specs.Handed.{CountsFit, tables}
 use Rattle.checks.proofs.Sound.{fits-sound, code-unread}
 use Rattle.checks.specs.Lent.{countsFit, withinLimits}
 use Rattle.finish.specs.Refusals.{poolBoundBefore, whyUnfit}
-use Rattle.finish.proofs.Counted.{Counted, counted}
-use Rattle.finish.proofs.Pooling.{Tied}
-use Rattle.finish.proofs.Sounds.{code-length, tied, pooled-is}
-use Rattle.finish.proofs.Checked.{pool-bound}
+use Rattle.finish.proofs.CountsWithinLimits.{Counted, counted}
+use Rattle.finish.proofs.PooledTables.{Tied}
+use Rattle.finish.proofs.SoundRecording.{code-length, tied, pooled-is}
+use Rattle.finish.proofs.ScansAgree.{pool-bound}
 
 module _ (r : Recording) (segments output : ℕ) (stood : standing (r .buffer) (countsFit r) (withinLimits r segments output) ≡ 0) where
   pub limits : Counted r segments output

@@ -42,10 +42,10 @@ use Rattle.seqs.specs.Every.{every}
 use Rattle.finish.specs.Refusals.{refClear}
 use Rattle.finish.specs.Tables.{tablesPooled}
 use Rattle.finish.specs.Ready.{Ready, Entered, Clearing, Writing, endOfRuns}
-use Rattle.finish.proofs.Formed.{recorded-ordered, recorded-modest, recorded-writes, jump-label, offset-lies, ref-apart, constant-size, pooled-length, well-formed, pool-apart}
-use Rattle.finish.proofs.Checked.{refs-clear}
-use Rattle.finish.proofs.Written.{any·ref, start-segment}
-use Rattle.finish.proofs.Emission.{PoolRuns, pool-runs}
+use Rattle.finish.proofs.PooledInOrder.{recorded-ordered, recorded-modest, recorded-writes, jump-label, offset-lies, ref-apart, constant-size, pooled-length, well-formed, pool-apart}
+use Rattle.finish.proofs.ScansAgree.{refs-clear}
+use Rattle.finish.proofs.FinishedCode.{any·ref, start-segment}
+use Rattle.finish.proofs.PooledRuns.{PoolRuns, pool-runs}
 
 -- the events as a layout is handed them
 pub recorded : {code labels events constants asked : List ℕ} {arch len count n m : ℕ} → Ready code labels events constants asked arch len count n m → Recorded events n len
