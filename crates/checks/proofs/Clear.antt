@@ -11,11 +11,11 @@ use lib.Dec.{leb}
 use Rattle.seqs.proofs.Numbers.{lt-or-ge, eq-or-ne}
 use Rattle.recording.specs.Sound.{startAt, endAt}
 use Rattle.words.specs.Words.{wordAt}
-use Rattle.pool.specs.Pool.{sizeAt, labelAt, poolStart, poolOffset}
+use Rattle.pool.specs.steps.Pool.{sizeAt, labelAt, poolStart, poolOffset}
 use Rattle.seqs.specs.Every.{all}
 use Rattle.checks.specs.Entries.{outside}
-use Rattle.checks.specs.Fields.{clearOfEvents, clearOfPool}
-use Rattle.checks.specs.Search.{Ordered, Before, Placed}
+use Rattle.checks.specs.steps.Fields.{clearOfEvents, clearOfPool}
+use Rattle.checks.specs.steps.Search.{Ordered, Before, Placed}
 use Rattle.seqs.proofs.Every.{all-of, all-fails, all-same}
 
 module _ (start end : ℕ → ℕ) where

@@ -18,7 +18,7 @@ use Rattle.buffer.specs.Tables.{mostEntries, constantSize}
 use Rattle.recording.specs.Sound.{labelOf}
 use Rattle.seqs.specs.Every.{all}
 use Rattle.checks.specs.Entries.{askedFits, askedOnce, isAsked, orderFits}
-use Rattle.checks.specs.Handed.{occurs, Marks, Labelled, askedLabel, newAt, unlabelledOr}
+use Rattle.checks.specs.steps.Handed.{occurs, Marks, Labelled, askedLabel, newAt, unlabelledOr}
 use Rattle.seqs.proofs.Every.{all-same, all-both}
 
 marks-none : (marks : List Bool) (f : ℕ → ℕ) → length marks ≡ mostEntries → ((k : ℕ) → k < mostEntries → getD marks k false ≡ false) → Marks marks f 0

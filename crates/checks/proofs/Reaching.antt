@@ -28,8 +28,9 @@ use Rattle.fields.specs.declared.LabelUse.the-variants.{
 }
 use Rattle.relax.specs.Events.{eventWords}
 use Rattle.buffer.specs.Tables.{refWords, relocWords}
-use Rattle.pool.specs.Pool.{poolStart}
-use Rattle.checks.specs.Fields.{isBoundAt, jumpBound, targetBound, sizeOf, clearOfEvents, clearOfPool, refClear, whyUnreached, whyUses}
+use Rattle.pool.specs.steps.Pool.{poolStart}
+use Rattle.fields.specs.Kinds.{sizeOf}
+use Rattle.checks.specs.steps.Fields.{isBoundAt, jumpBound, targetBound, clearOfEvents, clearOfPool, refClear, whyUnreached, whyUses}
 
 pub jump-none : (events labels : List ℕ) (i kind : ℕ) → kind ≡ wordAt events (i * eventWords) → kind ≢ 1 → true ≡ jumpBound events labels i
 jump-none events labels i kind e h = rw (ne-eqb (wordAt events (i * eventWords)) 1 (λ (q : wordAt events (i * eventWords) ≡ 1). h (e ∙ q)))

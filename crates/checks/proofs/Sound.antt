@@ -5,7 +5,7 @@ use Rattle.seqs.proofs.Booleans.{both-true}
 use Rattle.recording.specs.Calls.{Recording}
 use Rattle.recording.specs.Sound.{CodeSound, Sound}
 use Rattle.checks.specs.Entries.{eventsFit, labelsFit, usesFit, refsFit, relocsFit, constantsFit, orderFits, entriesFit}
-use Rattle.checks.specs.Handed.{CountsFit, tables}
+use Rattle.checks.specs.steps.Handed.{CountsFit, tables}
 use Rattle.checks.proofs.SoundEvents.{events-sound, events-fit}
 use Rattle.checks.proofs.SoundTables.{
   labels-sound,

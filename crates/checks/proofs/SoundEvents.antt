@@ -20,7 +20,7 @@ use Rattle.buffer.specs.Refusals.{isAlignment, lastEnd}
 use Rattle.recording.specs.Sound.{startAt, endAt, FormOf, EventSound, EventsSound}
 use Rattle.seqs.specs.Every.{all}
 use Rattle.checks.specs.Entries.{formFits, eventFits, keptOnly, eventsFit}
-use Rattle.checks.specs.Search.{Ordered}
+use Rattle.checks.specs.steps.Search.{Ordered}
 use Rattle.seqs.proofs.Every.{all-at, all-of}
 
 -- `&&` and `||`

@@ -21,7 +21,7 @@ use Rattle.recording.specs.Sound.{startAt, endAt, labelOf, LabelSound, LabelsSo
 use Rattle.recording.proofs.Tables.{known-target}
 use Rattle.seqs.specs.Every.{all}
 use Rattle.checks.specs.Entries.{outside, labelFits, labelsFit, useFits, usesFit, refFits, refsFit, relocFits, relocsFit, constantFits, constantsFit, askedFits, askedOnce, isAsked, orderFits}
-use Rattle.checks.specs.Handed.{Labelled, newAt}
+use Rattle.checks.specs.steps.Handed.{Labelled, newAt}
 use Rattle.seqs.proofs.Every.{all-at, all-of, all-not, all-fails}
 use Rattle.checks.proofs.SoundEvents.{and-by, or-by, or-first, or-second, kept, keeps}
 

@@ -1,5 +1,3 @@
 pub mod Lent
 pub mod Entries
-pub mod Fields
-pub mod Search
-pub mod Handed
+pub mod steps

@@ -9,8 +9,8 @@ ghost use Rattle.seqs.specs.Every.{all};
 ghost use Rattle.relax.specs.Events.{eventSize};
 ghost use Rattle.buffer.specs.Tables.{labelSize, useSize, refSize, constantSize, askedSize, relocSize};
 ghost use Rattle.checks.specs.Entries.{formFits, eventFits, keptOnly, eventsFit, outside, labelFits, labelsFit, useFits, usesFit, refFits, refsFit, relocFits, relocsFit, constantFits, constantsFit, orderFits, entriesFit};
-ghost use Rattle.checks.specs.Search.{Ordered};
-ghost use Rattle.checks.specs.Handed.{CountsFit, tables, Labelled, askedLabel, Marks, newAt, unlabelledOr};
+ghost use Rattle.checks.specs.steps.Search.{Ordered};
+ghost use Rattle.checks.specs.steps.Handed.{CountsFit, tables, Labelled, askedLabel, Marks, newAt, unlabelledOr};
 use buffer::CodeBuffer;
 
 // A jump has 2 to 15 bytes, a known label, and a condition up to 16; an alignment is on a power of two up to 4,096, with the least padding.

@@ -10,10 +10,12 @@ ghost use Rattle.buffer.specs.Tables.{labelSize, useSize, refSize, relocWords, 
 ghost use Rattle.recording.specs.View.{entries};
 ghost use Rattle.recording.specs.Sound.{startAt, endAt};
 ghost use Rattle.fresh.specs.Forms.{isMoving, moves};
-ghost use Rattle.pool.specs.Pool.{poolStart};
-ghost use Rattle.checks.specs.Fields.{isBoundAt, jumpBound, targetBound, usesBound, refsBound, jumpsBound, relocsBound, sizeOf, refClear, refsClear, reachOf, whyUnreached, whyUses};
-ghost use Rattle.checks.specs.Search.{Ordered, Placed};
-ghost use Rattle.checks.specs.Handed.{useLabel, refLabel, Named, JumpsNamed, TargetsNamed};
+ghost use Rattle.pool.specs.steps.Pool.{poolStart};
+ghost use Rattle.fields.specs.Kinds.{sizeOf};
+ghost use Rattle.fields.specs.Reach.{reachOf};
+ghost use Rattle.checks.specs.steps.Fields.{isBoundAt, jumpBound, targetBound, usesBound, refsBound, jumpsBound, relocsBound, refClear, refsClear, whyUnreached, whyUses};
+ghost use Rattle.checks.specs.steps.Search.{Ordered, Placed};
+ghost use Rattle.checks.specs.steps.Handed.{useLabel, refLabel, Named, JumpsNamed, TargetsNamed};
 use relax::LayoutEvent;
 
 // Whether a label is bound.

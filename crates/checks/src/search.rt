@@ -7,9 +7,9 @@ ghost use Rattle.recording.specs.Sound.{startAt, endAt};
 ghost use Rattle.words.specs.Words.{wordAt};
 ghost use Rattle.relax.specs.Events.{eventSize};
 ghost use Rattle.buffer.specs.Tables.{labelSize, constantSize, askedSize};
-ghost use Rattle.pool.specs.Pool.{labelAt, poolStart};
-ghost use Rattle.checks.specs.Fields.{clearOfEvents, clearOfPool};
-ghost use Rattle.checks.specs.Search.{Ordered, Before, Placed};
+ghost use Rattle.pool.specs.steps.Pool.{labelAt, poolStart};
+ghost use Rattle.checks.specs.steps.Fields.{clearOfEvents, clearOfPool};
+ghost use Rattle.checks.specs.steps.Search.{Ordered, Before, Placed};
 
 fn start_at(events: &[u8], j: usize) -> u64
     requires { ⌜ j * eventSize + eventSize ≤ length (now events) ⌝ }

@@ -16,7 +16,7 @@ use Rattle.fields.specs.Patch.{patched, patchedUse, heldAddend}
 use Rattle.buffer.specs.Tables.{refWords}
 use Rattle.fresh.specs.Fill.{part, fillField, fillUse}
 use Rattle.fresh.proofs.Past.{length-patched}
-use Rattle.emit.specs.Emit.{Within, refFilled}
+use Rattle.emit.specs.steps.Emit.{Within, refFilled}
 
 part-length : (xs : List ℕ) (at k : ℕ) → at + k ≤ length xs → length (take k (drop at xs)) ≡ k
 part-length xs at k h = simp (length-take, length-drop) (omega arith)

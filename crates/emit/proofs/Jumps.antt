@@ -16,7 +16,7 @@ use Rattle.fresh.specs.Forms.{shortForm, longForm, form, width}
 use Rattle.encoder.specs.Padding.{paddingLength}
 use Rattle.buffer.specs.Calls.{padding}
 use Rattle.fresh.proofs.Forms.{length-form}
-use Rattle.emit.specs.Emit.{jumpForm, Encodes, Writes}
+use Rattle.emit.specs.steps.Emit.{jumpForm, Encodes, Writes}
 
 -- the opcodes of the long conditional jumps
 abbrev pub rows : List (List ℕ)

@@ -19,13 +19,14 @@ use Rattle.fresh.specs.Forms.{form, width}
 use Rattle.fresh.specs.Fresh.{isLong, others}
 use Rattle.fresh.specs.Segments.{segment, segments}
 use Rattle.fresh.specs.Fill.{part}
-use Rattle.fresh.proofs.Shape.{Ordered, formAt, runs, Cursor, after, segmentAt, runsTo}
+use Rattle.fresh.specs.Order.{Ordered}
+use Rattle.fresh.specs.steps.Runs.{formAt, runs, Cursor, after, segmentAt, runsTo}
 use Rattle.fresh.proofs.Loops.{length-segments, segments-getD, after-suc, runsTo-suc, runs-all, length-runsTo, length-runs, after-start, after-mono}
 use Rattle.fresh.proofs.Events.{ordered-le}
 use Rattle.fresh.proofs.Forms.{length-form}
 use Rattle.recording.proofs.Views.{length-entries, getD-entries}
-use Rattle.layout.specs.Layout.{zeroSegment}
-use Rattle.emit.specs.Emit.{Emits}
+use Rattle.layout.specs.steps.Layout.{zeroSegment}
+use Rattle.emit.specs.steps.Emit.{Emits}
 
 -- lists
 drop-take : (o n : ℕ) (l : List ℕ) → drop o (take n l) ≡ take (n - o) (drop o l)

@@ -13,7 +13,7 @@ use Rattle.words.proofs.Laws.{wordAt-other}
 use Rattle.relax.specs.declared.Segment.{Segment}
 use Rattle.relax.specs.Events.{eventAt}
 use Rattle.fresh.specs.Fill.{fillJump}
-use Rattle.emit.specs.Emit.{useFilled, usesFilled, refAt, refFilled, refsFilled, jumpsFilled, startAt, mappedWords}
+use Rattle.emit.specs.steps.Emit.{useFilled, usesFilled, refAt, refFilled, refsFilled, jumpsFilled, startAt, mappedWords}
 
 pub uses-turn : (output uses labels : List ℕ) (i : ℕ) (now next : List ℕ) → now ≡ usesFilled output uses labels i → next ≡ useFilled uses labels i now
     → next ≡ usesFilled output uses labels (i + 1)

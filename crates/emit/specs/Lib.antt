@@ -1,1 +1,1 @@
-pub mod Emit
+pub mod steps

@@ -91,3 +91,9 @@ lastCode = 16
 
 unfoldable pub decoded : ℕ → Decoded
 decoded code = getD codes code Unknown
+
+-- the size of the field that a code stands for; 0 where it stands for none
+abbrev pub sizeOf : Decoded → ℕ
+sizeOf (Use k) = patchSize k
+sizeOf Unsupported = 0
+sizeOf Unknown = 0

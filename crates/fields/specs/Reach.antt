@@ -6,6 +6,8 @@ use Rattle.refusals.specs.Numbers as refusals
 use Rattle.fields.specs.Words64.{minus, range}
 use Rattle.fields.specs.Kinds.{info}
 use Rattle.fields.specs.declared.LabelUse.{LabelUse}
+use Rattle.fields.specs.declared.Decoded.{Decoded}
+use Rattle.fields.specs.declared.Decoded.the-variants.{Use, Unsupported, Unknown}
 
 -- d is a multiple of 4, where that is asked
 abbrev pub multiple : Bool → ℕ → Bool
@@ -35,3 +37,9 @@ reachRefusal k offset label =
     cond (canReach k offset label) 0
     (cond (info k .branch) refusals.branchOutOfReach
     (cond (ltb label offset) refusals.labelTooFarBack refusals.labelTooFarAhead))
+
+-- the same of what a code stands for
+abbrev pub reachOf : Decoded → ℕ → ℕ → ℕ
+reachOf (Use k) offset label = reachRefusal k offset label
+reachOf Unsupported offset label = 0
+reachOf Unknown offset label = 0

@@ -24,9 +24,9 @@ use Rattle.fresh.proofs.Choices.{isLong-getD, others-getD, firstStart-getD, oth
 use Rattle.fresh.specs.Forms.{Branch, branches, roleOf}
 use Rattle.fresh.proofs.Fill.{fillJump-pads, fillJump-branch}
 use Rattle.fresh.proofs.Tests.{by-role}
-use Rattle.pool.specs.Pool.{labelAt, poolOffset, poolEvent, poolWritten}
-use Rattle.emit.specs.Emit.{usesFilled, refsFilled, jumpsFilled, startAt}
-use Rattle.finish.specs.Tables.{poolPlaced}
+use Rattle.pool.specs.steps.Pool.{labelAt, poolOffset, poolEvent, poolWritten}
+use Rattle.emit.specs.steps.Emit.{usesFilled, refsFilled, jumpsFilled, startAt}
+use Rattle.finish.specs.steps.Tables.{poolPlaced}
 
 fillRefs-more : (at : ℕ → ℕ) (labels : List ℕ) (rs : List tables.Ref) (f : tables.Ref) (l : List ℕ)
     → fillRefs at labels (rs ++ (f ∷ [])) l

@@ -22,20 +22,21 @@ use Rattle.fresh.specs.Pooled.{Placed, Pooled}
 use Rattle.fresh.specs.Fresh.{Choice}
 use Rattle.fresh.specs.Segments.{mapOffset, segmentsOf}
 use Rattle.fresh.specs.Fill.{assembled, inPlace, fill, fillRefs, fillJumps, fillUses}
-use Rattle.fresh.proofs.Shape.{Apart, WellFormed, newStarts, runs}
+use Rattle.fresh.specs.Order.{Apart, WellFormed}
+use Rattle.fresh.specs.steps.Runs.{newStarts, runs}
 use Rattle.fresh.proofs.Fill.{built-assembled, length-built}
 use Rattle.fresh.proofs.Past.{built-past, inPlace-past}
 use Rattle.fresh.specs.Forms.{Branch, branches, roleOf}
-use Rattle.pool.specs.Pool.{labelAt, poolStart, poolOffset, poolBytes, poolWritten}
+use Rattle.pool.specs.steps.Pool.{labelAt, poolStart, poolOffset, poolBytes, poolWritten}
 use Rattle.pool.proofs.Pool.{poolStart-bound, length-poolBytes, poolStart-suc, poolStart-grows}
-use Rattle.layout.specs.Layout.{zeroSegment}
-use Rattle.emit.specs.Emit.{usesFilled, refsFilled, jumpsFilled, startAt}
-use Rattle.checks.specs.Fields.{sizeOf}
+use Rattle.layout.specs.steps.Layout.{zeroSegment}
+use Rattle.emit.specs.steps.Emit.{usesFilled, refsFilled, jumpsFilled, startAt}
+use Rattle.fields.specs.Kinds.{sizeOf}
 use Rattle.seqs.proofs.Every.{every-at}
 use Rattle.seqs.specs.Every.{every}
 use Rattle.finish.specs.Refusals.{refClear}
-use Rattle.finish.specs.Tables.{poolPlaced, tablesPooled}
-use Rattle.finish.specs.Ready.{Ready, Keepable, endOfRuns, codeWritten}
+use Rattle.finish.specs.steps.Tables.{poolPlaced, tablesPooled}
+use Rattle.finish.specs.steps.Ready.{Ready, Keepable, endOfRuns, codeWritten}
 use Rattle.finish.proofs.PooledInOrder.{ref-apart, pooled-length, well-formed, constant-size, pool-apart, recorded-ordered}
 use Rattle.finish.proofs.FilledFields.{uses-filled, refs-filled, jumps-filled, pool-filled}
 use Rattle.finish.proofs.PooledRuns.{pool-runs}

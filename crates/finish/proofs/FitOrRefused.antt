@@ -16,10 +16,10 @@ use Rattle.recording.specs.Calls.{Recording}
 use Rattle.recording.specs.Sound.{CodeSound, Sound}
 use Rattle.recording.specs.View.{view}
 use Rattle.fresh.specs.Pooled.{Pooled, pooled}
-use Rattle.pool.specs.Pool.{poolStart, poolBytes, isAnyBound}
+use Rattle.pool.specs.steps.Pool.{poolStart, poolBytes, isAnyBound}
 use Rattle.pool.proofs.Pool.{length-poolBytes}
 use Rattle.checks.specs.Entries.{entriesFit}
-use Rattle.checks.specs.Handed.{CountsFit, tables}
+use Rattle.checks.specs.steps.Handed.{CountsFit, tables}
 use Rattle.checks.proofs.Sound.{fits-sound, code-unread}
 use Rattle.checks.specs.Lent.{countsFit, withinLimits}
 use Rattle.finish.specs.Refusals.{poolBoundBefore, whyUnfit}

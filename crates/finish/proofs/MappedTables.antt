@@ -13,7 +13,7 @@ use Rattle.words.proofs.Laws.{wordAt-same, wordAt-other}
 use Rattle.recording.specs.View.{entries}
 use Rattle.recording.proofs.Views.{length-entries}
 use Rattle.fresh.proofs.Past.{over-front}
-use Rattle.emit.specs.Emit.{mappedWords}
+use Rattle.emit.specs.steps.Emit.{mappedWords}
 use Rattle.finish.specs.Finish.{bytesOfAll, overWords, relocated}
 
 bytesOfAll-more : (ws : List ℕ) (w : ℕ) → bytesOfAll (ws ++ (w ∷ [])) ≡ bytesOfAll ws ++ bytesOf w

@@ -24,20 +24,21 @@ use Rattle.recording.specs.Sound.{startAt, endAt, LabelSound, FormOf, EventsSou
 use Rattle.recording.specs.View.{entries, Use, Ref}
 use Rattle.recording.proofs.Views.{length-entries, getD-entries}
 use Rattle.fresh.specs.Pooled.{Pooled}
-use Rattle.fresh.proofs.Shape.{Ordered, Clear, Lies, Apart, WellFormed, Small, Modest}
+use Rattle.fresh.specs.Order.{Ordered, Clear, Lies, Apart, WellFormed}
+use Rattle.fresh.specs.steps.Runs.{Small, Modest}
 use Rattle.fresh.proofs.Entries.{clear-of, ordered-of, apart-lies, refs-lie, pool-lies, modest-of}
 use Rattle.fresh.specs.Forms.{Branch, pads, branches, branchOf, roleOf}
-use Rattle.pool.specs.Pool.{sizeAt, bytesAt, poolStart, poolOffset, poolEvent, poolBytes, PoolFits}
+use Rattle.pool.specs.steps.Pool.{sizeAt, bytesAt, poolStart, poolOffset, poolEvent, poolBytes, PoolFits}
 use Rattle.pool.proofs.Pool.{length-poolBytes, poolStart-grows, from-poolStart, poolStart-suc, poolOffset-bound}
 use Rattle.fields.specs.Kinds.{decoded}
 use Rattle.buffer.specs.Tables.{constantSize, constantHead}
-use Rattle.emit.specs.Emit.{Encodes, Writes}
-use Rattle.checks.specs.Fields.{sizeOf}
+use Rattle.emit.specs.steps.Emit.{Encodes, Writes}
+use Rattle.fields.specs.Kinds.{sizeOf}
 use Rattle.seqs.proofs.Every.{every-at}
 use Rattle.seqs.specs.Every.{every}
 use Rattle.finish.specs.Refusals.{refClear}
-use Rattle.finish.specs.Tables.{poolPlaced, tablesPooled}
-use Rattle.finish.specs.Ready.{Landed, Ready}
+use Rattle.finish.specs.steps.Tables.{poolPlaced, tablesPooled}
+use Rattle.finish.specs.steps.Ready.{Landed, Ready}
 
 -- the events of the table follow one another within the code
 pub recorded-ordered : (events : List ℕ) (n labels len arch : ℕ) → EventsSound events n labels len arch → Ordered 0 len (entries (eventAt events) n)

@@ -14,11 +14,12 @@ use Rattle.recording.specs.View.{entries}
 use Rattle.fresh.specs.Forms.{form, width}
 use Rattle.fresh.specs.Fresh.{Choice, isLong, others}
 use Rattle.fresh.specs.Segments.{segment}
-use Rattle.fresh.proofs.Shape.{Ordered, formAt, runs, after}
+use Rattle.fresh.specs.Order.{Ordered}
+use Rattle.fresh.specs.steps.Runs.{formAt, runs, after}
 use Rattle.fresh.proofs.Choices.{isLong-getD, others-getD}
 use Rattle.fresh.proofs.Events.{ordered-le}
 use Rattle.fresh.proofs.Loops.{length-runs}
-use Rattle.pool.specs.Pool.{sizeAt, poolStart, poolPadding, poolEvent, poolBytes}
+use Rattle.pool.specs.steps.Pool.{sizeAt, poolStart, poolPadding, poolEvent, poolBytes}
 use Rattle.pool.proofs.Pool.{length-poolBytes, poolStart-suc}
 use Rattle.layout.proofs.Pooling.{ordered-snoc}
 use Rattle.layout.proofs.Turns.{after-snoc}

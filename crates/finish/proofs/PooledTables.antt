@@ -13,9 +13,9 @@ use Rattle.buffer.specs.Tables.{labelSize}
 use Rattle.recording.specs.View.{entries, View}
 use Rattle.recording.proofs.Views.{word-set}
 use Rattle.fresh.specs.Pooled.{Pooled, pooledOne, askedConstant, pooledTo}
-use Rattle.pool.specs.Pool.{sizeAt, labelAt, bytesAt, poolStart, poolPadding, poolOffset, poolEvent, poolBytes, poolBound}
+use Rattle.pool.specs.steps.Pool.{sizeAt, labelAt, bytesAt, poolStart, poolPadding, poolOffset, poolEvent, poolBytes, poolBound}
 use Rattle.pool.proofs.Pool.{length-poolBytes, length-poolBound}
-use Rattle.finish.specs.Tables.{poolPlaced, tablesPooled}
+use Rattle.finish.specs.steps.Tables.{poolPlaced, tablesPooled}
 
 -- what ties the tables to the view: of each of the first n constants asked for, its entry, its size, its label's place, and an offset of 32 bits
 pub record Tied (v : View) (labels constants asked : List ℕ) (count n : ℕ) : Type 0 where

@@ -24,24 +24,26 @@ use Rattle.recording.proofs.Views.{length-entries, getD-entries}
 use Rattle.fresh.specs.Pooled.{Pooled}
 use Rattle.fresh.specs.Fresh.{Choice, isLong, others}
 use Rattle.fresh.specs.Segments.{segment, segments, decided, mapOffset, segmentsOf}
-use Rattle.fresh.proofs.Shape.{Apart, Ordered, RefsLie, PoolLies, WellFormed, runs, newStarts}
+use Rattle.fresh.specs.Order.{Apart, Ordered, RefsLie, PoolLies, WellFormed}
+use Rattle.fresh.specs.steps.Runs.{runs, newStarts}
 use Rattle.fresh.proofs.Segments.{placed-runs, length-placed}
 use Rattle.fresh.proofs.Loops.{length-runs}
 use Rattle.fresh.proofs.Within.{mapped-within, field-within}
 use Rattle.fresh.specs.Forms.{roleOf}
-use Rattle.pool.specs.Pool.{labelAt, bytesAt, poolStart, poolOffset, poolEvent, PoolRoom, pooledBound}
+use Rattle.pool.specs.steps.Pool.{labelAt, bytesAt, poolStart, poolOffset, poolEvent, PoolRoom, pooledBound}
 use Rattle.pool.proofs.Pool.{from-poolStart, poolStart-bound, poolOffset-bound}
-use Rattle.layout.specs.Layout.{allEvents, finishedLength, Recorded, Rising, Labelled}
+use Rattle.layout.specs.steps.Layout.{allEvents, finishedLength, Recorded, Rising, Labelled}
 use Rattle.layout.proofs.Pooling.{all-ordered, all-modest, length-all}
 use Rattle.layout.proofs.Table.{table-laid, rising-laid}
-use Rattle.emit.specs.Emit.{Within, startAt, RefsFit, RefsKnown, JumpsFit, WordsFit}
-use Rattle.checks.specs.Fields.{sizeOf, refsClear}
-use Rattle.checks.specs.Handed.{useLabel, refLabel, Named, JumpsNamed, TargetsNamed}
+use Rattle.emit.specs.steps.Emit.{Within, startAt, RefsFit, RefsKnown, JumpsFit, WordsFit}
+use Rattle.fields.specs.Kinds.{sizeOf}
+use Rattle.checks.specs.steps.Fields.{refsClear}
+use Rattle.checks.specs.steps.Handed.{useLabel, refLabel, Named, JumpsNamed, TargetsNamed}
 use Rattle.seqs.proofs.Every.{every-at}
 use Rattle.seqs.specs.Every.{every}
 use Rattle.finish.specs.Refusals.{refClear}
-use Rattle.finish.specs.Tables.{tablesPooled}
-use Rattle.finish.specs.Ready.{Ready, Entered, Clearing, Writing, endOfRuns}
+use Rattle.finish.specs.steps.Tables.{tablesPooled}
+use Rattle.finish.specs.steps.Ready.{Ready, Entered, Clearing, Writing, endOfRuns}
 use Rattle.finish.proofs.PooledInOrder.{recorded-ordered, recorded-modest, recorded-writes, jump-label, offset-lies, ref-apart, constant-size, pooled-length, well-formed, pool-apart}
 use Rattle.finish.proofs.ScansAgree.{refs-clear}
 use Rattle.finish.proofs.FinishedCode.{any·ref, start-segment}

@@ -14,7 +14,7 @@ use Rattle.seqs.proofs.Numbers.{lt-or-ge, eq-or-ne}
 use Rattle.seqs.proofs.Picking.{no-eq}
 use Rattle.words.specs.Words.{wordAt}
 use Rattle.fields.specs.declared.Decoded.the-variants.{Use}
-use Rattle.fields.specs.Kinds.{decoded}
+use Rattle.fields.specs.Kinds.{decoded, sizeOf}
 use Rattle.relax.specs.declared.LayoutEvent.{LayoutEvent}
 use Rattle.relax.specs.declared.LayoutEvent.the-variants.{Align}
 use Rattle.relax.specs.Events.{eventOf, eventAt, endOf, startOf, eventWords}
@@ -28,9 +28,9 @@ use Rattle.recording.proofs.Views.{getD-entries, every-entries}
 use Rattle.fresh.specs.Pooled.{Pooled}
 use Rattle.fresh.specs.Forms.{moves, roleOf}
 use Rattle.fresh.proofs.Moves.{moves-append, still-all}
-use Rattle.pool.specs.Pool.{labelAt, poolStart, poolOffset, poolEvent, isAnyBound}
+use Rattle.pool.specs.steps.Pool.{labelAt, poolStart, poolOffset, poolEvent, isAnyBound}
 use Rattle.seqs.specs.Every.{all}
-use Rattle.checks.specs.Fields as checked
+use Rattle.checks.specs.steps.Fields as checked
 use Rattle.seqs.specs.Every.{every}
 use Rattle.finish.specs.Refusals.{isBound, poolBoundBefore, jumpBound, relocBound, refClear, useRefusal, usesRefusal}
 
@@ -150,7 +150,7 @@ refs-clear p refs events constants asked count n m from er ee el =
     ap (λ (l : List tables.Ref). every (refClear p) l) er
     ∙ every-entries (refClear p) (tables.refAt refs) _ count
     (λ i h.
-    let to = wordAt refs (i * refWords) + checked.sizeOf (decoded (wordAt refs (i * refWords + 2))) in
+    let to = wordAt refs (i * refWords) + sizeOf (decoded (wordAt refs (i * refWords + 2))) in
     rw (el, ee)
     (ap (λ (t : Bool). leb to (poolStart from constants asked m) && t)
     (every-append (λ (e : LayoutEvent). leb (endOf e) (wordAt refs (i * refWords)) || leb to (startOf e)) (tables.entries (eventAt events) n) (tables.entries (poolEvent from constants asked) m)

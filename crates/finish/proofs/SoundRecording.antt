@@ -15,10 +15,10 @@ use Rattle.recording.specs.Sound.{Sound}
 use Rattle.recording.specs.View.{entries, constantAt, view}
 use Rattle.recording.proofs.Views.{length-entries, getD-entries}
 use Rattle.fresh.specs.Pooled.{pooledTo, pooled}
-use Rattle.pool.specs.Pool.{sizeAt, labelAt, poolOffset, poolBound, PoolFits, PoolLabels}
+use Rattle.pool.specs.steps.Pool.{sizeAt, labelAt, poolOffset, poolBound, PoolFits, PoolLabels}
 use Rattle.pool.proofs.Pool.{Distinct, poolOffset-bound, length-poolBound, poolBound-at, poolBound-other}
-use Rattle.finish.specs.Tables.{tablesPooled}
-use Rattle.finish.specs.Ready.{Ready, pooledOf}
+use Rattle.finish.specs.steps.Tables.{tablesPooled}
+use Rattle.finish.specs.steps.Ready.{Ready, pooledOf}
 use Rattle.finish.proofs.PooledTables.{Tied, pooledTo-tables}
 
 -- a label is that of a constant, or of none

@@ -31,25 +31,26 @@ use Rattle.fresh.specs.Fresh.{Choice, moved}
 use Rattle.fresh.specs.Rounds.{Settled, settled}
 use Rattle.fresh.specs.Fill.{assembled}
 use Rattle.fresh.specs.Segments.{segments, mapOffset, segmentsOf}
-use Rattle.fresh.proofs.Shape.{WellFormed}
+use Rattle.fresh.specs.Order.{WellFormed}
 use Rattle.fresh.proofs.Entries.{apart-lies}
 use Rattle.fresh.proofs.Fill.{length-assembled, labels-same}
 use Rattle.fresh.proofs.Segments.{placed-runs, moved-map, target-map}
 use Rattle.fresh.proofs.Within.{mapped-le}
-use Rattle.pool.specs.Pool.{poolStart}
+use Rattle.pool.specs.steps.Pool.{poolStart}
 use Rattle.pool.proofs.Pool.{from-poolStart, poolStart-suc, poolStart-grows}
-use Rattle.checks.specs.Fields.{sizeOf, refsClear, whyUnreached, whyUses}
-use Rattle.emit.specs.Emit as emit
-use Rattle.emit.specs.Emit.{mappedWords}
-use Rattle.layout.specs.Layout.{allEvents, finishedLength, relaxedBy, Relaxed, Rising}
+use Rattle.fields.specs.Kinds.{sizeOf}
+use Rattle.checks.specs.steps.Fields.{refsClear, whyUnreached, whyUses}
+use Rattle.emit.specs.steps.Emit as emit
+use Rattle.emit.specs.steps.Emit.{mappedWords}
+use Rattle.layout.specs.steps.Layout.{allEvents, finishedLength, relaxedBy, Relaxed, Rising}
 use Rattle.layout.proofs.Pooling.{length-all}
 use Rattle.layout.proofs.Settled.{relaxed-entries, relaxed-settled, finished-placed, all-short}
 use Rattle.finish.specs.declared.Outcome.{Outcome}
 use Rattle.seqs.specs.Every.{every}
 use Rattle.finish.specs.Refusals.{reachesBy, refReaches, whyNotLaid, whyNotWritten, whyNotInPlace}
 use Rattle.finish.specs.Finish.{refusedWith, overWords, relocated, settledSegments, relaxed}
-use Rattle.finish.specs.Tables.{tablesPooled}
-use Rattle.finish.specs.Ready.{Relaxable, Layable, codeWritten, endOfRuns, Writing, codeCopied, Copying, Keepable, kept}
+use Rattle.finish.specs.steps.Tables.{tablesPooled}
+use Rattle.finish.specs.steps.Ready.{Relaxable, Layable, codeWritten, endOfRuns, Writing, codeCopied, Copying, Keepable, kept}
 use Rattle.finish.proofs.ScansAgree.{refs-clear, uses-refused}
 use Rattle.finish.proofs.RelaxedRequires.{rising-all, within-size, ref-beside, clear-all, formed, table-all, writing, landed-small}
 use Rattle.finish.proofs.MappedTables.{word-over, labels-mapped, relocs-mapped, map-entries}

@@ -24,13 +24,13 @@ use Rattle.recording.specs.View.{entries, view, relocAt}
 use Rattle.recording.proofs.Views.{word-set}
 use Rattle.fresh.specs.Pooled.{Pooled, pooled}
 use Rattle.fresh.specs.Forms.{moves}
-use Rattle.pool.specs.Pool.{labelAt, poolOffset, poolBound, poolUnbound, isAnyBound}
+use Rattle.pool.specs.steps.Pool.{labelAt, poolOffset, poolBound, poolUnbound, isAnyBound}
 use Rattle.pool.proofs.Pool.{length-poolBound, poolUnbound-poolBound, setWord-same}
 use Rattle.finish.specs.declared.Outcome.{Outcome}
 use Rattle.finish.specs.declared.Finished.{Finished}
 use Rattle.finish.specs.Refusals.{allBound, whyNotLaid, whyNotWritten, whyNotInPlace, whyUnfit}
 use Rattle.finish.specs.Finish.{overWords, Left, refusedWith, relaxed, unrelaxed, finishedWith, unfinished, placedBy, finish}
-use Rattle.finish.specs.Ready.{Ready, Placeable, pooledOf, placedAs, concluded}
+use Rattle.finish.specs.steps.Ready.{Ready, Placeable, pooledOf, placedAs, concluded}
 use Rattle.finish.proofs.SoundRecording.{pool-distinct, offsets-small, pooled-is, ready}
 use Rattle.finish.proofs.FitOrRefused.{limits, asked-few, sound, Passed}
 use Rattle.finish.proofs.MappedTables.{set-over-words, over-words-set}

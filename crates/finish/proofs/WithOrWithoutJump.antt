@@ -21,14 +21,14 @@ use Rattle.recording.specs.Sound.{RefsSound}
 use Rattle.recording.specs.View as tables
 use Rattle.fresh.specs.Pooled.{Pooled}
 use Rattle.fresh.specs.Forms.{moves}
-use Rattle.pool.specs.Pool.{poolEvent}
-use Rattle.emit.specs.Emit.{WordsFit}
-use Rattle.checks.specs.Fields as checked
+use Rattle.pool.specs.steps.Pool.{poolEvent}
+use Rattle.emit.specs.steps.Emit.{WordsFit}
+use Rattle.checks.specs.steps.Fields as checked
 use Rattle.finish.specs.declared.Outcome.{Outcome}
 use Rattle.finish.specs.Refusals.{allBound, whyNotInPlace}
 use Rattle.finish.specs.Finish.{Left, refusedWith, relaxed, unrelaxed}
-use Rattle.finish.specs.Tables.{tablesPooled}
-use Rattle.finish.specs.Ready.{Ready, Relaxable, Keepable, kept, Placeable, pooledOf, placedAs, Starts}
+use Rattle.finish.specs.steps.Tables.{tablesPooled}
+use Rattle.finish.specs.steps.Ready.{Ready, Relaxable, Keepable, kept, Placeable, pooledOf, placedAs, Starts}
 use Rattle.finish.proofs.ScansAgree.{uses-bound, refs-bound, relocs-bound, jumps-bound, moves-is}
 use Rattle.finish.proofs.RelaxedRequires.{kind-label}
 use Rattle.finish.proofs.StageAnswers.{refused-early}

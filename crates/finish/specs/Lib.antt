@@ -1,4 +1,3 @@
 pub mod Refusals
 pub mod Finish
-pub mod Tables
-pub mod Ready
+pub mod steps

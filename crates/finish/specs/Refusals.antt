@@ -27,7 +27,8 @@ use Rattle.fresh.specs.Fill.{assembled}
 use Rattle.fresh.specs.Forms.{Role, pads, branches, roleOf}
 use Rattle.checks.specs.Lent.{countsFit, withinLimits}
 use Rattle.checks.specs.Entries.{entriesFit}
-use Rattle.checks.specs.Fields.{sizeOf, reachOf}
+use Rattle.fields.specs.Kinds.{sizeOf}
+use Rattle.fields.specs.Reach.{reachOf}
 
 abbrev pub isBound : List ℕ → ℕ → Bool
 isBound labels label = not (eqb (getD labels label none) none)

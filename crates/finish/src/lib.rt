@@ -5,11 +5,11 @@ ghost use mathlib.Core.Bool.{true, false};
 ghost use mathlib.Core.List.{List};
 ghost use lib.ListN.{length};
 ghost use Rattle.relax.specs.declared.Segment.{Segment};
-ghost use Rattle.pool.specs.Pool.{PoolFits, PoolLabels};
+ghost use Rattle.pool.specs.steps.Pool.{PoolFits, PoolLabels};
 ghost use Rattle.checks.specs.Lent.{recordingOf};
 ghost use Rattle.finish.specs.Refusals.{whyUnfit};
 ghost use Rattle.finish.specs.Finish.{unfinished, finishedWith, finish};
-ghost use Rattle.finish.specs.Ready.{concluded, Begins};
+ghost use Rattle.finish.specs.steps.Ready.{concluded, Begins};
 use buffer::CodeBuffer;
 use relax::Segment;
 

@@ -16,7 +16,8 @@ use Rattle.fresh.specs.Samples.{jmp, zeros}
 use Rattle.fresh.specs.Forms.{width, Branch, branches, roleOf}
 use Rattle.fresh.specs.Fresh.{items, stands, moved}
 use Rattle.fresh.specs.Segments.{segments, image, chosen, decided, mapOffset, segmentsOf}
-use Rattle.fresh.proofs.Shape.{Ordered, Clear, Lies, RefsLie, PoolLies, WellFormed, Bound}
+use Rattle.fresh.specs.Order.{Ordered, Clear, Lies, RefsLie, PoolLies, WellFormed}
+use Rattle.fresh.proofs.Least.{Bound}
 
 -- A label at an alignment of length 0 goes behind the padding that it gains: 2 bytes of jump, 11 plain ones, 3 of padding.
 pub behind-gained-padding : moved (zeros 16 (jmp 0 0 ∷ Align (record { start = 16; len = 0; align = 16 }) ∷ []) (16 ∷ [])) (false ∷ false ∷ []) 16 ≡ 16

@@ -8,7 +8,8 @@ use Rattle.relax.specs.declared.LayoutEvent.{LayoutEvent}
 use Rattle.relax.specs.Events.{endOf, startOf, noEvent}
 use Rattle.recording.specs.View.{Ref}
 use Rattle.fresh.specs.Pooled.{Placed, Pooled}
-use Rattle.fresh.proofs.Shape.{Ordered, Clear, Lies, Apart, RefsLie, PoolLies, Small, Modest}
+use Rattle.fresh.specs.Order.{Ordered, Clear, Lies, Apart, RefsLie, PoolLies}
+use Rattle.fresh.specs.steps.Runs.{Small, Modest}
 
 -- Event by event: an offset lies inside none.
 pub clear-at : (es : List LayoutEvent) (t i : ℕ) → Clear t es → i < length es → startOf (getD es i noEvent) < t → endOf (getD es i noEvent) ≤ t

@@ -9,7 +9,7 @@ use lib.Seq.{length-take-le, drop-drop}
 use borrow.Author.Tests.{ltb-true, ltb-false}
 use Rattle.relax.specs.declared.LayoutEvent.{LayoutEvent}
 use Rattle.relax.specs.Events.{startOf, endOf, noEvent}
-use Rattle.fresh.proofs.Shape.{Ordered, Clear}
+use Rattle.fresh.specs.Order.{Ordered, Clear}
 use Rattle.fresh.proofs.Tests.{split}
 
 -- an offset that is at or past a start, before the end, and not strictly inside is the start

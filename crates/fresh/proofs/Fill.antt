@@ -16,7 +16,8 @@ use Rattle.fresh.specs.Fresh.{Choice, isLong, walk, starts, placed, move
 use Rattle.fresh.specs.Rounds.{firstStart}
 use Rattle.fresh.specs.Fill.{fillField, fillRefs, fillJump, fillJumps, fillPool, fill, assembled, fillUse, fillUses, inPlace}
 use Rattle.fresh.specs.Segments.{mapOffset, segmentsOf}
-use Rattle.fresh.proofs.Shape.{RefsLie, PoolLies, WellFormed, runs, built}
+use Rattle.fresh.specs.Order.{RefsLie, PoolLies, WellFormed}
+use Rattle.fresh.specs.steps.Runs.{runs, built}
 use Rattle.fresh.proofs.Tests.{by-role}
 use Rattle.fresh.proofs.Segments.{placed-runs, starts-are, moved-map, target-map}
 

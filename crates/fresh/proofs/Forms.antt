@@ -17,7 +17,7 @@ use Rattle.relax.specs.declared.LayoutEvent.the-variants.{Jump, Align}
 use Rattle.relax.specs.Events.{longLen}
 use Rattle.buffer.proofs.Appends.{padding-length}
 use Rattle.fresh.specs.Forms.{shortForm, longForm, form, width, Branch, fieldOf, branches, branchOf, roleOf}
-use Rattle.fresh.proofs.Shape.{Small}
+use Rattle.fresh.specs.steps.Runs.{Small}
 use Rattle.fresh.proofs.Tests.{no-confusion}
 
 pub length-shortForm : (c : Condition) → length (shortForm c) ≡ 2

@@ -7,14 +7,9 @@ use lib.ListN.{length, getD, take, drop, length-drop}
 use Rattle.relax.specs.declared.LayoutEvent.{LayoutEvent}
 use Rattle.relax.specs.Events.{endOf, startOf, extentOf, noEvent}
 use Rattle.fresh.specs.Fresh.{Item, plain, event, items}
-use Rattle.fresh.proofs.Shape.{Ordered}
+use Rattle.fresh.specs.Order.{Ordered}
+use Rattle.fresh.specs.Walk.{spanned}
 use Rattle.fresh.proofs.Events.{ordered-le, run-length, drop-on}
-
--- how much of the recording the items stand for
-unfoldable pub spanned : List Item → ℕ
-spanned [] = 0
-spanned (plain b ∷ is) = suc (spanned is)
-spanned (event e bytes ∷ is) = extentOf e + spanned is
 
 spanned-plains : (bs : List ℕ) → spanned (map plain bs) ≡ length bs
 unfolding spanned

@@ -17,10 +17,13 @@ use Rattle.fresh.specs.Forms.{width, Branch, branches, roleOf}
 use Rattle.fresh.specs.Fresh.{Choice, isLong, others, Item, plain, event, items, starts, stands, walk, moved, target}
 use Rattle.fresh.specs.Rounds.{allShort, far, join, Rounds, last, again}
 use Rattle.fresh.specs.Demand.{Reach, Fits, Includes, Branches, NoAlign}
-use Rattle.fresh.proofs.Shape.{Bound}
 use Rattle.fresh.proofs.Tests.{split, no-confusion, by-role}
 use Rattle.fresh.proofs.Choices.{isLong-getD, others-getD, farOf-getD, farOf-out, pads-near, reach-near}
 use Rattle.fresh.proofs.Forms.{branch-wider, home-reached}
+
+-- the labels that jumps name are bound
+abbrev pub Bound : List ℕ → List LayoutEvent → Type 0
+Bound labels es = (i : ℕ) (b : Branch) → i < length es → roleOf (getD es i noEvent) ≡ branches b → getD labels (b .label) none ≢ none
 
 -- every event among the items names a label
 OnlyBranches : List Item → Type 0

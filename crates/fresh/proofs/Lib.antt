@@ -1,4 +1,3 @@
-pub mod Shape
 pub mod Tests
 pub mod Forms
 pub mod Events

@@ -12,7 +12,8 @@ use Rattle.relax.specs.Events.{startOf, extentOf, endOf, noEvent}
 use Rattle.fresh.specs.Fresh.{Choice, isLong, others}
 use Rattle.fresh.specs.Segments.{segment, segments, image, chosen, decided}
 use Rattle.fresh.specs.Fill.{part}
-use Rattle.fresh.proofs.Shape.{Ordered, Small, Modest, formAt, runs, after, segmentAt, runsTo}
+use Rattle.fresh.specs.Order.{Ordered}
+use Rattle.fresh.specs.steps.Runs.{Small, Modest, formAt, runs, after, segmentAt, runsTo}
 use Rattle.fresh.proofs.Events.{ordered-le, run-length}
 use Rattle.fresh.proofs.Choices.{isLong-getD, others-getD}
 use Rattle.fresh.proofs.Forms.{length-form, width-small}

@@ -28,7 +28,8 @@ use Rattle.fresh.specs.Fresh.{Choice, isLong, others}
 use Rattle.fresh.specs.Rounds.{firstStart, otherStarts}
 use Rattle.fresh.specs.Segments.{mapOffset, segmentsOf}
 use Rattle.fresh.specs.Fill.{part, fillField, fillRefs, fillJump, fillJumps, fillPool, fill, fillUse, fillUses, inPlace}
-use Rattle.fresh.proofs.Shape.{Apart, WellFormed, newStarts, runs, built}
+use Rattle.fresh.specs.Order.{Apart, WellFormed}
+use Rattle.fresh.specs.steps.Runs.{newStarts, runs, built}
 use Rattle.fresh.proofs.Tests.{by-role}
 use Rattle.fresh.proofs.Choices.{isLong-getD, others-getD, firstStart-getD, otherStarts-getD}
 use Rattle.fresh.proofs.Fill.{length-fillField, length-fillRefs, fillJump-pads, fillJump-branch, length-fillJump, length-fillJumps, length-fillUse, length-fillUses}

@@ -15,10 +15,12 @@ use Rattle.fresh.specs.Forms.{form, width}
 use Rattle.fresh.specs.Fresh.{Choice, isLong, others, Item, plain, event, items, writes, starts, stands, walk, placed, moved, target}
 use Rattle.fresh.specs.Rounds.{farOf, far}
 use Rattle.fresh.specs.Segments.{segment, segments, image, chosen, decided, mapOffset, segmentsOf}
-use Rattle.fresh.proofs.Shape.{Ordered, Clear, Lies, WellFormed, newStarts, runs}
+use Rattle.fresh.specs.Order.{Ordered, Clear, Lies, WellFormed}
+use Rattle.fresh.specs.steps.Runs.{newStarts, runs}
 use Rattle.fresh.proofs.Tests.{split}
 use Rattle.fresh.proofs.Events.{at-start, ordered-le, ordered-clear, run-length, drop-on}
-use Rattle.fresh.proofs.Items.{spanned, spanned-items}
+use Rattle.fresh.specs.Walk.{spanned}
+use Rattle.fresh.proofs.Items.{spanned-items}
 use Rattle.fresh.proofs.Forms.{length-form}
 
 -- over a run of plain bytes

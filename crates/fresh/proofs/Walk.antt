@@ -11,25 +11,13 @@ use Rattle.relax.specs.Events.{extentOf}
 use Rattle.fresh.specs.Pooled.{Pooled}
 use Rattle.fresh.specs.Forms.{form, width}
 use Rattle.fresh.specs.Fresh.{Choice, isLong, others, Item, plain, event, writes, stands, walk}
-use Rattle.fresh.proofs.Shape.{Lies, WellFormed}
+use Rattle.fresh.specs.Order.{Lies, WellFormed}
 use Rattle.fresh.proofs.Tests.{split}
 use Rattle.fresh.proofs.Forms.{length-form}
 use Rattle.fresh.proofs.Events.{at-start}
 use Rattle.fresh.proofs.Entries.{clear-at}
-use Rattle.fresh.proofs.Items.{spanned, spanned-items, AtEvents, at-items}
-
--- the items left do not begin with an event of length 0
-unfoldable pub Onward : List Item → Type 0
-Onward [] = Unit {0}
-Onward (plain b ∷ is) = Unit {0}
-Onward (event e bytes ∷ is) = 0 < extentOf e
-
--- the walk from o and n stands on t, with the first `passed` items behind it
-pub record Stand (arch t o n : ℕ) (is : List Item) (c : Choice) : Type 0 where
-  pub passed : ℕ
-  pub here : o + spanned (take passed is) ≡ t
-  pub wrote : stands t o n is c ≡ n + length (writes arch n (take passed is) c)
-  pub onward : Onward (drop passed is)
+use Rattle.fresh.specs.Walk.{spanned, Onward, Stand}
+use Rattle.fresh.proofs.Items.{spanned-items, AtEvents, at-items}
 
 -- t lies strictly inside no event
 abbrev Outside : ℕ → ℕ → ℕ → Type 0

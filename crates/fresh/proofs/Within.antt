@@ -16,10 +16,12 @@ use Rattle.fresh.specs.Pooled.{Pooled}
 use Rattle.fresh.specs.Forms.{form, width, Branch, fieldOf, branches, roleOf}
 use Rattle.fresh.specs.Fresh.{Choice, isLong, others, Item, plain, event, items, writes, starts, stands, walk, placed, moved}
 use Rattle.fresh.specs.Segments.{mapOffset, segmentsOf}
-use Rattle.fresh.proofs.Shape.{Lies, Apart, WellFormed, newStarts, runs}
+use Rattle.fresh.specs.Order.{Lies, Apart, WellFormed}
+use Rattle.fresh.specs.steps.Runs.{newStarts, runs}
 use Rattle.fresh.proofs.Tests.{split}
 use Rattle.fresh.proofs.Entries.{apart-lies}
-use Rattle.fresh.proofs.Items.{spanned, spanned-items, AtEvents, at-items}
+use Rattle.fresh.specs.Walk.{spanned}
+use Rattle.fresh.proofs.Items.{spanned-items, AtEvents, at-items}
 use Rattle.fresh.proofs.Choices.{isLong-getD, others-getD}
 use Rattle.fresh.proofs.Forms.{length-form, field-inside}
 use Rattle.fresh.proofs.Segments.{writes-run, starts-run, placed-runs, starts-are, moved-map}

@@ -5,4 +5,7 @@ pub mod Rounds
 pub mod Fill
 pub mod Segments
 pub mod Demand
+pub mod Order
+pub mod Walk
+pub mod steps
 pub mod Samples

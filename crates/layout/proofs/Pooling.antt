@@ -19,10 +19,11 @@ use Rattle.fresh.specs.Pooled.{constantAlignment}
 use Rattle.fresh.specs.Forms.{width}
 use Rattle.fresh.specs.Fresh.{Choice}
 use Rattle.fresh.specs.Segments.{segment, segments}
-use Rattle.fresh.proofs.Shape.{Ordered, Small, Modest, Cursor, after}
+use Rattle.fresh.specs.Order.{Ordered}
+use Rattle.fresh.specs.steps.Runs.{Small, Modest, Cursor, after}
 use Rattle.fresh.proofs.Loops.{length-segments, segments-snoc}
-use Rattle.pool.specs.Pool.{sizeAt, poolStart, poolPadding, poolEvent, PoolFits}
-use Rattle.layout.specs.Layout.{endFrom, finishedLength, allEvents, Recorded}
+use Rattle.pool.specs.steps.Pool.{sizeAt, poolStart, poolPadding, poolEvent, PoolFits}
+use Rattle.layout.specs.steps.Layout.{endFrom, finishedLength, allEvents, Recorded}
 use Rattle.recording.proofs.Views.{length-entries}
 use Rattle.layout.proofs.Turns.{after-snoc}
 

@@ -19,12 +19,12 @@ use Rattle.recording.specs.View.{entries}
 use Rattle.fresh.specs.Fresh.{Choice}
 use Rattle.fresh.specs.Rounds.{reaches, isFar, any, join}
 use Rattle.fresh.specs.Segments.{mapOffset}
-use Rattle.fresh.proofs.Shape.{newStarts}
+use Rattle.fresh.specs.steps.Runs.{newStarts}
 use Rattle.fresh.proofs.Tests.{by-role}
 use Rattle.fresh.proofs.Choices.{farOf-getD, length-farOf, length-join, join-getD, any-suc, pads-near, branch-far, long-near}
 use Rattle.fresh.specs.Forms.{Branch, branches, roleOf}
-use Rattle.pool.specs.Pool.{offsetBound}
-use Rattle.layout.specs.Layout.{zeroSegment, Known, soughtBy, farIn}
+use Rattle.pool.specs.steps.Pool.{offsetBound}
+use Rattle.layout.specs.steps.Layout.{zeroSegment, Known, soughtBy, farIn}
 use Rattle.recording.proofs.Views.{length-entries, getD-entries}
 
 -- the scan has passed i events, f being those that it lengthens

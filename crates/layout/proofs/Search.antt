@@ -11,7 +11,7 @@ use Rattle.relax.specs.declared.Segment.{Segment}
 use Rattle.buffer.specs.State.{none}
 use Rattle.fresh.specs.Segments.{image, mapOffset}
 use Rattle.fresh.proofs.Loops.{decided-skip, decided-last}
-use Rattle.layout.specs.Layout.{zeroSegment, startAt, Rising, Between}
+use Rattle.layout.specs.steps.Layout.{zeroSegment, startAt, Rising, Between}
 
 pub between-all : (ss : List Segment) (n offset : ℕ) → Between ss n offset 0 n
 between-all ss n offset = record { order = omega arith; within = omega arith; under = λ j h. absurd (omega arith); above = λ j h k. absurd (omega arith) }

@@ -18,13 +18,14 @@ use Rattle.fresh.specs.Forms.{Branch, Role, pads, branches, roleOf}
 use Rattle.fresh.specs.Fresh.{Choice, isLong, others, placed}
 use Rattle.fresh.specs.Rounds.{allShort, counted, jumps, isFar, firstStart, otherStarts, farOf, far, any, join, longer, Settled, settle, settled}
 use Rattle.fresh.specs.Segments.{segments, mapOffset}
-use Rattle.fresh.proofs.Shape.{WellFormed, newStarts, after, runsTo}
+use Rattle.fresh.specs.Order.{WellFormed}
+use Rattle.fresh.specs.steps.Runs.{newStarts, after, runsTo}
 use Rattle.fresh.proofs.Tests.{split, by-role}
 use Rattle.fresh.proofs.Choices.{pads-near, branch-far}
 use Rattle.fresh.proofs.Segments.{far-segments, placed-runs}
 use Rattle.fresh.proofs.Loops.{runs-all, length-runsTo}
-use Rattle.pool.specs.Pool.{poolEvent}
-use Rattle.layout.specs.Layout.{allEvents, farBy, relaxing, relaxedBy, relaxed, finishedLength}
+use Rattle.pool.specs.steps.Pool.{poolEvent}
+use Rattle.layout.specs.steps.Layout.{allEvents, farBy, relaxing, relaxedBy, relaxed, finishedLength}
 use Rattle.recording.proofs.Views.{length-entries, getD-entries}
 
 pub jumps-le : (es : List LayoutEvent) → jumps es ≤ length es

@@ -17,12 +17,12 @@ use Rattle.fresh.specs.Forms.{pads, roleOf}
 use Rattle.fresh.specs.Fresh.{Choice, isLong, others}
 use Rattle.fresh.specs.Rounds.{Settled, jumps, isFar, firstStart, otherStarts, farOf, any, join}
 use Rattle.fresh.specs.Segments.{segments, mapOffset}
-use Rattle.fresh.proofs.Shape.{newStarts}
+use Rattle.fresh.specs.steps.Runs.{newStarts}
 use Rattle.fresh.proofs.Tests.{no-confusion}
 use Rattle.fresh.proofs.Loops.{length-segments}
 use Rattle.fresh.proofs.Choices.{isLong-getD, others-getD, length-farOf, length-join, pads-near}
-use Rattle.pool.specs.Pool.{poolStart, poolEvent, PoolFits}
-use Rattle.layout.specs.Layout.{allEvents, finishedLength, farIn, farBy, relaxing, relaxedBy, Relaxed, Recorded, Rising}
+use Rattle.pool.specs.steps.Pool.{poolStart, poolEvent, PoolFits}
+use Rattle.layout.specs.steps.Layout.{allEvents, finishedLength, farIn, farBy, relaxing, relaxedBy, Relaxed, Recorded, Rising}
 use Rattle.recording.proofs.Views.{length-entries}
 use Rattle.layout.proofs.Pooling.{all-none, all-suc, length-all, all-ordered, all-modest, pool-near}
 use Rattle.layout.proofs.Table.{table-laid, rising-laid}

@@ -13,12 +13,13 @@ use Rattle.relax.specs.Events.{startOf, noEvent}
 use Rattle.buffer.specs.Tables.{mostEntries}
 use Rattle.fresh.specs.Fresh.{Choice}
 use Rattle.fresh.specs.Segments.{segments}
-use Rattle.fresh.proofs.Shape.{Ordered, Modest, after, segmentAt}
+use Rattle.fresh.specs.Order.{Ordered}
+use Rattle.fresh.specs.steps.Runs.{Modest, after, segmentAt}
 use Rattle.fresh.proofs.Events.{starts-rise}
 use Rattle.fresh.proofs.Forms.{width-small}
 use Rattle.fresh.proofs.Loops.{length-segments, segments-getD, after-le, after-start, modest-at}
-use Rattle.pool.specs.Pool.{pooledBound}
-use Rattle.layout.specs.Layout.{zeroSegment, Rising}
+use Rattle.pool.specs.steps.Pool.{pooledBound}
+use Rattle.layout.specs.steps.Layout.{zeroSegment, Rising}
 
 module _ (before ss : List Segment) (es : List LayoutEvent) (c : Choice) (laid : ss ≡ over before 0 (segments 0 0 es c)) (room : length es ≤ length before) where
   pub length-laid : length ss ≡ length before

@@ -14,12 +14,13 @@ use Rattle.buffer.specs.Tables.{mostEntries, mostCode}
 use Rattle.recording.specs.View.{entries}
 use Rattle.fresh.specs.Fresh.{Choice, others}
 use Rattle.fresh.specs.Segments.{segment, segments}
-use Rattle.fresh.proofs.Shape.{Ordered, Small, Modest, Cursor, after}
+use Rattle.fresh.specs.Order.{Ordered}
+use Rattle.fresh.specs.steps.Runs.{Small, Modest, Cursor, after}
 use Rattle.fresh.proofs.Events.{ordered-le}
 use Rattle.fresh.proofs.Choices.{isLong-getD, others-getD}
 use Rattle.fresh.proofs.Loops.{length-segments, segments-snoc, after-le}
-use Rattle.pool.specs.Pool.{offsetBound, pooledBound}
-use Rattle.layout.specs.Layout.{Follows, Recorded, Laid}
+use Rattle.pool.specs.steps.Pool.{offsetBound, pooledBound}
+use Rattle.layout.specs.steps.Layout.{Follows, Recorded, Laid}
 use Rattle.recording.proofs.Views.{length-entries}
 use Rattle.layout.proofs.Entries.{entries-split}
 

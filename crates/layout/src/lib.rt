@@ -17,8 +17,8 @@ ghost use Rattle.fresh.specs.Forms.{width};
 ghost use Rattle.fresh.specs.Rounds.{isFar, any, join};
 ghost use Rattle.fresh.specs.Segments.{segment, image, mapOffset};
 ghost use Rattle.fresh.specs.Segments as fresh;
-ghost use Rattle.pool.specs.Pool.{poolStart, poolEvent, PoolFits, offsetBound};
-ghost use Rattle.layout.specs.Layout.{zeroSegment, Rising, Between, Follows, Recorded, allEvents, endFrom, finishedLength, Laid, Known, soughtBy, Labelled, farIn, Relaxed};
+ghost use Rattle.pool.specs.steps.Pool.{poolStart, poolEvent, PoolFits, offsetBound};
+ghost use Rattle.layout.specs.steps.Layout.{zeroSegment, Rising, Between, Follows, Recorded, allEvents, endFrom, finishedLength, Laid, Known, soughtBy, Labelled, farIn, Relaxed};
 use relax::LayoutEvent;
 use relax::Segment;
 

@@ -21,7 +21,7 @@ use Rattle.buffer.specs.Calls.{padding}
 use Rattle.buffer.proofs.Appends.{padding-length, over-padded}
 use Rattle.buffer.specs.Tables.{labelSize, constantSize, constantHead}
 use Rattle.fresh.specs.Pooled.{constantAlignment}
-use Rattle.pool.specs.Pool.{sizeAt, labelAt, bytesAt, poolStart, poolPadding, poolOffset, poolBytes, poolBound, poolUnbound, poolWritten, isAnyBound, PoolFits, PoolRoom}
+use Rattle.pool.specs.steps.Pool.{sizeAt, labelAt, bytesAt, poolStart, poolPadding, poolOffset, poolBytes, poolBound, poolUnbound, poolWritten, isAnyBound, PoolFits, PoolRoom}
 
 -- a constant's padding is at most 15 bytes
 pub padding-small : (offset size : ℕ) → paddingLength offset (constantAlignment size) ≤ 15

@@ -7,7 +7,7 @@ ghost use Rattle.seqs.specs.Over.{over};
 ghost use Rattle.words.specs.Words.{wordAt};
 ghost use Rattle.buffer.specs.Tables.{constantSize, askedSize};
 ghost use Rattle.fresh.specs.Pooled.{constantAlignment};
-ghost use Rattle.pool.specs.Pool.{sizeAt, labelAt, poolStart, poolBytes, poolBound, poolUnbound, poolWritten, isAnyBound, PoolFits, PoolLabels, PoolRoom, offsetBound};
+ghost use Rattle.pool.specs.steps.Pool.{sizeAt, labelAt, poolStart, poolBytes, poolBound, poolUnbound, poolWritten, isAnyBound, PoolFits, PoolLabels, PoolRoom, offsetBound};
 
 // What a constant of `size` bytes is aligned on.
 pub fn constant_alignment(size: u32) -> u32

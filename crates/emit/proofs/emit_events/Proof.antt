@@ -8,7 +8,7 @@ use Rattle.seqs.specs.Over.{over}
 use Rattle.seqs.proofs.Overwrites.{over-nil, length-over}
 use Rattle.relax.specs.Events.{eventAt}
 use Rattle.recording.specs.View.{entries}
-use Rattle.fresh.proofs.Shape.{after, runsTo}
+use Rattle.fresh.specs.steps.Runs.{after, runsTo}
 use Rattle.emit.proofs.Runs.{segments-size, order, starts, begins, ends, inside, arrived, turn, last-old, last-room, finished}
 use borrow.Author.Needs.{needs}
 use Rattle.emit.proofs.emit_events.Statement.{statement}

@@ -6,7 +6,7 @@ use native.Mathlib.Omega.{arith}
 use lib.ListN.{length, take}
 use Rattle.words.proofs.Laws.{length-setWord}
 use Rattle.fresh.specs.Segments.{mapOffset}
-use Rattle.emit.specs.Emit.{mappedWords}
+use Rattle.emit.specs.steps.Emit.{mappedWords}
 use Rattle.emit.proofs.Turns.{mapped-next, mapped-turn}
 use borrow.Author.Needs.{needs}
 use Rattle.emit.proofs.map_words.Statement.{statement}

@@ -4,7 +4,7 @@ use mathlib.Core.Path.{_≡_, refl, _∙_}
 use Prim.Native.Nat.{_-_, _≤_}
 use native.Mathlib.Omega.{arith}
 use lib.ListN.{length}
-use Rattle.emit.specs.Emit.{jumpsFilled}
+use Rattle.emit.specs.steps.Emit.{jumpsFilled}
 use Rattle.emit.proofs.Turns.{jumps-turn}
 use Rattle.fresh.proofs.Fill.{length-fillJump}
 use borrow.Author.Needs.{needs}

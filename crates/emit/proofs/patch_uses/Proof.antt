@@ -4,7 +4,7 @@ use Prim.Native.Nat.{_-_, _≤_}
 use native.Mathlib.Omega.{arith}
 use lib.ListN.{length}
 use Rattle.fresh.proofs.Fill.{length-fillUse}
-use Rattle.emit.specs.Emit.{usesFilled}
+use Rattle.emit.specs.steps.Emit.{usesFilled}
 use Rattle.emit.proofs.Turns.{uses-turn}
 use borrow.Author.Needs.{needs}
 use Rattle.emit.proofs.patch_uses.Statement.{statement}

@@ -3,7 +3,7 @@ mod Tie
 use Prim.Native.Nat.{_-_}
 use native.Mathlib.Omega.{arith}
 use Rattle.seqs.proofs.Scans.{AllPassed, pass-one, pass-fails, scans}
-use Rattle.emit.specs.Emit.{refReaches, refsReach}
+use Rattle.emit.specs.steps.Emit.{refReaches, refsReach}
 use borrow.Author.Needs.{needs}
 use Rattle.emit.proofs.refs_reach.Statement.{statement}
 use Rattle.emit.proofs.refs_reach.Proof.Tie as tie

@@ -2,7 +2,7 @@
 use mathlib.Core.Path.{sym}
 use borrow.Author.Needs.{needs}
 use Rattle.seqs.proofs.Picking.{yes-eq, no-eq}
-use Rattle.finish.specs.Ready.{concluded}
+use Rattle.finish.specs.steps.Ready.{concluded}
 use Rattle.finish.proofs.conclude.Statement.{statement}
 use Rattle.finish.proofs.conclude.Tie as tie
 

@@ -5,7 +5,7 @@ use Prim.Native.Nat.{_-_}
 use native.Mathlib.Omega.{arith}
 use borrow.Author.Needs.{needs}
 use Rattle.relax.specs.declared.Segment.{Segment}
-use Rattle.layout.specs.Layout.{Between}
+use Rattle.layout.specs.steps.Layout.{Between}
 use Rattle.layout.proofs.Search.{between-all, between-right, between-left}
 use Rattle.layout.proofs.find.Statement.{statement}
 use Rattle.layout.proofs.find.Proof.Tie as tie

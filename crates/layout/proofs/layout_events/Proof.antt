@@ -8,7 +8,7 @@ use lib.ListN.{length}
 use borrow.Author.Needs.{needs}
 use Rattle.relax.specs.Events.{eventAt}
 use Rattle.recording.specs.View.{entries}
-use Rattle.layout.specs.Layout.{Laid}
+use Rattle.layout.specs.steps.Layout.{Laid}
 use Rattle.layout.proofs.Turns.{laid-none, event-follows, event-laid}
 use Rattle.layout.proofs.layout_events.Statement.{statement}
 use Rattle.layout.proofs.layout_events.Proof.Tie as tie

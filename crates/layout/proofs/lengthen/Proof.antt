@@ -10,7 +10,7 @@ use Rattle.words.specs.Words.{wordAt}
 use Rattle.relax.specs.Events.{eventAt}
 use Rattle.recording.specs.View.{entries}
 use Rattle.fresh.specs.Segments.{mapOffset}
-use Rattle.layout.specs.Layout.{farIn}
+use Rattle.layout.specs.steps.Layout.{farIn}
 use Rattle.layout.proofs.Scan.{Scanned, scanned-none, far-sought, sought-small, scan-mark, scan-keep, scan-all}
 use Rattle.layout.proofs.lengthen.Statement.{statement}
 use Rattle.layout.proofs.lengthen.Proof.Tie as tie

@@ -38,7 +38,7 @@ use denote.Triple.Table.{entered}
 use denote.Triple.Walked.{says, needs, Stays, stay-slice, stay-none, walkOf, Walks, ends-at, walked, goes-slice, goes-none, walk-meets}
 use denote.Exit.{yes}
 use Rattle.relax.specs.declared.Segment.{Segment}
-use Rattle.layout.specs.Layout.{zeroSegment}
+use Rattle.layout.specs.steps.Layout.{zeroSegment}
 use Rattle.relax.proofs.Segment as T
 use Rattle.relax.proofs.Segment.Laws as T′
 use Rattle.layout.proofs.put_segment.Key.{name as #layout·put-segment}

@@ -8,7 +8,7 @@ use borrow.Author.Needs.{needs}
 use borrow.Author.Tests.{not-true, not-false}
 use Rattle.words.specs.Words.{wordAt}
 use Rattle.fresh.specs.Rounds.{jumps}
-use Rattle.layout.specs.Layout.{allEvents}
+use Rattle.layout.specs.steps.Layout.{allEvents}
 use Rattle.layout.proofs.Pooling.{length-all}
 use Rattle.layout.proofs.Standing.{Standing, standing-none, layouts-few, round-less, round-more, round-done, rising-all}
 use Rattle.layout.proofs.relax_jumps.Statement.{statement}

@@ -36,7 +36,7 @@ use denote.Triple.Table.{entered}
 use denote.Triple.Walked.{says, needs, Stays, stay-none-slice, stay-none, walkOf, Walks, ends-at, walked, goes-none-slice, goes-none, walk-meets}
 use denote.Exit.{yes}
 use Rattle.relax.specs.declared.Segment.{Segment}
-use Rattle.layout.specs.Layout.{zeroSegment}
+use Rattle.layout.specs.steps.Layout.{zeroSegment}
 use Rattle.relax.proofs.Segment as T
 use Rattle.relax.proofs.Segment.Laws as T′
 use Rattle.layout.proofs.segment_at.Key.{name as #layout·segment-at}

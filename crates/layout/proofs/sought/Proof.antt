@@ -2,7 +2,7 @@
 use mathlib.Core.Path.{refl, ap}
 use borrow.Author.Needs.{needs}
 use Rattle.fresh.specs.Forms.{branchOf, roleOf}
-use Rattle.layout.specs.Layout.{soughtBy}
+use Rattle.layout.specs.steps.Layout.{soughtBy}
 use Rattle.layout.proofs.sought.Statement.{statement}
 use Rattle.layout.proofs.sought.Tie as tie
 

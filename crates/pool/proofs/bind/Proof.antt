@@ -4,7 +4,7 @@ use Prim.Native.Nat.{_+_, _*_, _-_, _≤_}
 use native.Mathlib.Omega.{arith}
 use lib.ListN.{length}
 use Rattle.words.proofs.Laws.{length-setWord}
-use Rattle.pool.specs.Pool.{poolStart, poolBound}
+use Rattle.pool.specs.steps.Pool.{poolStart, poolBound}
 use Rattle.pool.proofs.Pool.{Turn, pad-small, start-turn, bound-turn}
 use borrow.Author.Needs.{needs}
 use Rattle.pool.proofs.bind.Statement.{statement}

@@ -5,7 +5,7 @@ use native.Mathlib.Omega.{arith}
 use lib.ListN.{length}
 use Rattle.seqs.specs.Over.{over}
 use Rattle.seqs.proofs.Overwrites.{over-nil, length-over}
-use Rattle.pool.specs.Pool.{poolStart, poolBytes}
+use Rattle.pool.specs.steps.Pool.{poolStart, poolBytes}
 use Rattle.pool.proofs.Pool.{Turn, pad-small, start-turn, within-turn, emit-turn}
 use borrow.Author.Needs.{needs}
 use Rattle.pool.proofs.emit.Statement.{statement}

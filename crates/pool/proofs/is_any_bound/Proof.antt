@@ -4,7 +4,7 @@ use mathlib.Core.Bool.{false}
 use Prim.Native.Nat.{_-_, _≤_}
 use native.Mathlib.Omega.{arith}
 use borrow.Author.Tests.{eq-eqb, ne-eqb}
-use Rattle.pool.specs.Pool.{isAnyBound}
+use Rattle.pool.specs.steps.Pool.{isAnyBound}
 use Rattle.pool.proofs.Pool.{one-bound, none-bound}
 use borrow.Author.Needs.{needs}
 use Rattle.pool.proofs.is_any_bound.Statement.{statement}

@@ -2,7 +2,7 @@
 use mathlib.Core.Path.{_≡_, refl}
 use Prim.Native.Nat.{_+_, _*_, _-_, _≤_}
 use native.Mathlib.Omega.{arith}
-use Rattle.pool.specs.Pool.{poolStart}
+use Rattle.pool.specs.steps.Pool.{poolStart}
 use Rattle.pool.proofs.Pool.{Turn, pad-small, start-turn}
 use borrow.Author.Needs.{needs}
 use Rattle.pool.proofs.pool_end.Statement.{statement}

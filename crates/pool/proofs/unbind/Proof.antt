@@ -4,7 +4,7 @@ use Prim.Native.Nat.{_-_, _≤_}
 use native.Mathlib.Omega.{arith}
 use lib.ListN.{length}
 use Rattle.words.proofs.Laws.{length-setWord}
-use Rattle.pool.specs.Pool.{poolUnbound}
+use Rattle.pool.specs.steps.Pool.{poolUnbound}
 use Rattle.pool.proofs.Pool.{unbound-turn}
 use borrow.Author.Needs.{needs}
 use Rattle.pool.proofs.unbind.Statement.{statement}

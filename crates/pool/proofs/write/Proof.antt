@@ -3,7 +3,7 @@ use mathlib.Core.Path.{_≡_, refl}
 use Prim.Native.Nat.{_-_, _≤_}
 use native.Mathlib.Omega.{arith}
 use lib.ListN.{length}
-use Rattle.pool.specs.Pool.{poolWritten}
+use Rattle.pool.specs.steps.Pool.{poolWritten}
 use Rattle.pool.proofs.Pool.{Writing, from-turn, room-turn, written-turn, length-poolWritten}
 use borrow.Author.Needs.{needs}
 use Rattle.pool.proofs.write.Statement.{statement}

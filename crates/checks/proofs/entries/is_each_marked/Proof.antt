@@ -1,6 +1,6 @@
 -- `is_each_marked` meets its contract: all the constants passed are marked or have no label.
 use Prim.Native.Nat.{_-_}
-use Rattle.checks.specs.Handed.{unlabelledOr}
+use Rattle.checks.specs.steps.Handed.{unlabelledOr}
 use Rattle.seqs.proofs.Scans.{AllPassed, scans}
 use borrow.Author.Needs.{needs}
 use Rattle.checks.proofs.entries.is_each_marked.Statement.{statement}

@@ -5,7 +5,7 @@ use Rattle.seqs.proofs.Booleans.{true-is-not-false}
 use Rattle.checks.proofs.Marking.{marks-next, new-entry}
 use native.Mathlib.Omega.{arith}
 use Prim.Native.Nat.{_-_}
-use Rattle.checks.specs.Handed.{askedLabel, Marks, newAt}
+use Rattle.checks.specs.steps.Handed.{askedLabel, Marks, newAt}
 use Rattle.words.specs.Words.{wordAt}
 use Rattle.seqs.proofs.Scans.{AllPassed, pass-none, pass-one, pass-fails, pass-all}
 use borrow.Author.Needs.{needs}

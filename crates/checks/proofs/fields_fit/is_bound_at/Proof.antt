@@ -1,5 +1,5 @@
 -- `is_bound_at` meets its contract.
-use Rattle.checks.specs.Fields.{isBoundAt}
+use Rattle.checks.specs.steps.Fields.{isBoundAt}
 use borrow.Author.Needs.{needs}
 use Rattle.checks.proofs.fields_fit.is_bound_at.Statement.{statement}
 use Rattle.checks.proofs.fields_fit.is_bound_at.Tie as tie

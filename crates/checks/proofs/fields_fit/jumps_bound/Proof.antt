@@ -1,7 +1,7 @@
 -- `jumps_bound` meets its contract: all the jumps passed name bound labels.
 use Prim.Native.Nat.{_-_}
 use native.Mathlib.Omega.{arith}
-use Rattle.checks.specs.Fields.{jumpBound, jumpsBound}
+use Rattle.checks.specs.steps.Fields.{jumpBound, jumpsBound}
 use Rattle.seqs.proofs.Scans.{AllPassed, scans}
 use borrow.Author.Needs.{needs}
 use Rattle.checks.proofs.fields_fit.jumps_bound.Statement.{statement}

@@ -1,7 +1,7 @@
 -- `refs_bound` meets its contract: all the refs passed name bound labels.
 use Prim.Native.Nat.{_-_}
 use native.Mathlib.Omega.{arith}
-use Rattle.checks.specs.Fields.{refBound, refsBound}
+use Rattle.checks.specs.steps.Fields.{refBound, refsBound}
 use Rattle.seqs.proofs.Scans.{AllPassed, scans}
 use borrow.Author.Needs.{needs}
 use Rattle.checks.proofs.fields_fit.refs_bound.Statement.{statement}

@@ -1,7 +1,7 @@
 -- `refs_clear` meets its contract: all the refs passed are clear.
 use Prim.Native.Nat.{_-_}
 use native.Mathlib.Omega.{arith}
-use Rattle.checks.specs.Fields.{refClear, refsClear}
+use Rattle.checks.specs.steps.Fields.{refClear, refsClear}
 use Rattle.seqs.proofs.Scans.{AllPassed, scans}
 use borrow.Author.Needs.{needs}
 use Rattle.checks.proofs.fields_fit.refs_clear.Statement.{statement}

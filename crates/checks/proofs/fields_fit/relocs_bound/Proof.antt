@@ -1,7 +1,7 @@
 -- `relocs_bound` meets its contract: all the targets passed are bound.
 use Prim.Native.Nat.{_-_}
 use native.Mathlib.Omega.{arith}
-use Rattle.checks.specs.Fields.{targetBound, relocsBound}
+use Rattle.checks.specs.steps.Fields.{targetBound, relocsBound}
 use Rattle.seqs.proofs.Scans.{AllPassed, scans}
 use borrow.Author.Needs.{needs}
 use Rattle.checks.proofs.fields_fit.relocs_bound.Statement.{statement}

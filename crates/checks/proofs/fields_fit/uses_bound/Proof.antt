@@ -1,7 +1,7 @@
 -- `uses_bound` meets its contract: all the uses passed name bound labels.
 use Prim.Native.Nat.{_-_}
 use native.Mathlib.Omega.{arith}
-use Rattle.checks.specs.Fields.{useBound, usesBound}
+use Rattle.checks.specs.steps.Fields.{useBound, usesBound}
 use Rattle.seqs.proofs.Scans.{AllPassed, scans}
 use borrow.Author.Needs.{needs}
 use Rattle.checks.proofs.fields_fit.uses_bound.Statement.{statement}

@@ -1,6 +1,6 @@
 -- `why_unreached` meets its contract: 19 comes before the reach.
 use mathlib.Core.Path.{sym}
-use Rattle.checks.specs.Fields.{whyUnreached}
+use Rattle.checks.specs.steps.Fields.{whyUnreached}
 use Rattle.seqs.proofs.Picking.{yes-lt, no-lt}
 use borrow.Author.Needs.{needs}
 use Rattle.checks.proofs.fields_fit.why_unreached.Statement.{statement}

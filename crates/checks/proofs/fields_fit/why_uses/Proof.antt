@@ -2,7 +2,7 @@
 use native.Mathlib.Omega.{arith}
 use Prim.Native.Nat.{_≤_, _-_}
 use mathlib.Core.Path.{_≡_}
-use Rattle.checks.specs.Fields.{whyUses}
+use Rattle.checks.specs.steps.Fields.{whyUses}
 use Rattle.checks.proofs.Reaching.{why-none, why-next, why-first, why-end}
 use borrow.Author.Needs.{needs}
 use Rattle.checks.proofs.fields_fit.why_uses.Statement.{statement}

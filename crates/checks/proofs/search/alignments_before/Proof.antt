@@ -1,7 +1,7 @@
 -- `alignments_before` meets its contract: each turn halves what is not told apart yet.
 use native.Mathlib.Omega.{arith}
 use Prim.Native.Nat.{_+_, _-_, _/_}
-use Rattle.pool.specs.Pool.{poolStart, poolOffset}
+use Rattle.pool.specs.steps.Pool.{poolStart, poolOffset}
 use Rattle.checks.proofs.Clear.{Halved, halved-first, halved-low, halved-high, halved-last, pool-ordered, placed-fewer}
 use borrow.Author.Needs.{needs}
 use Rattle.checks.proofs.search.alignments_before.Statement.{statement}

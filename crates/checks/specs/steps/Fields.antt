@@ -7,15 +7,13 @@ use lib.Dec.{eqb, leb, ltb}
 use Rattle.refusals.specs.Numbers as refusals
 use Rattle.seqs.specs.Pick.{pick}
 use Rattle.words.specs.Words.{wordAt}
-use Rattle.fields.specs.declared.Decoded.{Decoded}
-use Rattle.fields.specs.declared.Decoded.the-variants.{Use, Unsupported, Unknown}
-use Rattle.fields.specs.Kinds.{decoded, patchSize}
-use Rattle.fields.specs.Reach.{reachRefusal}
+use Rattle.fields.specs.Kinds.{decoded, sizeOf}
+use Rattle.fields.specs.Reach.{reachOf}
 use Rattle.relax.specs.Events.{eventWords, jumpKind}
 use Rattle.buffer.specs.State.{none, labelTarget}
 use Rattle.buffer.specs.Tables.{useWords, refWords, relocWords}
 use Rattle.recording.specs.Sound.{startAt, endAt}
-use Rattle.pool.specs.Pool.{poolStart, poolOffset}
+use Rattle.pool.specs.steps.Pool.{poolStart, poolOffset}
 use Rattle.seqs.specs.Every.{all}
 
 -- `isBound` (finish/specs/Refusals), of the bytes of the table of labels
@@ -48,12 +46,6 @@ jumpsBound events n labels = all (jumpBound events labels) n
 unfoldable pub relocsBound : List ℕ → ℕ → List ℕ → Bool
 relocsBound relocs n labels = all (targetBound relocs labels) n
 
--- a field's size, by its code
-abbrev pub sizeOf : Decoded → ℕ
-sizeOf (Use k) = patchSize k
-sizeOf Unsupported = 0
-sizeOf Unknown = 0
-
 -- what lies from one offset to another "starts before an event's end and ends after that event's start" for none of the recorded events, nor of the
 -- alignments of the pool
 unfoldable pub clearOfEvents : List ℕ → ℕ → ℕ → ℕ → Bool
@@ -74,11 +66,6 @@ unfoldable pub refsClear : List ℕ → ℕ → List ℕ → ℕ → ℕ → Lis
 refsClear refs count events n code constants asked m = all (refClear refs events n code constants asked m) count
 
 -- 19 to 22 for one use: "a use's field passes the pooled code's end", or it can't reach
-abbrev pub reachOf : Decoded → ℕ → ℕ → ℕ
-reachOf (Use k) offset label = reachRefusal k offset label
-reachOf Unsupported offset label = 0
-reachOf Unknown offset label = 0
-
 unfoldable pub whyUnreached : List ℕ → List ℕ → ℕ → ℕ → ℕ
 whyUnreached uses labels len i =
     let offset = wordAt uses (i * useWords) in

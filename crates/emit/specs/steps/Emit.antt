@@ -25,9 +25,10 @@ use Rattle.recording.specs.View.{entries}
 use Rattle.fresh.specs.Forms.{shortForm, longForm, Branch, fieldOf, branches, roleOf}
 use Rattle.fresh.specs.Segments.{segments, mapOffset}
 use Rattle.fresh.specs.Fill.{fillField, fillUse, fillJump}
-use Rattle.fresh.proofs.Shape.{Ordered, runs}
-use Rattle.pool.specs.Pool.{offsetBound}
-use Rattle.layout.specs.Layout.{zeroSegment}
+use Rattle.fresh.specs.Order.{Ordered}
+use Rattle.fresh.specs.steps.Runs.{runs}
+use Rattle.pool.specs.steps.Pool.{offsetBound}
+use Rattle.layout.specs.steps.Layout.{zeroSegment}
 
 -- a jump's form, short or long, displacement 0
 abbrev pub jumpForm : Condition → Bool → List ℕ

@@ -17,8 +17,9 @@ use Rattle.fresh.specs.Forms.{Branch, pads, branches, roleOf}
 use Rattle.fresh.specs.Fresh.{Choice}
 use Rattle.fresh.specs.Rounds.{Settled, allShort, jumps, farOf, any, join}
 use Rattle.fresh.specs.Segments.{segments, mapOffset}
-use Rattle.fresh.proofs.Shape.{Ordered, Small, Modest, newStarts, after}
-use Rattle.pool.specs.Pool.{poolEvent, offsetBound}
+use Rattle.fresh.specs.Order.{Ordered}
+use Rattle.fresh.specs.steps.Runs.{Small, Modest, newStarts, after}
+use Rattle.pool.specs.steps.Pool.{poolEvent, offsetBound}
 
 -- all zeros: the segment before the first, and what a table has past its end
 abbrev pub zeroSegment : Segment

@@ -7,7 +7,7 @@ use Rattle.relax.specs.declared.LayoutEvent.{LayoutEvent}
 use Rattle.buffer.specs.State.{keepsEvents}
 use Rattle.recording.specs.View.{entries, Use, Ref}
 use Rattle.fresh.specs.Pooled.{Placed, Pooled}
-use Rattle.pool.specs.Pool.{bytesAt, poolOffset, poolEvent, poolBytes}
+use Rattle.pool.specs.steps.Pool.{bytesAt, poolOffset, poolEvent, poolBytes}
 
 abbrev pub poolPlaced : ℕ → List ℕ → List ℕ → ℕ → Placed
 poolPlaced from constants asked j = record { offset = poolOffset from constants asked j; bytes = bytesAt constants asked j }

@@ -21,18 +21,18 @@ use Rattle.recording.specs.View.{Use, entries, useAt, refAt, relocAt}
 use Rattle.fresh.specs.Pooled.{Pooled}
 use Rattle.fresh.specs.Fill.{inPlace}
 use Rattle.fresh.specs.Segments.{mapOffset}
-use Rattle.fresh.proofs.Shape.{runs}
+use Rattle.fresh.specs.steps.Runs.{runs}
 use Rattle.fresh.specs.Forms.{moves}
-use Rattle.pool.specs.Pool.{labelAt, poolStart, poolOffset, poolBytes, poolWritten, poolUnbound, PoolFits, PoolLabels, PoolRoom}
-use Rattle.layout.specs.Layout.{Rising}
-use Rattle.emit.specs.Emit.{usesFilled, refsFilled, jumpsFilled, Emits, UsesFit, RefsFit, JumpsFit, WordsFit}
-use Rattle.checks.specs.Fields.{refsClear}
-use Rattle.checks.specs.Search as search
+use Rattle.pool.specs.steps.Pool.{labelAt, poolStart, poolOffset, poolBytes, poolWritten, poolUnbound, PoolFits, PoolLabels, PoolRoom}
+use Rattle.layout.specs.steps.Layout.{Rising}
+use Rattle.emit.specs.steps.Emit.{usesFilled, refsFilled, jumpsFilled, Emits, UsesFit, RefsFit, JumpsFit, WordsFit}
+use Rattle.checks.specs.steps.Fields.{refsClear}
+use Rattle.checks.specs.steps.Search as search
 use Rattle.finish.specs.declared.Finished.{Finished}
 use Rattle.finish.specs.declared.Outcome.{Outcome}
 use Rattle.finish.specs.Refusals.{allBound, whyNotInPlace}
 use Rattle.finish.specs.Finish.{Left, refusedWith, relaxed, unrelaxed, finishedWith, unfinished, finish}
-use Rattle.finish.specs.Tables.{tablesPooled}
+use Rattle.finish.specs.steps.Tables.{tablesPooled}
 
 -- a label as recordings leave it, or one of the pool
 abbrev pub Landed : List ℕ → ℕ → ℕ → List ℕ → List ℕ → ℕ → ℕ → Type 0

@@ -5,7 +5,7 @@ use mathlib.Core.List.{List}
 use lib.ListN.{length}
 use Rattle.words.specs.Words.{wordAt}
 use Rattle.buffer.specs.Tables.{labelSize, constantSize, askedSize}
-use Rattle.pool.specs.Pool.{labelAt, poolOffset}
+use Rattle.pool.specs.steps.Pool.{labelAt, poolOffset}
 
 -- n pieces of code in order, each of which ends before the next starts
 pub record Ordered (start end : ℕ → ℕ) (n : ℕ) : Type 0 where
