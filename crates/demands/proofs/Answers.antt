@@ -30,6 +30,7 @@ use Rattle.fresh.proofs.Fill.{length-inPlace}
 use Rattle.fresh.specs.Forms.{moves}
 use Rattle.checks.specs.Entries.{entriesFit}
 use Rattle.checks.proofs.Sound.{fits-sound}
+use Rattle.finish.proofs.FitOrRefused.{limits, sound, asked-few, pooled-ends, passed-unfit}
 use Rattle.finish.specs.declared.Finished.{Finished}
 use Rattle.finish.specs.declared.Outcome.{Outcome}
 use Rattle.checks.specs.Lent.{countsFit, withinLimits}
@@ -38,126 +39,24 @@ use Rattle.finish.specs.Refusals.{poolBoundBefore, allBound, refClear, refReach
 use Rattle.finish.specs.Finish.{overWords, Left, relaxed, unrelaxed, finishedWith, placedBy, finish}
 use Rattle.demands.specs.Demand2.{finishedCode}
 
-standing-passed : (b : CodeBuffer) (fit within : Bool) → standing b fit within ≡ 0 → (fit ≡ true) × (within ≡ true)
-unfolding standing
-standing-passed b fit within e =
-    let form = passed (not (archOccurs (b .arch) && refusalOccurs (b .refusal) && fit)) refusals.malformed _ (λ z. omega arith) e in
-    let refusal = zero-passed (b .refusal) _ (form .1) in (
-      both-true (archOccurs (b .arch) && refusalOccurs (b .refusal)) fit (not-false (archOccurs (b .arch) && refusalOccurs (b .refusal) && fit) (form .0)) .1,
-      not-false within (passed (not within) refusals.pastLimit (pick (not (eqb (b .finished) 0)) refusals.alreadyFinished 0) (λ z. omega arith) (refusal .1) .0),
-    )
-
--- the counts fit what is lent
-counted : (r : Recording) → countsFit r ≡ true
-    → (r .buffer .code ≤ length (r .code))
-    × (r .buffer .labels ≤ length (r .labels) / labelSize)
-    × (r .buffer .events ≤ length (r .events) / eventSize)
-    × (r .buffer .uses ≤ length (r .uses) / useSize)
-    × (r .buffer .refs ≤ length (r .refs) / refSize)
-    × (r .buffer .constants ≤ length (r .constants) / constantSize)
-    × (r .buffer .asked ≤ length (r .asked) / askedSize)
-    × (r .buffer .relocs ≤ length (r .relocs) / relocSize)
-unfolding countsFit
-counted r h =
-    let b = r .buffer in
-    let code = leb (b .code) (length (r .code)) in
-    let labels = leb (b .labels) (length (r .labels) / labelSize) in
-    let events = leb (b .events) (length (r .events) / eventSize) in
-    let uses = leb (b .uses) (length (r .uses) / useSize) in
-    let refs = leb (b .refs) (length (r .refs) / refSize) in
-    let constants = leb (b .constants) (length (r .constants) / constantSize) in
-    let asked = leb (b .asked) (length (r .asked) / askedSize) in
-    let relocs = leb (b .relocs) (length (r .relocs) / relocSize) in
-    let t1 = both-true code (labels && (events && (uses && (refs && (constants && (asked && relocs)))))) h in
-    let t2 = both-true labels (events && (uses && (refs && (constants && (asked && relocs))))) (t1 .1) in
-    let t3 = both-true events (uses && (refs && (constants && (asked && relocs)))) (t2 .1) in
-    let t4 = both-true uses (refs && (constants && (asked && relocs))) (t3 .1) in
-    let t5 = both-true refs (constants && (asked && relocs)) (t4 .1) in
-    let t6 = both-true constants (asked && relocs) (t5 .1) in
-    let t7 = both-true asked relocs (t6 .1) in (
-      leb-true (b .code) (length (r .code)) (t1 .0),
-      leb-true (b .labels) (length (r .labels) / labelSize) (t2 .0),
-      leb-true (b .events) (length (r .events) / eventSize) (t3 .0),
-      leb-true (b .uses) (length (r .uses) / useSize) (t4 .0),
-      leb-true (b .refs) (length (r .refs) / refSize) (t5 .0),
-      leb-true (b .constants) (length (r .constants) / constantSize) (t6 .0),
-      leb-true (b .asked) (length (r .asked) / askedSize) (t7 .0),
-      leb-true (b .relocs) (length (r .relocs) / relocSize) (t7 .1),
-    )
-
--- what is lent is within the limits, of code, labels, constants, the order of asking and the output
-lent : (r : Recording) (segments output : ℕ) → withinLimits r segments output ≡ true
-    → (length (r .code) ≤ mostCode)
-    × (length (r .labels) / labelSize ≤ mostEntries)
-    × (length (r .constants) / constantSize ≤ mostEntries)
-    × (length (r .asked) / askedSize ≤ mostEntries)
-    × (output ≤ mostCode)
-unfolding withinLimits
-lent r segments output h =
-    let code = leb (length (r .code)) mostCode in
-    let labels = leb (length (r .labels) / labelSize) mostEntries in
-    let events = leb (length (r .events) / eventSize) mostEntries in
-    let uses = leb (length (r .uses) / useSize) mostEntries in
-    let refs = leb (length (r .refs) / refSize) mostEntries in
-    let constants = leb (length (r .constants) / constantSize) mostEntries in
-    let asked = leb (length (r .asked) / askedSize) mostEntries in
-    let relocs = leb (length (r .relocs) / relocSize) mostEntries in
-    let ss = leb segments mostEntries in
-    let out = leb output mostCode in
-    let t1 = both-true code (labels && (events && (uses && (refs && (constants && (asked && (relocs && (ss && out)))))))) h in
-    let t2 = both-true labels (events && (uses && (refs && (constants && (asked && (relocs && (ss && out))))))) (t1 .1) in
-    let t3 = both-true events (uses && (refs && (constants && (asked && (relocs && (ss && out)))))) (t2 .1) in
-    let t4 = both-true uses (refs && (constants && (asked && (relocs && (ss && out))))) (t3 .1) in
-    let t5 = both-true refs (constants && (asked && (relocs && (ss && out)))) (t4 .1) in
-    let t6 = both-true constants (asked && (relocs && (ss && out))) (t5 .1) in
-    let t7 = both-true asked (relocs && (ss && out)) (t6 .1) in
-    let t8 = both-true relocs (ss && out) (t7 .1) in (
-      leb-true (length (r .code)) mostCode (t1 .0),
-      leb-true (length (r .labels) / labelSize) mostEntries (t2 .0),
-      leb-true (length (r .constants) / constantSize) mostEntries (t6 .0),
-      leb-true (length (r .asked) / askedSize) mostEntries (t7 .0),
-      leb-true output mostCode (both-true ss out (t8 .1) .1),
-    )
-
--- a recording that is fit: its entries are those that recordings write, and the pooled code and the output are small
+-- a recording that is fit: its entries are those that recordings write, and the pooled code, the output and the table of segments are small
 pub record Fit (r : Recording) (ss : List Segment) (output : List ℕ) : Type 0 where
   pub sound : Sound r
   pub few : r .buffer .asked ≤ mostEntries
   pub small : length (pooled (r .buffer .arch) (view r) .code) ≤ mostCode
   pub room : length output ≤ mostCode
+  pub segments : length ss ≤ mostEntries
 
 unfit-fit : (r : Recording) (ss : List Segment) (output : List ℕ) → whyUnfit r (length ss) (length output) ≡ 0 → Fit r ss output
-unfolding whyUnfit
 unfit-fit r ss output e =
-    let v = view r in
-    let len = length (pooled (r .buffer .arch) v .code) in
-    let rest : ℕ = pick (poolBoundBefore v) 13 (pick (ltb mostCode len) 14 0) in
-    let within = withinLimits r (length ss) (length output) in
-    let both = neither (standing (r .buffer) (countsFit r) within) (pick (not (entriesFit r)) 1 rest) e in
-    let stands = standing-passed (r .buffer) (countsFit r) within (both .0) in
-    let counts = counted r (stands .0) in
-    let limits = lent r (length ss) (length output) (stands .1) in
-    let one = passed (not (entriesFit r)) refusals.malformed rest (λ z. omega arith) (both .1) in
-    let two = passed (poolBoundBefore v) refusals.poolLabelBound (pick (ltb mostCode len) refusals.poolTooLarge 0) (λ z. omega arith) (one .1) in
+    let p = passed-unfit r (length ss) (length output) e in
+    let known = limits r (length ss) (length output) (p .stood) in
     record {
-      sound =
-          fits-sound r
-          (record { room = counts .0; limit = omega (arith, counts .0, limits .0) })
-          (record {
-            labels-room = omega (arith, counts .1);
-            labels-limit = omega (arith, counts .1, limits .1);
-            events-room = omega (arith, counts .2);
-            uses-room = omega (arith, counts .3);
-            refs-room = omega (arith, counts .4);
-            constants-room = omega (arith, counts .5);
-            constants-limit = omega (arith, counts .5, limits .2);
-            asked-room = omega (arith, counts .6);
-            relocs-room = omega (arith, counts .7);
-          })
-          (not-false (entriesFit r) (one .0));
-      few = omega (arith, counts .6, limits .3);
-      small = ltb-false mostCode len (passed (ltb mostCode len) refusals.poolTooLarge 0 (λ z. omega arith) (two .1) .0);
-      room = limits .4;
+      sound = sound r (length ss) (length output) (p .stood) (p .fit);
+      few = asked-few r (length ss) (length output) (p .stood);
+      small = omega (arith, pooled-ends r (length ss) (length output) (p .stood) (p .fit), p .short);
+      room = known .output-limit;
+      segments = known .segments-limit;
     }
 
 -- a choice whose other side does not answer 0
@@ -166,18 +65,23 @@ unfolding pick
 chosen-zero f true x y h e = refl
 chosen-zero f false x y h e = absurd (h refl e)
 
--- With a jump: no ref is refused with 17 or 18; the code, which fits the output, the mapped labels over `labels`, and the number of rounds are left.
-pub record Assembled (p : Pooled) (labels output code table : List ℕ) (layouts : ℕ) : Type 0 where
+-- With a jump: the table of segments has room, no ref is refused with 17 or 18; the code, which fits the output, its length, the mapped labels over
+-- `labels`, and the number of rounds are left.
+pub record Assembled (p : Pooled) (ss : List Segment) (labels output code table : List ℕ) (len layouts : ℕ) : Type 0 where
+  pub room : length (p .events) ≤ length ss
   pub clear : every (refClear p) (p .refs) ≡ true
   pub reach : every (refReaches p (settled p .choice)) (p .refs) ≡ true
   pub fits : length (assembled p (settled p .choice)) ≤ length output
+  pub reported : len ≡ length (assembled p (settled p .choice))
   pub is : code ≡ assembled p (settled p .choice)
   pub mapped : table ≡ overWords labels (map (moved p (settled p .choice)) (p .labels))
   pub rounds : layouts ≡ settled p .rounds
 
--- Without one: no use is refused, and the code is what is left.
-pub record Kept (p : Pooled) (output code : List ℕ) : Type 0 where
+-- Without one: no use is refused, and the code, which fits the output, is what is left.
+pub record Kept (p : Pooled) (output code : List ℕ) (len : ℕ) : Type 0 where
   pub none-refused : usesRefusal p (p .uses) ≡ 0
+  pub fits : length (p .code) ≤ length output
+  pub reported : len ≡ length (p .code)
   pub is : code ≡ inPlace p
 
 taken : (output code : List ℕ) (n : ℕ) → n ≡ length code → length code ≤ length output → take n (over output 0 code) ≡ code
@@ -190,8 +94,8 @@ codeOf placed = take (placed .0 .len) (placed .1 .1 .1 .1)
 
 relaxed-leaves : (p : Pooled) (count : ℕ) (labels relocs : List ℕ) (ss : List Segment) (output : List ℕ)
     → relaxed p count labels relocs ss output .0 .refusal ≡ 0
-    → Assembled p labels output (codeOf (relaxed p count labels relocs ss output)) (relaxed p count labels relocs ss output .1 .0)
-    (relaxed p count labels relocs ss output .0 .layouts)
+    → Assembled p ss labels output (codeOf (relaxed p count labels relocs ss output)) (relaxed p count labels relocs ss output .1 .0)
+    (relaxed p count labels relocs ss output .0 .len) (relaxed p count labels relocs ss output .0 .layouts)
 unfolding relaxed whyNotLaid whyNotWritten
 relaxed-leaves p count labels relocs ss output e =
     let c = settled p .choice in
@@ -205,16 +109,18 @@ relaxed-leaves p count labels relocs ss output e =
     let fits = ltb-false (length output) (length (assembled p c)) (passed (ltb (length output) (length (assembled p c))) refusals.outputTooSmall 0 (λ z. omega arith) (far .1) .0) in
     let leaves = pick-yes (eqb early 0) _ _ first·zero ∙ pick-yes (eqb late 0) _ _ second·zero in
     record {
+      room = ltb-false (length ss) (length (p .events)) (out .0);
       clear = not-false (every (refClear p) (p .refs)) (passed (not (every (refClear p) (p .refs))) refusals.refOverlaps 0 (λ z. omega arith) (out .1) .0);
       reach = not-false (every (refReaches p c) (p .refs)) (far .0);
       fits = fits;
+      reported = ap (λ (x : Outcome × Left). x .0 .len) leaves;
       is = ap codeOf leaves ∙ taken output (assembled p c) (length (assembled p c)) refl fits;
       mapped = ap (λ (x : Outcome × Left). x .1 .0) leaves;
       rounds = ap (λ (x : Outcome × Left). x .0 .layouts) leaves;
     }
 
 unrelaxed-leaves : (p : Pooled) (labels relocs : List ℕ) (ss : List Segment) (output : List ℕ)
-    → unrelaxed p labels relocs ss output .0 .refusal ≡ 0 → Kept p output (codeOf (unrelaxed p labels relocs ss output))
+    → unrelaxed p labels relocs ss output .0 .refusal ≡ 0 → Kept p output (codeOf (unrelaxed p labels relocs ss output)) (unrelaxed p labels relocs ss output .0 .len)
 unfolding unrelaxed whyNotInPlace
 unrelaxed-leaves p labels relocs ss output e =
     let why = whyNotInPlace p (length output) in
@@ -223,6 +129,8 @@ unrelaxed-leaves p labels relocs ss output e =
     let fits = ltb-false (length output) (length (p .code)) (passed (ltb (length output) (length (p .code))) refusals.outputTooSmall 0 (λ z. omega arith) (both .1) .0) in
     record {
       none-refused = both .0;
+      fits = fits;
+      reported = ap (λ (x : Outcome × Left). x .0 .len) (pick-yes (eqb why 0) _ _ zero);
       is =
           ap codeOf (pick-yes (eqb why 0) _ _ zero)
           ∙ taken output (inPlace p) (length (p .code)) (sym (length-inPlace p)) (omega (arith, length-inPlace p));
@@ -233,9 +141,9 @@ pub record Answered (r : Recording) (ss : List Segment) (output : List ℕ) : Ty
   pub fit : Fit r ss output
   pub bound : allBound (pooled (r .buffer .arch) (view r)) (view r .relocs) ≡ true
   pub jumped : moves (pooled (r .buffer .arch) (view r) .events) ≡ true
-      → Assembled (pooled (r .buffer .arch) (view r)) (overWords (r .labels) (pooled (r .buffer .arch) (view r) .labels)) output (finishedCode r ss output)
-      (finish r ss output .1 .0) (finish r ss output .0 .code .layouts)
-  pub straight : moves (pooled (r .buffer .arch) (view r) .events) ≡ false → Kept (pooled (r .buffer .arch) (view r)) output (finishedCode r ss output)
+      → Assembled (pooled (r .buffer .arch) (view r)) ss (overWords (r .labels) (pooled (r .buffer .arch) (view r) .labels)) output (finishedCode r ss output)
+      (finish r ss output .1 .0) (finish r ss output .0 .code .len) (finish r ss output .0 .code .layouts)
+  pub straight : moves (pooled (r .buffer .arch) (view r) .events) ≡ false → Kept (pooled (r .buffer .arch) (view r)) output (finishedCode r ss output) (finish r ss output .0 .code .len)
 
 pub finish-answered : (r : Recording) (ss : List Segment) (output : List ℕ) → finish r ss output .0 .refusal ≡ 0 → Answered r ss output
 unfolding finish placedBy
@@ -254,18 +162,18 @@ finish-answered r ss output e =
     let is : finish r ss output ≡ (finishedWith b (placed .0), placed .1) = pick-yes (eqb why 0) _ _ fit ∙ pick-yes (eqb (placed .0 .refusal) 0) _ _ done in
     let inner : placed ≡ pick (moves (p .events)) (relaxed p (b .relocs) labels (r .relocs) ss output) (unrelaxed p labels (r .relocs) ss output) =
     pick-yes (allBound p (view r .relocs)) _ _ bound in
-    let code : finishedCode r ss output ≡ codeOf placed = ap (λ (x : Finished × Left). take (x .0 .code .len) (x .1 .1 .1 .1)) is in
     let zero : placed .0 .refusal ≡ 0 = eqb-true (placed .0 .refusal) 0 done in
     record {
       fit = unfit-fit r ss output (eqb-true why 0 fit);
       bound = bound;
       jumped = λ jump.
           let all = inner ∙ pick-yes (moves (p .events)) (relaxed p (b .relocs) labels (r .relocs) ss output) (unrelaxed p labels (r .relocs) ss output) jump in
-          subst (λ (x : Finished × Left). Assembled p labels output (take (x .0 .code .len) (x .1 .1 .1 .1)) (x .1 .0) (x .0 .code .layouts))
+          subst (λ (x : Finished × Left). Assembled p ss labels output (take (x .0 .code .len) (x .1 .1 .1 .1)) (x .1 .0) (x .0 .code .len) (x .0 .code .layouts))
           (sym (is ∙ ap (λ (x : Outcome × Left). (finishedWith b (x .0), x .1)) all))
           (relaxed-leaves p (b .relocs) labels (r .relocs) ss output (subst (λ (x : Outcome × Left). x .0 .refusal ≡ 0) all zero));
       straight = λ none.
           let all = inner ∙ pick-no (moves (p .events)) (relaxed p (b .relocs) labels (r .relocs) ss output) (unrelaxed p labels (r .relocs) ss output) none in
-          subst (Kept p output) (sym (code ∙ ap codeOf all))
+          subst (λ (x : Finished × Left). Kept p output (take (x .0 .code .len) (x .1 .1 .1 .1)) (x .0 .code .len))
+          (sym (is ∙ ap (λ (x : Outcome × Left). (finishedWith b (x .0), x .1)) all))
           (unrelaxed-leaves p labels (r .relocs) ss output (subst (λ (x : Outcome × Left). x .0 .refusal ≡ 0) all zero));
     }

@@ -26,10 +26,10 @@ demand2 r ss output bytes e =
       jumped = λ jump.
           let done = a .jumped jump in
           subst (Relaxed p (settled p .choice)) (sym (done .is))
-          (assembled-means p (settled p .choice) (fitting r sound few (x64 r sound few jump) ss output _ _ _ _ (a .fit) (a .bound) done));
+          (assembled-means p (settled p .choice) (fitting r sound few (x64 r sound few jump) (a .fit) (a .bound) done));
       straight = λ none.
           let done = a .straight none in (
-            subst (InPlace p) (sym (done .is)) (in-place-means p (reaching r sound few ss output (finishedCode r ss output) bytes (a .fit) done)),
+            subst (InPlace p) (sym (done .is)) (in-place-means p (reaching r sound few bytes (a .fit) done)),
             subst (PoolPadded (r .buffer .arch) (view r)) (sym (done .is)) (pool-padded (r .buffer .arch) (view r)),
           );
     }

@@ -49,11 +49,11 @@ target-small p c fitting l =
     omega (arith, fitting .small, moved-le p c (getD (p .labels) l none) (omega (arith, lies .0, fitting .recorded))))
     (eq-or-ne (getD (p .labels) l none) none)
 
--- With a jump: the finished bytes, the label table as it is left, and the layouts reported.
+-- With a jump: the finished bytes, the label table as it is left, and the length and the layouts reported.
 pub demand3-holds : (r : Recording) (ss : List Segment) (output : List ℕ) → finish r ss output .0 .refusal ≡ 0
     → moves (pooled (r .buffer .arch) (view r) .events) ≡ true
     → Demand3 (pooled (r .buffer .arch) (view r)) (finishedCode r ss output) (entries (wordAt (finish r ss output .1 .0)) (r .buffer .labels))
-    (finish r ss output .0 .code .layouts)
+    (finish r ss output .0 .code .len) (finish r ss output .0 .code .layouts)
 demand3-holds r ss output e jump =
     let b = r .buffer in
     let p = pooled (b .arch) (view r) in
@@ -62,7 +62,7 @@ demand3-holds r ss output e jump =
     let sound = a .fit .sound in
     let few = a .fit .few in
     let done = a .jumped jump in
-    let fits = fitting r sound few (x64 r sound few jump) ss output _ _ _ _ (a .fit) (a .bound) done in
+    let fits = fitting r sound few (x64 r sound few jump) (a .fit) (a .bound) done in
     let at = labelled r sound few in
     let f : ℕ → ℕ = λ (i : ℕ). moved p c (at .0 i) in
     let all : map (moved p c) (p .labels) ≡ entries f (b .labels) = ap (map (moved p c)) (at .1) ∙ map-entries (moved p c) (at .0) (b .labels) in
@@ -73,7 +73,10 @@ demand3-holds r ss output e jump =
     ap (λ (t : List ℕ). entries (wordAt t) (b .labels)) (done .mapped ∙ ap (overWords table) all)
     ∙ words-read f table (b .labels) (omega (arith, sound .labels .room, length-over (r .labels) 0 (bytesOfAll (p .labels)))) small
     ∙ sym all in
-    subst (Demand3 p (finishedCode r ss output) (entries (wordAt (finish r ss output .1 .0)) (b .labels))) (sym (done .rounds))
-    (subst (λ (l : List ℕ). Demand3 p (finishedCode r ss output) l (settled p .rounds)) (labels-same p c (fits .formed) ∙ sym read)
-    (subst (λ (l : List ℕ). Demand3 p l (map (mapOffset (segmentsOf p c)) (p .labels)) (settled p .rounds)) (built-assembled p c (fits .formed) ∙ sym (done .is))
-    (demand3 p (fits .formed) (fits .bound))))
+    let code = finishedCode r ss output in
+    let labels = entries (wordAt (finish r ss output .1 .0)) (b .labels) in
+    subst (Demand3 p code labels (finish r ss output .0 .code .len)) (sym (done .rounds))
+    (subst (λ (n : ℕ). Demand3 p code labels n (settled p .rounds)) (ap length (done .is) ∙ sym (done .reported))
+    (subst (λ (l : List ℕ). Demand3 p code l (length code) (settled p .rounds)) (labels-same p c (fits .formed) ∙ sym read)
+    (subst (λ (l : List ℕ). Demand3 p l (map (mapOffset (segmentsOf p c)) (p .labels)) (length l) (settled p .rounds)) (built-assembled p c (fits .formed) ∙ sym (done .is))
+    (demand3 p (fits .formed) (fits .bound)))))

@@ -33,16 +33,18 @@ use Rattle.recording.specs.View as tables
 use Rattle.recording.proofs.Views.{length-entries, getD-entries}
 use Rattle.fresh.specs.Pooled.{Pooled, pooled}
 use Rattle.fresh.specs.Rounds.{jumps, settled}
-use Rattle.fresh.proofs.Shape.{Apart, WellFormed, Bound}
+use Rattle.fresh.specs.Order.{Apart, WellFormed}
+use Rattle.fresh.proofs.Least.{Bound}
 use Rattle.fresh.proofs.Rounds.{rounds-settle, rounds-last, none-fits}
 use Rattle.fresh.proofs.Fill.{length-assembled}
 use Rattle.fresh.specs.Forms.{Branch, branches, roleOf, moves}
-use Rattle.pool.specs.Pool.{poolOffset, poolEvent, poolBound}
+use Rattle.pool.specs.steps.Pool.{poolOffset, poolEvent, poolBound}
 use Rattle.pool.proofs.Pool.{poolStart-suc, poolStart-grows, from-poolStart}
-use Rattle.checks.specs.Fields.{sizeOf, reachOf}
-use Rattle.emit.specs.Emit.{Writes}
-use Rattle.finish.specs.Tables.{poolPlaced, tablesPooled}
-use Rattle.finish.specs.Ready.{Landed, Ready}
+use Rattle.fields.specs.Kinds.{sizeOf}
+use Rattle.fields.specs.Reach.{reachOf}
+use Rattle.emit.specs.steps.Emit.{Writes}
+use Rattle.finish.specs.steps.Tables.{poolPlaced, tablesPooled}
+use Rattle.finish.specs.steps.Ready.{Landed, Ready}
 use Rattle.seqs.proofs.Every.{every-at}
 use Rattle.seqs.specs.Every.{every}
 use Rattle.finish.specs.Refusals.{isBound, jumpBound, relocBound, allBound, refClear, refReaches, useRefusal, usesRefusal}
@@ -151,8 +153,8 @@ module _ (r : Recording) (s : Sound r) (few : r .buffer .asked ≤ mostEntries) 
       (l, ap (λ (x : List tables.Ref). getD x i (record { offset = 0; label = 0; code = 0; addend = 0 })) e ∙ getD-entries (tables.refAt (r .refs)) (b .refs) i _ l)
 
   -- without a jump
-  pub reaching : (ss : List Segment) (output code : List ℕ) → Bytes (r .code) → Fit r ss output → Kept p output code → Reaching p
-  reaching ss output code bytes fit kept =
+  pub reaching : {ss : List Segment} {output code : List ℕ} {len : ℕ} → Bytes (r .code) → Fit r ss output → Kept p output code len → Reaching p
+  reaching bytes fit kept =
       record {
         bytes = bytes-pooled (b .arch) (tables.view r) (length (tables.view r .asked)) (bytes-take (b .code) (r .code) bytes);
         recorded = omega (arith, fit .small);
@@ -261,9 +263,9 @@ module _ (r : Recording) (s : Sound r) (few : r .buffer .asked ≤ mostEntries) 
         (subst (λ (a : ℕ). foreign (decoded (wordAt (r .refs) (i * refWords + 2))) a ≡ false) is64 sound)
 
     -- with a jump
-    pub fitting : (ss : List Segment) (output labels code table : List ℕ) (layouts : ℕ) → Fit r ss output
-        → allBound p (tables.view r .relocs) ≡ true → Assembled p labels output code table layouts → Fitting p (settled p .choice)
-    fitting ss output labels code table layouts fit bounds done =
+    pub fitting : {ss : List Segment} {output labels code table : List ℕ} {len layouts : ℕ} → Fit r ss output
+        → allBound p (tables.view r .relocs) ≡ true → Assembled p ss labels output code table len layouts → Fitting p (settled p .choice)
+    fitting fit bounds done =
         let c = settled p .choice in
         record {
           formed = formed (done .clear);

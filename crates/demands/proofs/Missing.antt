@@ -14,7 +14,7 @@ use Rattle.buffer.specs.State.{none}
 use Rattle.fresh.specs.Pooled.{Pooled}
 use Rattle.fresh.specs.Forms.{width}
 use Rattle.fresh.specs.Fresh.{Choice, isLong, others, Item, plain, event, items, starts, stands, walk, moved}
-use Rattle.fresh.proofs.Shape.{Apart, WellFormed}
+use Rattle.fresh.specs.Order.{Apart, WellFormed}
 use Rattle.fresh.proofs.Tests.{split}
 use Rattle.fresh.proofs.Items.{AtEvents, at-items}
 use Rattle.fresh.proofs.Segments.{starts-run}

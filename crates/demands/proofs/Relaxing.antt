@@ -30,12 +30,13 @@ use Rattle.fresh.specs.Forms.{form, width, Branch, fieldOf, pads, branches, bra
 use Rattle.fresh.specs.Fresh.{Choice, starts, walk, placed, moved, target}
 use Rattle.fresh.specs.Fill.{part, fillRefs, fillJumps, fill, assembled}
 use Rattle.fresh.specs.Demand.{Reach, Fits}
-use Rattle.fresh.proofs.Shape.{Apart, WellFormed, Bound}
+use Rattle.fresh.specs.Order.{Apart, WellFormed}
+use Rattle.fresh.proofs.Least.{Bound}
 use Rattle.fresh.proofs.Forms.{field-inside}
 use Rattle.fresh.proofs.Fill.{length-assembled, length-fillRefs}
 use Rattle.fresh.proofs.Within.{moved-le, moved-within, end-within}
-use Rattle.checks.specs.Fields.{sizeOf}
-use Rattle.emit.specs.Emit.{Encodes}
+use Rattle.fields.specs.Kinds.{sizeOf}
+use Rattle.emit.specs.steps.Emit.{Encodes}
 use Rattle.finish.specs.Refusals.{reachesBy, refReaches}
 use Rattle.demands.specs.Reading.{Reads}
 use Rattle.demands.specs.Demand2.{Disjoint, refOf, eventOf, constantOf, newStart, newEnd, RefMisses, ConstantMisses, Means, Relaxed}

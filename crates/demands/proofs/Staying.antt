@@ -5,7 +5,8 @@ use mathlib.Core.Bool.{true}
 use mathlib.Core.List.{List, _++_, append-assoc}
 use Prim.Native.Nat.{ℕ, zero, suc, _+_, _-_, _%_, _≤_, _<_}
 use native.Mathlib.Omega.{arith}
-use lib.ListN.{length, getD, take, replicate}
+use lib.ListN.{length, getD, take, drop, replicate}
+use lib.Seq.{getD-take, getD-drop}
 use borrow.Author.Tests.{eq-eqb, ne-eqb}
 use Rattle.seqs.proofs.Numbers.{eq-or-ne}
 use Rattle.words.specs.Words.{wordAt}
@@ -27,7 +28,7 @@ use Rattle.fields.specs.Words64.{modulus, plus, signExtend}
 use Rattle.fields.specs.Kinds.{codeOf, patchSize, decoded}
 use Rattle.fields.specs.Reach.{canReach}
 use Rattle.fields.specs.Patch.{heldAddend, patchedUse}
-use Rattle.fields.specs.Meaning.{Clear}
+use Rattle.fields.specs.Meaning.{meaning, demanded, Clear}
 use Rattle.fields.proofs.Fields.{Field, field-means, use-adds-held}
 use Rattle.buffer.specs.State.{none}
 use Rattle.buffer.specs.Calls.{padding}
@@ -36,7 +37,7 @@ use Rattle.recording.specs.View as tables
 use Rattle.fresh.specs.Pooled.{Pooled, pooledOne, askedConstant, pooledTo, pooled}
 use Rattle.fresh.specs.Fill.{part, fillUses, inPlace}
 use Rattle.fresh.proofs.Fill.{length-fillUses}
-use Rattle.demands.specs.Demand2.{Bytes, useOf, UseMisses, ConstantMisses, Means, heldBy, InPlace, IsPadding, padStart, padLength, PoolPadded}
+use Rattle.demands.specs.Demand2.{Bytes, useOf, UseMisses, ConstantMisses, Means, heldBy, InPlace, IsPadding, padStart, padLength, Padded, PoolPadded}
 use Rattle.demands.proofs.Kept.{length-part, uses-kept, pool-kept, use-filled}
 use Rattle.demands.proofs.Placing.{part-between}
 use Rattle.demands.proofs.Bytes.{bytes-part, bytes-filled, pooled-arch}
@@ -62,17 +63,18 @@ nothing-held k held h =
     (λ (ne : codeOf k ≢ 0). rw (ne-eqb (codeOf k) 0 ne) refl)
     (eq-or-ne (codeOf k) 0)
 
-adds-held : (k : LabelUse) (offset label : ℕ) (held : List ℕ) → codeOf k ≡ 0 → Field k held → offset < 4294967296
-    → wordAt (patchedUse k offset label held) 0 ≡ (label + wordAt held 0 + (8589934592 - (offset + 4))) % 4294967296
-adds-held X86JmpRel32 offset label held e f h = use-adds-held offset label held f h
-adds-held X86BranchRel8 offset label held e f h = absurd (omega arith)
-adds-held A64Branch14 offset label held e f h = absurd (omega arith)
-adds-held A64Branch19 offset label held e f h = absurd (omega arith)
-adds-held A64Branch26 offset label held e f h = absurd (omega arith)
-adds-held A64Ldr19 offset label held e f h = absurd (omega arith)
-adds-held A64Adr21 offset label held e f h = absurd (omega arith)
-adds-held A64Adrp21 offset label held e f h = absurd (omega arith)
-adds-held A64AddAbsLo12 offset label held e f h = absurd (omega arith)
+adds-held : (k : LabelUse) (base offset label : ℕ) (held : List ℕ) → codeOf k ≡ 0 → Field k held → offset < 4294967296
+    → meaning k (plus base offset) (wordAt (patchedUse k offset label held) 0) % 4294967296
+    ≡ demanded k (plus base (plus label (signExtend 32 (wordAt held 0)))) % 4294967296
+adds-held X86JmpRel32 base offset label held e f h = use-adds-held base offset label held f h
+adds-held X86BranchRel8 base offset label held e f h = absurd (omega arith)
+adds-held A64Branch14 base offset label held e f h = absurd (omega arith)
+adds-held A64Branch19 base offset label held e f h = absurd (omega arith)
+adds-held A64Branch26 base offset label held e f h = absurd (omega arith)
+adds-held A64Ldr19 base offset label held e f h = absurd (omega arith)
+adds-held A64Adr21 base offset label held e f h = absurd (omega arith)
+adds-held A64Adrp21 base offset label held e f h = absurd (omega arith)
+adds-held A64AddAbsLo12 base offset label held e f h = absurd (omega arith)
 
 module _ (p : Pooled) where
   -- a part that no constant covers
@@ -120,23 +122,24 @@ module _ (p : Pooled) (reaching : Reaching p) where
   use-adds : (i : ℕ) (k : LabelUse) → i < length (p .uses) → decoded (useOf p i .code) ≡ Use k → codeOf k ≡ 0
       → ((j : ℕ) → i < j → UseMisses p (useOf p i .offset) (patchSize k) j)
       → ((j : ℕ) → ConstantMisses here p (useOf p i .offset) (patchSize k) j)
-      → wordAt (part (inPlace p) (useOf p i .offset) (patchSize k)) 0
-      ≡ (getD (p .labels) (useOf p i .label) none + wordAt (heldBy p i k) 0 + (8589934592 - (useOf p i .offset + 4))) % 4294967296
-  use-adds i k h is none·code uses constants =
-      ap (λ (l : List ℕ). wordAt l 0) (field-is i k h is uses constants)
-      ∙ adds-held k (useOf p i .offset) (getD (p .labels) (useOf p i .label) none) (heldBy p i k) none·code (held-field i k h is)
-      (omega (arith, reaching .within i k h is, reaching .recorded))
+      → (base : ℕ) → meaning k (plus base (useOf p i .offset)) (wordAt (part (inPlace p) (useOf p i .offset) (patchSize k)) 0) % 4294967296
+      ≡ demanded k (plus base (plus (getD (p .labels) (useOf p i .label) none) (signExtend 32 (wordAt (heldBy p i k) 0)))) % 4294967296
+  use-adds i k h is none·code uses constants base =
+      let offset = useOf p i .offset in
+      let label = getD (p .labels) (useOf p i .label) none in
+      ap (λ (l : List ℕ). meaning k (plus base offset) (wordAt l 0) % 4294967296) (field-is i k h is uses constants)
+      ∙ adds-held k base offset label (heldBy p i k) none·code (held-field i k h is) (omega (arith, reaching .within i k h is, reaching .recorded))
 
   -- Every field of the code of a recording without a jump.
   pub in-place-means : InPlace p (inPlace p)
   in-place-means = record { uses = use-means; adds = use-adds; copied = all-stay p }
 
 -- the padding before constant j stands in the pooled code
-pub record Padded (arch : ℕ) (v : tables.View) (j n : ℕ) : Type 0 where
-  pub after : List ℕ
-  pub is : pooledTo arch v n .code ≡ pooledTo arch v j .code ++ (padding arch (padLength arch v j) ++ after)
+record PadStands (arch : ℕ) (v : tables.View) (j n : ℕ) : Type 0 where
+  after : List ℕ
+  is : pooledTo arch v n .code ≡ pooledTo arch v j .code ++ (padding arch (padLength arch v j) ++ after)
 
-padded : (arch : ℕ) (v : tables.View) (j n : ℕ) → j < n → Padded arch v j n
+padded : (arch : ℕ) (v : tables.View) (j n : ℕ) → j < n → PadStands arch v j n
 unfolding pooledOne
 padded arch v j zero h = absurd (omega arith)
 padded arch v j (suc n) h =
@@ -157,25 +160,36 @@ padded arch v j (suc n) h =
     (eq-or-ne j n)
 
 -- what pads is padding
-pub is-padding : (arch n : ℕ) (bytes : List ℕ) → bytes ≡ padding arch n → IsPadding arch n bytes
+is-padding : (arch n : ℕ) (bytes : List ℕ) → bytes ≡ padding arch n → IsPadding arch n bytes
 is-padding arch n bytes e =
     record {
       nops = λ x86. rw (e, ne-eqb arch 6 x86) (nops-read n);
       zeros = λ a64. e ∙ rw (eq-eqb arch 6 a64) refl;
     }
 
-module _ (arch : ℕ) (v : tables.View) where
-  padding-is : (j : ℕ) → j < length (v .asked)
-      → ((i : ℕ) → UseMisses (pooled arch v) (padStart arch v j) (padLength arch v j) i)
-      → ((i : ℕ) → ConstantMisses here (pooled arch v) (padStart arch v j) (padLength arch v j) i)
-      → part (inPlace (pooled arch v)) (padStart arch v j) (padLength arch v j) ≡ padding arch (padLength arch v j)
-  padding-is j h uses constants =
-      let q = padded arch v j (length (v .asked)) h in
-      all-stay (pooled arch v) (padStart arch v j) (padLength arch v j) uses constants
-      ∙ part-between (pooled arch v .code) (pooledTo arch v j .code) (padding arch (padLength arch v j)) (q .after) (padStart arch v j) (padLength arch v j) (q .is) refl
-      (sym (padding-length arch (padLength arch v j)))
+-- byte x of the n bytes from a on
+part-byte : (l : List ℕ) (a n x : ℕ) → a ≤ x → x < a + n → getD (part l a n) (x - a) 0 ≡ getD l x 0
+part-byte l a n x from to =
+    let at : a + (x - a) ≡ x = omega arith in
+    getD-take n (drop a l) (x - a) 0 (omega arith) ∙ getD-drop a l (x - a) 0 ∙ ap (λ (i : ℕ). getD l i 0) at
 
-  -- The padding of every pooled constant.
-  pub pool-padded : PoolPadded arch v (inPlace (pooled arch v))
-  pool-padded j h uses constants =
-      is-padding arch (padLength arch v j) (part (inPlace (pooled arch v)) (padStart arch v j) (padLength arch v j)) (padding-is j h uses constants)
+-- What is padding in the pooled code is padding in the finished one, byte by byte, where nothing covers it.
+pub stays-padded : (p : Pooled) (arch a n : ℕ) → part (p .code) a n ≡ padding arch n → Padded p arch a n (inPlace p)
+stays-padded p arch a n is =
+    record {
+      each = λ x from to uses constants.
+          sym (part-byte (inPlace p) x 1 x (omega arith) (omega arith))
+          ∙ ap (λ (l : List ℕ). getD l (x - x) 0) (all-stay p x 1 uses constants)
+          ∙ part-byte (p .code) x 1 x (omega arith) (omega arith)
+          ∙ sym (part-byte (p .code) a n x from to)
+          ∙ ap (λ (l : List ℕ). getD l (x - a) 0) is;
+      whole = λ uses constants. is-padding arch n (part (inPlace p) a n) (all-stay p a n uses constants ∙ is);
+    }
+
+-- The padding of every pooled constant.
+pub pool-padded : (arch : ℕ) (v : tables.View) → PoolPadded arch v (inPlace (pooled arch v))
+pool-padded arch v j h =
+    let q = padded arch v j (length (v .asked)) h in
+    stays-padded (pooled arch v) arch (padStart arch v j) (padLength arch v j)
+    (part-between (pooled arch v .code) (pooledTo arch v j .code) (padding arch (padLength arch v j)) (q .after) (padStart arch v j) (padLength arch v j) (q .is) refl
+    (sym (padding-length arch (padLength arch v j))))

@@ -12,7 +12,7 @@ use Rattle.encoder.specs.Intel.{AreNops}
 use Rattle.fields.specs.declared.LabelUse.{LabelUse}
 use Rattle.fields.specs.declared.Decoded.the-variants.{Use}
 use Rattle.fields.specs.Words64.{plus, signExtend}
-use Rattle.fields.specs.Kinds.{codeOf, patchSize, decoded}
+use Rattle.fields.specs.Kinds.{archA64, codeOf, patchSize, decoded}
 use Rattle.fields.specs.Meaning.{meaning, demanded, loadMultiple, Clear}
 use Rattle.relax.specs.declared.LayoutEvent.{LayoutEvent}
 use Rattle.relax.specs.declared.LayoutEvent.the-variants.{Jump, Align}
@@ -21,6 +21,7 @@ use Rattle.relax.specs.declared.RelaxableJump.{RelaxableJump}
 use Rattle.relax.specs.Events.{noEvent}
 use Rattle.relax.specs.declared.Alignment.{Alignment}
 use Rattle.buffer.specs.State.{none}
+use Rattle.buffer.specs.Calls.{padding}
 use Rattle.recording.specs.Calls.{Recording}
 use Rattle.recording.specs.View as tables
 use Rattle.fresh.specs.Pooled.{constantAlignment, Placed, Pooled, askedConstant, pooledTo, pooled}
@@ -28,7 +29,7 @@ use Rattle.fresh.specs.Forms.{width, moves}
 use Rattle.fresh.specs.Fresh.{Choice, walk, moved, target, starts}
 use Rattle.fresh.specs.Rounds.{settled}
 use Rattle.fresh.specs.Fill.{part, fillUses}
-use Rattle.checks.specs.Fields.{sizeOf}
+use Rattle.fields.specs.Kinds.{sizeOf}
 use Rattle.finish.specs.Finish.{finish}
 use Rattle.demands.specs.Reading.{Reads}
 
@@ -104,19 +105,19 @@ pub record InPlace (p : Pooled) (code : List ℕ) : Type 0 where
       → ((j : ℕ) → ConstantMisses (λ (offset : ℕ). offset) p (useOf p i .offset) (patchSize k) j)
       → Clear k (wordAt (heldBy p i k) 0) → (codeOf k ≡ 0 → wordAt (heldBy p i k) 0 ≡ 0)
       → Means k (useOf p i .offset) (getD (p .labels) (useOf p i .label) none) (part code (useOf p i .offset) (patchSize k))
-  -- code 0 adds, modulo 2^32, what its field held
+  -- code 0 adds what its field held: it means, modulo 2^32, its label plus that
   pub adds : (i : ℕ) (k : LabelUse) → i < length (p .uses) → decoded (useOf p i .code) ≡ Use k → codeOf k ≡ 0
       → ((j : ℕ) → i < j → UseMisses p (useOf p i .offset) (patchSize k) j)
       → ((j : ℕ) → ConstantMisses (λ (offset : ℕ). offset) p (useOf p i .offset) (patchSize k) j)
-      → wordAt (part code (useOf p i .offset) (patchSize k)) 0
-      ≡ (getD (p .labels) (useOf p i .label) none + wordAt (heldBy p i k) 0 + (8589934592 - (useOf p i .offset + 4))) % 4294967296
+      → (base : ℕ) → meaning k (plus base (useOf p i .offset)) (wordAt (part code (useOf p i .offset) (patchSize k)) 0) % 4294967296
+      ≡ demanded k (plus base (plus (getD (p .labels) (useOf p i .label) none) (signExtend 32 (wordAt (heldBy p i k) 0)))) % 4294967296
   -- what no use and no constant covers, recorded padding too, stays as it was recorded and padded
   pub copied : (a n : ℕ) → ((j : ℕ) → UseMisses p a n j) → ((j : ℕ) → ConstantMisses (λ (offset : ℕ). offset) p a n j) → part code a n ≡ part (p .code) a n
 
 -- n bytes of padding: NOPs on X86 and X64, zeros on AArch64
 pub record IsPadding (arch n : ℕ) (bytes : List ℕ) : Type 0 where
-  pub nops : arch ≢ 6 → AreNops bytes
-  pub zeros : arch ≡ 6 → bytes ≡ replicate n 0
+  pub nops : arch ≢ archA64 → AreNops bytes
+  pub zeros : arch ≡ archA64 → bytes ≡ replicate n 0
 
 -- the padding before constant j of the pool: where it starts, and how long it is
 abbrev pub padStart : ℕ → tables.View → ℕ → ℕ
@@ -125,20 +126,20 @@ padStart arch v j = length (pooledTo arch v j .code)
 abbrev pub padLength : ℕ → tables.View → ℕ → ℕ
 padLength arch v j = paddingLength (padStart arch v j) (constantAlignment (length (askedConstant v j .bytes)))
 
--- the padding before every constant that no use and no constant covers
-abbrev pub PoolPadded : ℕ → tables.View → List ℕ → Type 0
-PoolPadded arch v code =
-    (j : ℕ) → j < length (v .asked)
-    → ((i : ℕ) → UseMisses (pooled arch v) (padStart arch v j) (padLength arch v j) i)
-    → ((i : ℕ) → ConstantMisses (λ (offset : ℕ). offset) (pooled arch v) (padStart arch v j) (padLength arch v j) i)
-    → IsPadding arch (padLength arch v j) (part code (padStart arch v j) (padLength arch v j))
+-- The n bytes from a on in the code of p, without a jump, were recorded or pooled as padding: each that no use and no constant covers is the byte that
+-- padding has there; where none of them is covered, together they are padding.
+pub record Padded (p : Pooled) (arch a n : ℕ) (code : List ℕ) : Type 0 where
+  pub each : (x : ℕ) → a ≤ x → x < a + n → ((i : ℕ) → UseMisses p x 1 i) → ((i : ℕ) → ConstantMisses (λ (offset : ℕ). offset) p x 1 i)
+      → getD code x 0 ≡ getD (padding arch n) (x - a) 0
+  pub whole : ((i : ℕ) → UseMisses p a n i) → ((i : ℕ) → ConstantMisses (λ (offset : ℕ). offset) p a n i) → IsPadding arch n (part code a n)
 
--- the padding of an alignment that was recorded when the recording was r, if no use and no constant covers it; p is the pooled recording in the end
+-- the padding before every constant
+abbrev pub PoolPadded : ℕ → tables.View → List ℕ → Type 0
+PoolPadded arch v code = (j : ℕ) → j < length (v .asked) → Padded (pooled arch v) arch (padStart arch v j) (padLength arch v j) code
+
+-- the padding of an alignment that was recorded when the recording was r; p is the pooled recording in the end
 abbrev pub AlignPadded : Recording → ℕ → Pooled → List ℕ → Type 0
-AlignPadded r multiple p code =
-    ((i : ℕ) → UseMisses p (r .buffer .code) (paddingLength (r .buffer .code) multiple) i)
-    → ((i : ℕ) → ConstantMisses (λ (offset : ℕ). offset) p (r .buffer .code) (paddingLength (r .buffer .code) multiple) i)
-    → IsPadding (r .buffer .arch) (paddingLength (r .buffer .code) multiple) (part code (r .buffer .code) (paddingLength (r .buffer .code) multiple))
+AlignPadded r multiple p code = Padded p (r .buffer .arch) (r .buffer .code) (paddingLength (r .buffer .code) multiple) code
 
 -- the finished bytes: as many of the output as the answer says
 abbrev pub finishedCode : Recording → List Segment → List ℕ → List ℕ

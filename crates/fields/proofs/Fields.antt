@@ -1,5 +1,5 @@
 -- The theorems of this crate over a field's own bytes, as `patch_with_addend` and `patch` leave them.
-use mathlib.Core.Path.{_≡_, ap, _∙_, subst}
+use mathlib.Core.Path.{_≡_, refl, sym, ap, _∙_, subst}
 use mathlib.Core.Logic.{_⊎_, inl, inr, ⊎-elim}
 use mathlib.Core.Bool.{true, false}
 use mathlib.Core.List.{List}
@@ -88,15 +88,44 @@ pub field-outside-stays : (k : LabelUse) (offset target i : ℕ) (bytes : List �
 field-outside-stays k offset target i bytes f l h =
     ap (λ (x : ℕ). bits i i x) (patched-number k offset target bytes f) ∙ outside-stays k (wordAt bytes 0) offset target i l h
 
--- A use of code 0 adds, modulo 2^32, the value already in its field, within reach or not.
-pub use-adds-held : (offset label : ℕ) (bytes : List ℕ) → Field X86JmpRel32 bytes → offset < 4294967296
-    → wordAt (patchedUse X86JmpRel32 offset label bytes) 0 ≡ (label + wordAt bytes 0 + (8589934592 - (offset + 4))) % 4294967296
+-- what a 32-bit number extends to is, modulo 2^32, that number
+extend-modulo : (v : ℕ) → v < 4294967296 → signExtend 32 v % 4294967296 ≡ v
+extend-modulo v small =
+    let l : v % 4294967296 ≡ v = mod-eq-of-lt small in
+    ⊎-elim
+    (λ lt. rw (extend-positive 32 v lt, l) (omega arith))
+    (λ ge. rw (extend-negative 32 v ge, l) (omega arith))
+    (lt-or-ge (v % 4294967296) 2147483648)
+
+-- modulo 2^32, a sum of addresses is the sum, and what is taken away comes back
+plus-modulo : (a b : ℕ) → plus a b % 4294967296 ≡ (a + b) % 4294967296
+plus-modulo a b = omega arith
+
+minus-modulo : (a b : ℕ) → b < 4294967296 → (minus a b + b) % 4294967296 ≡ a % 4294967296
+minus-modulo a b small = omega arith
+
+same-sum : (a b c d : ℕ) → a % 4294967296 ≡ b % 4294967296 → c % 4294967296 ≡ d % 4294967296 → (a + c) % 4294967296 ≡ (b + d) % 4294967296
+same-sum a b c d e f = omega arith
+
+-- A use of code 0 adds the value already in its field: within reach or not, it means, modulo 2^32, its label plus that.
+pub use-adds-held : (base offset label : ℕ) (bytes : List ℕ) → Field X86JmpRel32 bytes → offset < 4294967296
+    → meaning X86JmpRel32 (plus base offset) (wordAt (patchedUse X86JmpRel32 offset label bytes) 0) % 4294967296
+    ≡ demanded X86JmpRel32 (plus base (plus label (signExtend 32 (wordAt bytes 0)))) % 4294967296
 unfolding heldAddend
-use-adds-held offset label bytes f o =
-    let w = wordAt bytes 0 in
-    let l : w % 4294967296 ≡ w = mod-eq-of-lt (word-lt bytes (f .small)) in
-    patched-number X86JmpRel32 offset (plus label (signExtend 32 w)) bytes f
-    ∙ ⊎-elim
-    (λ lt. rw (extend-positive 32 w lt, l) (omega arith))
-    (λ ge. rw (extend-negative 32 w ge, l) (omega arith))
-    (lt-or-ge (w % 4294967296) 2147483648)
+use-adds-held base offset label bytes f o =
+    let target = plus label (signExtend 32 (wordAt bytes 0)) in
+    let far = minus target offset in
+    let near = minus far 4 in
+    let here = plus base offset in
+    let next = plus here 4 in
+    let d = signExtend 32 (near % 4294967296) in
+    let ends : next % 4294967296 ≡ (base + offset + 4) % 4294967296 = plus-modulo here 4 ∙ same-sum here (base + offset) 4 4 (plus-modulo base offset) refl in
+    let back : (near + 4 + offset) % 4294967296 ≡ target % 4294967296 =
+    same-sum (near + 4) far offset offset (minus-modulo far 4 (omega arith)) refl ∙ minus-modulo target offset o in
+    let turned : base + offset + 4 + near ≡ base + (near + 4 + offset) = omega arith in
+    rw (patched-number X86JmpRel32 offset target bytes f)
+    (plus-modulo next d
+    ∙ same-sum next (base + offset + 4) d near ends (extend-modulo (near % 4294967296) (omega arith))
+    ∙ ap (λ (x : ℕ). x % 4294967296) turned
+    ∙ same-sum base base (near + 4 + offset) target refl back
+    ∙ sym (plus-modulo base target))

@@ -14,18 +14,22 @@ use Rattle.fresh.specs.Fresh.{Choice, walk, starts, target}
 use Rattle.fresh.specs.Rounds.{settled}
 use Rattle.fresh.specs.Segments.{mapOffset, segmentsOf}
 use Rattle.fresh.specs.Demand.{Fits, Demand3}
-use Rattle.fresh.proofs.Shape.{WellFormed, Bound, built}
+use Rattle.fresh.specs.Order.{WellFormed}
+use Rattle.fresh.specs.steps.Runs.{built}
+use Rattle.fresh.proofs.Least.{Bound}
 use Rattle.fresh.proofs.Rounds.{rounds-settle, rounds-bound, rounds-last, none-fits}
 use Rattle.fresh.proofs.Least.{rounds-least}
 use Rattle.fresh.proofs.Fill.{built-assembled, labels-same}
 
--- The code built from the segments of the settled choice, the labels mapped through them, and the number of rounds.
+-- The code built from the segments of the settled choice, the labels mapped through them, the code's length, and the number of rounds.
 pub demand3 : (p : Pooled) → WellFormed p → Bound (p .labels) (p .events)
-    → Demand3 p (built p ((settled p) .choice)) (map (mapOffset (segmentsOf p ((settled p) .choice))) (p .labels)) ((settled p) .rounds)
+    → Demand3 p (built p ((settled p) .choice)) (map (mapOffset (segmentsOf p ((settled p) .choice))) (p .labels)) (length (built p ((settled p) .choice)))
+    ((settled p) .rounds)
 demand3 p wf bound =
     record {
       choice = (settled p) .choice;
       rounds = rounds-settle p;
+      finished = ap length (built-assembled p ((settled p) .choice) wf);
       bytes = built-assembled p ((settled p) .choice) wf;
       offsets = labels-same p ((settled p) .choice) wf;
       few = rounds-bound p;

@@ -37,12 +37,13 @@ unfoldable pub NoAlign : List LayoutEvent → Type 0
 NoAlign [] = Unit {0}
 NoAlign (e ∷ es) = Branches (roleOf e) × NoAlign es
 
--- A finish of p hands out `code`, the labels' offsets, and the number of layouts that it made.
-pub record Demand3 (p : Pooled) (code labels : List ℕ) (layouts : ℕ) : Type 0 where
+-- A finish of p hands out `code`, the labels' offsets, and says how long the code is and how many layouts it made.
+pub record Demand3 (p : Pooled) (code labels : List ℕ) (len layouts : ℕ) : Type 0 where
   -- the jumps that are long: those on which the rounds settle; the layouts reported equal the number of rounds
   pub choice : Choice
   pub rounds : Rounds p (allShort (p .events)) choice layouts
   -- finished length and every byte, and every label's offset, equal those of a fresh assembly told from the start which jumps are long
+  pub finished : len ≡ length (assembled p choice)
   pub bytes : code ≡ assembled p choice
   pub offsets : labels ≡ map (moved p choice) (p .labels)
   pub few : layouts ≤ jumps (p .events) + 1
