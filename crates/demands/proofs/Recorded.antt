@@ -1,5 +1,5 @@
 -- What recording calls have written stays: later calls, pooling and, without a jump, finish leave the padding of an alignment.
-use mathlib.Core.Path.{_≡_, refl, sym, ap, _∙_}
+use mathlib.Core.Path.{_≡_, refl, sym, ap, _∙_, subst}
 use mathlib.Core.Logic.{_≢_, ⊎-elim}
 use mathlib.Core.Bool.{true, false}
 use mathlib.Core.List.{List, [], _∷_, _++_, append-assoc, append-nil}
@@ -47,8 +47,8 @@ use Rattle.recording.specs.Calls.{
   withRelocTable,
   after,
   answered,
-  afterAll,
 }
+use Rattle.recording.specs.Sequences.{Leads, here, calls, grows}
 use Rattle.recording.specs.Sound.{Sound}
 use Rattle.recording.specs.View.{View, view}
 use Rattle.recording.proofs.Steps.{either}
@@ -57,9 +57,9 @@ use Rattle.fresh.specs.Pooled.{pooledOne, pooledTo, pooled}
 use Rattle.fresh.specs.Fill.{part}
 use Rattle.fresh.specs.Forms.{moves}
 use Rattle.finish.specs.Finish.{finish}
-use Rattle.demands.specs.Demand2.{AlignPadded, finishedCode}
+use Rattle.demands.specs.Demand2.{Padded, AlignPadded, finishedCode}
 use Rattle.demands.proofs.Placing.{part-between}
-use Rattle.demands.proofs.Staying.{all-stay, is-padding}
+use Rattle.demands.proofs.Staying.{stays-padded}
 use Rattle.demands.proofs.Answers.{chosen-zero, finish-answered}
 
 -- the second list begins with the first
@@ -137,9 +137,12 @@ call-begins (relocation o k t d) r =
     either _ (λ (a : Recorded × List ℕ). Begins (view r .code) (view (withRelocTable r (a .0 .buffer) (a .1)) .code)) _ _
     (begins-same (view r .code)) (refusing-begins r _)
 
-pub calls-begin : (cs : List Call) (r : Recording) → Begins (view r .code) (view (afterAll cs r) .code)
-calls-begin [] r = begins-same (view r .code)
-calls-begin (c ∷ cs) r = begins-on (view r .code) (view (after c r) .code) (view (afterAll cs (after c r)) .code) (call-begins c r) (calls-begin cs (after c r))
+-- Nor does growth: what a recording leads to begins with its code.
+pub leads-begin : (r s : Recording) → Leads r s → Begins (view r .code) (view s .code)
+leads-begin r s here = begins-same (view r .code)
+leads-begin r s (calls c t before) = begins-on (view r .code) (view t .code) (view (after c t) .code) (leads-begin r t before) (call-begins c t)
+leads-begin r s (grows t u before growth) =
+    begins-on (view r .code) (view t .code) (view u .code) (leads-begin r t before) (record { more = []; is = rw (growth .counts) (growth .code .same) ∙ sym (append-nil (view t .code)) })
 
 -- Nor does pooling.
 pub pooled-begins : (arch : ℕ) (v : View) (n : ℕ) → Begins (v .code) (pooledTo arch v n .code)
@@ -163,14 +166,11 @@ aligned r s m e =
     (λ (other : r .buffer .arch ≢ 2). ap (λ (v : View). v .code) (see-align-elsewhere r s m zero other))
     (eq-or-ne (r .buffer .arch) 2)
 
--- Without a jump: the padding of an alignment recorded by a call, whatever calls follow, where no use and no constant covers it.
-pub recorded-padding : (r : Recording) → Sound r → (m : Word) → answered (align m) r ≡ 0 → (later : List Call) (ss : List Segment) (output : List ℕ)
-    → finish (afterAll later (after (align m) r)) ss output .0 .refusal ≡ 0
-    → moves (pooled (afterAll later (after (align m) r) .buffer .arch) (view (afterAll later (after (align m) r))) .events) ≡ false
-    → AlignPadded r (m .value) (pooled (afterAll later (after (align m) r) .buffer .arch) (view (afterAll later (after (align m) r))))
-    (finishedCode (afterAll later (after (align m) r)) ss output)
-recorded-padding r s m e later ss output done none uses constants =
-    let f = afterAll later (after (align m) r) in
+-- Without a jump: the padding of an alignment recorded by a call, whatever calls and growth follow, byte by byte where no use and no constant covers it.
+pub recorded-padding : (r : Recording) → Sound r → (m : Word) → answered (align m) r ≡ 0 → (f : Recording) → Leads (after (align m) r) f
+    → (ss : List Segment) (output : List ℕ) → finish f ss output .0 .refusal ≡ 0 → moves (pooled (f .buffer .arch) (view f) .events) ≡ false
+    → AlignPadded r (m .value) (pooled (f .buffer .arch) (view f)) (finishedCode f ss output)
+recorded-padding r s m e f later ss output done none =
     let arch = f .buffer .arch in
     let v = view f in
     let p = pooled arch v in
@@ -178,10 +178,9 @@ recorded-padding r s m e later ss output done none uses constants =
     let n = paddingLength start (m .value) in
     let pad = padding (r .buffer .arch) n in
     let on =
-    begins-on (view (after (align m) r) .code) (v .code) (p .code) (calls-begin later (after (align m) r)) (pooled-begins arch v (length (v .asked))) in
+    begins-on (view (after (align m) r) .code) (v .code) (p .code) (leads-begin (after (align m) r) f later) (pooled-begins arch v (length (v .asked))) in
     let is : p .code ≡ view r .code ++ (pad ++ on .more) =
     on .is ∙ ap (λ (l : List ℕ). l ++ on .more) (aligned r s m e) ∙ append-assoc (view r .code) pad (on .more) in
-    is-padding (r .buffer .arch) n (part (finishedCode f ss output) start n)
-    (ap (λ (l : List ℕ). part l start n) (finish-answered f ss output done .straight none .is)
-    ∙ all-stay p start n uses constants
-    ∙ part-between (p .code) (view r .code) pad (on .more) start n is (sym (length-take-le start (r .code) (s .code .room))) (sym (padding-length (r .buffer .arch) n)))
+    subst (Padded p (r .buffer .arch) start n) (sym (finish-answered f ss output done .straight none .is))
+    (stays-padded p (r .buffer .arch) start n
+    (part-between (p .code) (view r .code) pad (on .more) start n is (sym (length-take-le start (r .code) (s .code .room))) (sym (padding-length (r .buffer .arch) n))))

@@ -2,7 +2,9 @@ pub mod Growth
 pub mod Tables
 pub mod Constants
 pub mod Steps
+pub mod LongerTables
 pub mod Recordings
+pub mod Words
 pub mod Views
 pub mod Laws
 pub mod Alignments

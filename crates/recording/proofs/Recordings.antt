@@ -1,4 +1,4 @@
--- Recordings made by calls are sound.
+-- Recordings made by calls and growth are sound.
 use mathlib.Core.Path.{refl}
 use mathlib.Core.Logic.{inr}
 use mathlib.Core.List.{List, [], _∷_}
@@ -25,7 +25,9 @@ use Rattle.recording.specs.Calls.{
   afterAll,
   begun,
 }
+use Rattle.recording.specs.Sequences.{Leads, here, calls, grows}
 use Rattle.recording.specs.Sound.{Sound}
+use Rattle.recording.proofs.LongerTables.{keeps-growth}
 use Rattle.recording.proofs.Steps.{
   either,
   keeps-bytes,
@@ -40,7 +42,7 @@ use Rattle.recording.proofs.Steps.{
   keeps-reloc,
 }
 
-keeps-sound : (c : Call) (r : Recording) → Sound r → Sound (after c r)
+pub keeps-sound : (c : Call) (r : Recording) → Sound r → Sound (after c r)
 keeps-sound (bytes l) r s = keeps-bytes r l s
 keeps-sound newLabel r s = keeps-newLabel r s
 keeps-sound (bind l) r s = keeps-bind r l s
@@ -52,9 +54,15 @@ keeps-sound (constant l) r s = keeps-constant r l s
 keeps-sound (constant-label n) r s = keeps-constant-label r n s
 keeps-sound (relocation o k t d) r s = keeps-reloc r o k t d s
 
-all-sound : (cs : List Call) (r : Recording) → Sound r → Sound (afterAll cs r)
-all-sound [] r s = s
-all-sound (c ∷ cs) r s = all-sound cs (after c r) (keeps-sound c r s)
+pub calls-sound : (cs : List Call) (r : Recording) → Sound r → Sound (afterAll cs r)
+calls-sound [] r s = s
+calls-sound (c ∷ cs) r s = calls-sound cs (after c r) (keeps-sound c r s)
+
+-- What calls and growth make of a sound recording is sound.
+pub leads-sound : (r s : Recording) → Leads r s → Sound r → Sound s
+leads-sound r s here sound = sound
+leads-sound r s (calls c t before) sound = keeps-sound c t (leads-sound r t before sound)
+leads-sound r s (grows t u before growth) sound = keeps-growth t u growth (leads-sound r t before sound)
 
 module _ (code labels events uses refs constants asked relocs : List ℕ) where
   abbrev with-tables : CodeBuffer → Recording
@@ -104,12 +112,13 @@ module _ (code labels events uses refs constants asked relocs : List ℕ) where
         relocs = record { room = omega arith; entry = λ i l. absurd (not-suc-le-zero l) };
       }
 
-  begun-sound : (arch symbols : ℕ) → Sound (begun arch symbols code labels events uses refs constants asked relocs)
+  pub begun-sound : (arch symbols : ℕ) → Sound (begun arch symbols code labels events uses refs constants asked relocs)
   unfolding started
   begun-sound arch symbols = either _ (λ (a : Recorded). Sound (with-tables (a .buffer))) _ _ (empty-sound arch symbols) (empty-sound 0 0)
 
--- From start on, every sequence of calls leaves a recording whose entries are all such as finish accepts: number 1 is never answered for an entry.
-pub recordings-are-sound : (arch symbols : ℕ) (code labels events uses refs constants asked relocs : List ℕ) (calls : List Call)
-    → Sound (afterAll calls (begun arch symbols code labels events uses refs constants asked relocs))
-recordings-are-sound arch symbols code labels events uses refs constants asked relocs calls =
-    all-sound calls _ (begun-sound code labels events uses refs constants asked relocs arch symbols)
+-- From start on, every sequence of calls and growth leaves a recording whose entries are all such as finish accepts: number 1 is never answered for an
+-- entry.
+pub recordings-are-sound : (arch symbols : ℕ) (code labels events uses refs constants asked relocs : List ℕ) (r : Recording)
+    → Leads (begun arch symbols code labels events uses refs constants asked relocs) r → Sound r
+recordings-are-sound arch symbols code labels events uses refs constants asked relocs r made =
+    leads-sound _ r made (begun-sound code labels events uses refs constants asked relocs arch symbols)

@@ -39,7 +39,7 @@ either true P x y p q = p
 either false P x y p q = q
 
 -- a test on numbers, and what it shows where it holds
-tested : {A : Type 0} (m n : ℕ) (P : A → Type 0) (x y : A) → (m ≡ n → P x) → P y → P (pick (eqb m n) x y)
+pub tested : {A : Type 0} (m n : ℕ) (P : A → Type 0) (x y : A) → (m ≡ n → P x) → P y → P (pick (eqb m n) x y)
 unfolding pick
 tested m n P x y held other = by (eqb m n) refl
   where
@@ -48,7 +48,7 @@ tested m n P x y held other = by (eqb m n) refl
     by false e = other
 
 -- a test that turns down, and what it shows where it does not
-unless : {A : Type 0} (t : Bool) (P : A → Type 0) (x y : A) → P x → (t ≡ false → P y) → P (pick t x y)
+pub unless : {A : Type 0} (t : Bool) (P : A → Type 0) (x y : A) → P x → (t ≡ false → P y) → P (pick t x y)
 unfolding pick
 unless true P x y p q = p
 unless false P x y p q = q refl

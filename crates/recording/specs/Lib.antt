@@ -1,3 +1,4 @@
 pub mod Calls
+pub mod Sequences
 pub mod Sound
 pub mod View

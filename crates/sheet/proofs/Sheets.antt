@@ -1,22 +1,16 @@
--- A sheet makes calls and nothing else: what holds of every sequence of calls holds of every sequence of sheets.
-use mathlib.Core.Path.{_≡_, refl, sym, ap, _∙_}
+-- A sheet makes calls and nothing else: what holds of every sequence of calls holds of what a sheet leaves.
+use mathlib.Core.Path.{_≡_, refl}
 use mathlib.Core.Bool.{Bool, true, false}
-use mathlib.Core.List.{List, [], _∷_, _++_}
+use mathlib.Core.List.{List, [], _∷_}
 use Prim.Native.Nat.{ℕ, suc}
 use lib.Dec.{eqb}
 use Rattle.seqs.specs.Pick.{pick}
-use Rattle.recording.specs.Calls.{Recording, Call, answered, after, afterAll, begun}
-use Rattle.recording.specs.Sound.{Sound}
-use Rattle.recording.proofs.Recordings.{recordings-are-sound}
-use Rattle.sheet.specs.Run.{runCalls, runSheet, afterSheets}
+use Rattle.recording.specs.Calls.{Recording, Call, answered, after, afterAll}
+use Rattle.sheet.specs.Run.{runCalls, runSheet}
 
 -- some calls, in order, lead from one recording to another
-abbrev Made : Recording → Recording → Type 0
+abbrev pub Made : Recording → Recording → Type 0
 Made r end = (cs : List Call) × (end ≡ afterAll cs r)
-
-afterAll-append : (cs ds : List Call) (r : Recording) → afterAll (cs ++ ds) r ≡ afterAll ds (afterAll cs r)
-afterAll-append [] ds r = refl
-afterAll-append (c ∷ cs) ds r = afterAll-append cs ds (after c r)
 
 -- whichever of two outcomes a test picks, calls made it
 either-made : (t : Bool) (r : Recording) (x y : (ℕ × ℕ) × Recording) → Made r (x .1) → Made r (y .1) → Made r (pick t x y .1)
@@ -34,17 +28,3 @@ run-makes (c ∷ cs) i r =
 pub sheet-makes-calls : (sheet : List ℕ) (r : Recording) → Made r (runSheet sheet r .1)
 unfolding runSheet
 sheet-makes-calls sheet r = either-made _ r _ _ (either-made _ r _ _ ([], refl) (either-made _ r _ _ (run-makes _ 0 r) ([], refl))) ([], refl)
-
-sheets-make-calls : (sheets : List (List ℕ)) (r : Recording) → Made r (afterSheets sheets r)
-sheets-make-calls [] r = ([], refl)
-sheets-make-calls (sheet ∷ sheets) r =
-    let one = sheet-makes-calls sheet r in
-    let rest = sheets-make-calls sheets (runSheet sheet r .1) in
-    (one .0 ++ rest .0, rest .1 ∙ (ap (afterAll (rest .0)) (one .1) ∙ sym (afterAll-append (one .0) (rest .0) r)))
-
--- From start on, every sequence of sheets, broken and refused ones among them, leaves a recording to whose entries finish never answers 1.
-pub sheets-are-sound : (arch symbols : ℕ) (code labels events uses refs constants asked relocs : List ℕ) (sheets : List (List ℕ))
-    → Sound (afterSheets sheets (begun arch symbols code labels events uses refs constants asked relocs))
-sheets-are-sound arch symbols code labels events uses refs constants asked relocs sheets =
-    let made = sheets-make-calls sheets (begun arch symbols code labels events uses refs constants asked relocs) in
-    rw (made .1) (recordings-are-sound arch symbols code labels events uses refs constants asked relocs (made .0))

@@ -64,8 +64,3 @@ runSheet sheet r =
     ((refusals.malformed, broken), r)
     (pick (eqb why 0) (runCalls (callsOf (kindsOf sheet) (argumentsOf sheet)) 0 r) ((why, 0), r)))
     ((refusals.malformed, 0), r)
-
--- the recording after sheets, one after the other
-abbrev pub afterSheets : List (List ℕ) → Recording → Recording
-afterSheets [] r = r
-afterSheets (sheet ∷ sheets) r = afterSheets sheets (runSheet sheet r .1)
