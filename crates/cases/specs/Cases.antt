@@ -1,39 +1,38 @@
--- The worked cases of document 01, "Reaches and landings", as rows of one table.
-use mathlib.Core.Bool.{true, false, cond}
-use mathlib.Core.List.{List, [], _∷_}
-use Prim.Native.Nat.{ℕ, _+_}
+-- The worked cases of document 01, "Reaches and landings", as rows of one table, and rows with a pool: small recordings, and what finish makes of them by
+-- the definitions that its contract names.
+use mathlib.Core.Bool.{true, false}
+use mathlib.Core.List.{List, [], _∷_, _++_}
+use Prim.Native.Nat.{ℕ, _+_, _-_}
 use lib.Dec.{eqb}
-use lib.ListN.{length, drop}
-use Rattle.words.specs.Words.{bytesOf, wordAt}
-use Rattle.fields.specs.declared.LabelUse.{LabelUse}
-use Rattle.fields.specs.declared.Decoded.{Decoded}
-use Rattle.fields.specs.declared.Decoded.the-variants.{Use, Unsupported, Unknown}
-use Rattle.fields.specs.Kinds.{decoded}
-use Rattle.fields.specs.Reach.{reachRefusal}
-use Rattle.fields.specs.Patch.{patchedUse}
+use lib.ListN.{length, replicate}
+use Rattle.refusals.specs.Numbers as refusals
+use Rattle.seqs.specs.Pick.{pick, orElse}
+use Rattle.words.specs.Words.{bytesOf}
+use Rattle.fields.specs.Kinds.{archX64, archA64}
+use Rattle.relax.specs.declared.LayoutEvent.{LayoutEvent}
 use Rattle.relax.specs.declared.LayoutEvent.the-variants.{Align}
-use Rattle.fresh.specs.Pooled.{Pooled}
+use Rattle.buffer.specs.State.{none}
+use Rattle.buffer.specs.Tables.{mostEntries, mostCode}
+use Rattle.recording.specs.View.{View}
+use Rattle.fresh.specs.Pooled.{Pooled, pooled}
+use Rattle.fresh.specs.Forms.{moves}
 use Rattle.fresh.specs.Fresh.{Choice}
 use Rattle.fresh.specs.Rounds.{Settled, settled}
-use Rattle.fresh.specs.Fill.{assembled}
+use Rattle.fresh.specs.Fill.{part, assembled, inPlace}
 use Rattle.fresh.specs.Samples.{jmp, zeros}
-
-pub data Case : Type 0 where
-  -- a recording that is finished, and the offset from which on its code is looked at
-  finish : Pooled → ℕ → Case
-  -- a use on X86, X64 or AArch64: the word in its field, the field's offset, the use's code, the label's offset
-  usage : ℕ → ℕ → ℕ → ℕ → Case
+use Rattle.finish.specs.Refusals.{whyNotLaid, whyNotWritten, whyNotInPlace}
 
 pub data Answer : Type 0 where
-  -- finished length, layouts, long jumps, and the code from the offset on
+  -- finished length, layouts, long jumps, and the bytes that are looked at
   finished : ℕ → ℕ → ℕ → List ℕ → Answer
-  -- the field's word once it is patched
-  patched : ℕ → Answer
   -- the refusal's number
   refused : ℕ → Answer
 
+-- a recording, from which offset on its code is looked at and how many bytes of it, and what is expected
 pub record Row : Type 0 where
-  pub question : Case
+  pub recording : Pooled
+  pub from : ℕ
+  pub count : ℕ
   pub expected : Answer
 
 abbrev pub longJumps : Choice → ℕ
@@ -41,45 +40,93 @@ longJumps [] = 0
 longJumps (true ∷ c) = 1 + longJumps c
 longJumps (false ∷ c) = longJumps c
 
--- what finish makes of a recording with a jump: the fresh assembly with the settled choice
-abbrev pub finishedBy : Pooled → ℕ → Settled → Answer
-finishedBy p from s =
-    finished (length (assembled p (s .choice))) (s .rounds) (longJumps (s .choice)) (drop from (assembled p (s .choice)))
+-- finish with a jump, and without one, into an output and a table of segments as large as may be lent
+abbrev pub withJump : Pooled → Settled → ℕ → ℕ → Answer
+withJump p s from count =
+    let why = orElse (whyNotLaid p mostEntries) (whyNotWritten p mostCode) in
+    let code = assembled p (s .choice) in
+    pick (eqb why 0) (finished (length code) (s .rounds) (longJumps (s .choice)) (part code from count)) (refused why)
 
--- what finish makes of a use that lies within the code: number 20, 21 or 22, or the patched field
-abbrev pub used : LabelUse → ℕ → ℕ → ℕ → Answer
-used k word offset label =
-    cond (eqb (reachRefusal k offset label) 0) (patched (wordAt (patchedUse k offset label (bytesOf word)) 0)) (refused (reachRefusal k offset label))
+abbrev pub withoutJump : Pooled → ℕ → ℕ → Answer
+withoutJump p from count =
+    let why = whyNotInPlace p mostCode in
+    pick (eqb why 0) (finished (length (inPlace p)) 0 0 (part (inPlace p) from count)) (refused why)
 
--- Code 15 is unsupported (6), 2 to 8 are foreign to every architecture here (7), those past 16 are none (1).
-abbrev pub usedBy : Decoded → ℕ → ℕ → ℕ → ℕ → Answer
-usedBy (Use k) word offset code label = used k word offset label
-usedBy Unsupported word offset code label = refused (cond (eqb code 15) 6 7)
-usedBy Unknown word offset code label = refused 1
+abbrev pub answer : Row → Answer
+answer r =
+    let p = r .recording in
+    pick (moves (p .events)) (withJump p (settled p) (r .from) (r .count)) (withoutJump p (r .from) (r .count))
 
-abbrev pub answer : Case → Answer
-answer (finish p from) = finishedBy p from (settled p)
-answer (usage word offset code label) = usedBy (decoded code) word offset code label
+-- on AArch64, a word at an offset with a use of it, and a label; zeros else
+abbrev pub usage : ℕ → ℕ → ℕ → ℕ → Pooled
+usage word offset code label =
+    record {
+      arch = archA64;
+      code = replicate offset 0 ++ (bytesOf word ++ replicate (label - (offset + 4)) 0);
+      events = [];
+      labels = label ∷ [];
+      uses = record { offset = offset; label = 0; code = code } ∷ [];
+      refs = [];
+      pool = [];
+    }
 
--- A to L
+-- code with a constant, which has label 0 and is asked for
+abbrev pub constant : List ℕ → List LayoutEvent → List ℕ → View
+constant code events bytes =
+    record {
+      code = code;
+      labels = none ∷ [];
+      events = events;
+      uses = [];
+      refs = [];
+      constants = record { bytes = bytes; label = 0 } ∷ [];
+      asked = 0 ∷ [];
+      relocs = [];
+    }
+
+-- A to L; then a constant of 8 bytes on X64 and on AArch64, and a jump to one of 9 bytes
 unfoldable pub table : List Row
 table =
-    record { question = finish (zeros 132 (jmp 0 0 ∷ []) (132 ∷ [])) 129; expected = finished 129 1 0 [] }
-    ∷ record { question = finish (zeros 133 (jmp 0 0 ∷ []) (133 ∷ [])) 133; expected = finished 133 2 1 [] }
-    ∷ record { question = finish (zeros 138 (jmp 0 0 ∷ jmp 5 1 ∷ []) (135 ∷ 138 ∷ [])) 138; expected = finished 138 3 2 [] }
+    record { recording = zeros 132 (jmp 0 0 ∷ []) (132 ∷ []); from = 0; count = 0; expected = finished 129 1 0 [] }
+    ∷ record { recording = zeros 133 (jmp 0 0 ∷ []) (133 ∷ []); from = 0; count = 0; expected = finished 133 2 1 [] }
+    ∷ record { recording = zeros 138 (jmp 0 0 ∷ jmp 5 1 ∷ []) (135 ∷ 138 ∷ []); from = 0; count = 0; expected = finished 138 3 2 [] }
     ∷ record {
-      question = finish (zeros 16 (jmp 0 0 ∷ Align (record { start = 5; len = 11; align = 16 }) ∷ []) (16 ∷ [])) 0;
+      recording = zeros 16 (jmp 0 0 ∷ Align (record { start = 5; len = 11; align = 16 }) ∷ []) (16 ∷ []);
+      from = 0;
+      count = 16;
       expected = finished 16 1 0 (0xEB ∷ 0x0E ∷ 0x66 ∷ 0x0F ∷ 0x1F ∷ 0x84 ∷ 0 ∷ 0 ∷ 0 ∷ 0 ∷ 0 ∷ 0x0F ∷ 0x1F ∷ 0x44 ∷ 0 ∷ 0 ∷ []);
     }
-    ∷ record { question = finish (zeros 131 (jmp 126 0 ∷ []) (0 ∷ [])) 126; expected = finished 128 1 0 (0xEB ∷ 0x80 ∷ []) }
+    ∷ record { recording = zeros 131 (jmp 126 0 ∷ []) (0 ∷ []); from = 126; count = 2; expected = finished 128 1 0 (0xEB ∷ 0x80 ∷ []) }
     ∷ record {
-      question = finish (zeros 132 (jmp 127 0 ∷ []) (0 ∷ [])) 127;
+      recording = zeros 132 (jmp 127 0 ∷ []) (0 ∷ []);
+      from = 127;
+      count = 5;
       expected = finished 132 2 1 (0xE9 ∷ 0x7C ∷ 0xFF ∷ 0xFF ∷ 0xFF ∷ []);
     }
-    ∷ record { question = usage 0x14000000 0 11 8; expected = patched 0x14000002 }
-    ∷ record { question = usage 0x10000000 4 13 0; expected = patched 0x10FFFFE0 }
-    ∷ record { question = usage 0x90000000 0x0FFC 14 0x1000; expected = patched 0xB0000000 }
-    ∷ record { question = usage 0x91000000 0 16 0x0123; expected = patched 0x91048C00 }
-    ∷ record { question = usage 0x54000000 0 10 6; expected = refused 20 }
-    ∷ record { question = usage 0x58000000 0 12 6; expected = refused 21 }
+    ∷ record { recording = usage 0x14000000 0 11 8; from = 0; count = 4; expected = finished 8 0 0 (bytesOf 0x14000002) }
+    ∷ record { recording = usage 0x10000000 4 13 0; from = 4; count = 4; expected = finished 8 0 0 (bytesOf 0x10FFFFE0) }
+    ∷ record { recording = usage 0x90000000 0x0FFC 14 0x1000; from = 0x0FFC; count = 4; expected = finished 0x1000 0 0 (bytesOf 0xB0000000) }
+    ∷ record { recording = usage 0x91000000 0 16 0x0123; from = 0; count = 4; expected = finished 0x0123 0 0 (bytesOf 0x91048C00) }
+    ∷ record { recording = usage 0x54000000 0 10 6; from = 0; count = 4; expected = refused refusals.branchOutOfReach }
+    ∷ record { recording = usage 0x58000000 0 12 6; from = 0; count = 4; expected = refused refusals.labelTooFarAhead }
+    ∷ record {
+      recording = pooled archX64 (constant (0xC3 ∷ []) [] (1 ∷ 2 ∷ 3 ∷ 4 ∷ 5 ∷ 6 ∷ 7 ∷ 8 ∷ []));
+      from = 0;
+      count = 16;
+      expected = finished 16 0 0 (0xC3 ∷ 0x0F ∷ 0x1F ∷ 0x80 ∷ 0 ∷ 0 ∷ 0 ∷ 0 ∷ 1 ∷ 2 ∷ 3 ∷ 4 ∷ 5 ∷ 6 ∷ 7 ∷ 8 ∷ []);
+    }
+    ∷ record {
+      recording = pooled archA64 (constant (bytesOf 0xD65F03C0) [] (1 ∷ 2 ∷ 3 ∷ 4 ∷ 5 ∷ 6 ∷ 7 ∷ 8 ∷ []));
+      from = 4;
+      count = 12;
+      expected = finished 16 0 0 (0 ∷ 0 ∷ 0 ∷ 0 ∷ 1 ∷ 2 ∷ 3 ∷ 4 ∷ 5 ∷ 6 ∷ 7 ∷ 8 ∷ []);
+    }
+    ∷ record {
+      recording = pooled archX64 (constant (replicate 5 0) (jmp 0 0 ∷ []) (1 ∷ 2 ∷ 3 ∷ 4 ∷ 5 ∷ 6 ∷ 7 ∷ 8 ∷ 9 ∷ []));
+      from = 0;
+      count = 25;
+      expected =
+          finished 25 1 0
+          (0xEB ∷ 0x0E ∷ 0x66 ∷ 0x0F ∷ 0x1F ∷ 0x84 ∷ 0 ∷ 0 ∷ 0 ∷ 0 ∷ 0 ∷ 0x0F ∷ 0x1F ∷ 0x44 ∷ 0 ∷ 0 ∷ 1 ∷ 2 ∷ 3 ∷ 4 ∷ 5 ∷ 6 ∷ 7 ∷ 8 ∷ 9 ∷ []);
+    }
     ∷ []
