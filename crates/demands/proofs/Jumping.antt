@@ -17,7 +17,7 @@ use Rattle.relax.specs.declared.Condition.{Condition}
 use Rattle.relax.specs.declared.Condition.the-variants.{Always, On}
 use Rattle.relax.specs.Events.{longLen}
 use Rattle.fresh.specs.Forms.{shortForm, longForm}
-use Rattle.emit.specs.Emit.{Encodes}
+use Rattle.emit.specs.steps.Emit.{Encodes}
 use Rattle.demands.specs.Reading.{Reads, jmp-rel8, jmp-rel32, jcc-rel8, jcc-rel32}
 
 -- the label's offset minus the jump's end lies in -128..127

@@ -30,7 +30,7 @@ use Rattle.fresh.proofs.Fill.{length-fillField, length-fillUse, fillJump-pads, 
 use Rattle.fresh.proofs.Past.{length-patched}
 use Rattle.fresh.specs.Forms.{Branch, fieldOf, branches, roleOf}
 use Rattle.fresh.proofs.Tests.{by-role}
-use Rattle.checks.specs.Fields.{sizeOf}
+use Rattle.fields.specs.Kinds.{sizeOf}
 use Rattle.demands.specs.Demand2.{Disjoint}
 
 -- A part that an overwrite does not cover stays.

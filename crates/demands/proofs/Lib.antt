@@ -15,3 +15,4 @@ pub mod Demand3
 pub mod Example
 pub mod Demand1
 pub mod Boundary
+pub mod Claims

@@ -2,12 +2,13 @@
 -- number is in the contracts: none has a `requires`.
 use mathlib.Core.Path.{_≡_}
 use mathlib.Core.List.{List}
-use Prim.Native.Nat.{ℕ}
+use Prim.Native.Nat.{ℕ, _≤_}
+use lib.ListN.{length}
 use Rattle.recording.specs.Calls.{Recording}
 use Rattle.finish.specs.declared.CodeBufferFinalized.{CodeBufferFinalized}
 use Rattle.finish.specs.declared.Finished.{Finished}
-use Rattle.finish.specs.Finish.{Left}
-use Rattle.wargnifla.specs.Boundary.{Lent}
+use Rattle.finish.specs.Finish.{Left, overWords}
+use Rattle.wargnifla.specs.Boundary.{recordSize, recordOf, Lent}
 
 abbrev pub zeros : CodeBufferFinalized
 zeros = record { arch = 0; len = 0; alignment = 0; layouts = 0; labels = 0; relocs = 0 }
@@ -20,9 +21,10 @@ pub record Unchanged (r : Recording) (output : List ℕ) (answer : Finished × L
   pub relocs : answer .1 .1 .0 ≡ r .relocs
   pub written : answer .1 .1 .1 .1 ≡ output
 
--- the same of the C function: the lent counts, the tables that it may write to, and the output
-pub record LentUnchanged (l : Lent) (output : List ℕ) (answer : ℕ × (List ℕ × (Left × List ℕ))) : Type 0 where
+-- the same of the C function: the lent counts, the tables that it may write to, and the output; a record that has room is zeros
+pub record LentUnchanged (l : Lent) (output finalized : List ℕ) (answer : ℕ × (List ℕ × (Left × List ℕ))) : Type 0 where
   pub counts : answer .1 .0 ≡ l .counts
   pub labels : answer .1 .1 .0 .0 ≡ l .labels
   pub relocs : answer .1 .1 .0 .1 .0 ≡ l .relocs
   pub written : answer .1 .1 .0 .1 .1 .1 ≡ output
+  pub given : recordSize ≤ length finalized → answer .1 .1 .1 ≡ overWords finalized (recordOf zeros)

@@ -1,0 +1,185 @@
+-- Every claim of the demands, restated in full: one that is dropped, or put under a premise, is refused here.
+use mathlib.Core.Path.{_≡_}
+use mathlib.Core.Logic.{_≢_}
+use mathlib.Core.Bool.{true, false}
+use mathlib.Core.List.{List, map}
+use Prim.Native.Nat.{ℕ, _+_, _-_, _%_, _≤_, _<_}
+use lib.ListN.{length, getD, replicate}
+use Rattle.words.specs.Words.{wordAt}
+use Rattle.encoder.specs.Intel.{AreNops}
+use Rattle.fields.specs.declared.LabelUse.{LabelUse}
+use Rattle.fields.specs.declared.Decoded.the-variants.{Use}
+use Rattle.fields.specs.Words64.{plus, signExtend}
+use Rattle.fields.specs.Kinds.{archA64, codeOf, patchSize, decoded}
+use Rattle.fields.specs.Meaning.{meaning, demanded, Clear}
+use Rattle.relax.specs.declared.LayoutEvent.the-variants.{Jump, Align}
+use Rattle.relax.specs.declared.RelaxableJump.{RelaxableJump}
+use Rattle.relax.specs.declared.Alignment.{Alignment}
+use Rattle.buffer.specs.State.{none}
+use Rattle.buffer.specs.Calls.{padding}
+use Rattle.recording.specs.Calls.{Recording}
+use Rattle.recording.specs.View.{entries, view}
+use Rattle.fresh.specs.Pooled.{Pooled, pooled}
+use Rattle.fresh.specs.Forms.{moves}
+use Rattle.fresh.specs.Fresh.{Choice, moved, target}
+use Rattle.fresh.specs.Rounds.{allShort, jumps, Rounds, settled}
+use Rattle.fresh.specs.Fill.{part, assembled}
+use Rattle.fresh.specs.Demand.{Fits, NoAlign, Includes, Demand3}
+use Rattle.finish.specs.declared.Finished.{Finished}
+use Rattle.finish.specs.Finish.{Left, overWords}
+use Rattle.wargnifla.specs.Boundary.{recordSize, recordOf, Lent, recordingIn}
+use Rattle.demands.specs.Reading.{Reads}
+use Rattle.demands.specs.Demand1.{zeros, Unchanged, LentUnchanged}
+use Rattle.demands.specs.Demand2.{
+  useOf,
+  refOf,
+  eventOf,
+  newStart,
+  newEnd,
+  RefMisses,
+  UseMisses,
+  ConstantMisses,
+  Means,
+  Relaxed,
+  heldBy,
+  InPlace,
+  IsPadding,
+  Padded,
+  PoolPadded,
+  Demand2,
+}
+use Rattle.demands.specs.Boundary.{Answer, finishedCode, labelsOf, wordOf, pooledIn, Demands}
+
+abbrev here : ℕ → ℕ
+here offset = offset
+
+-- Demand 1.
+module _ {r : Recording} {output : List ℕ} {answer : Finished × Left} (d : Unchanged r output answer) where
+  counts-stay : answer .0 .buffer ≡ r .buffer
+  counts-stay = d .counts
+
+  zeros-given : answer .0 .code ≡ zeros
+  zeros-given = d .given
+
+  labels-stay : answer .1 .0 ≡ r .labels
+  labels-stay = d .labels
+
+  relocs-stay : answer .1 .1 .0 ≡ r .relocs
+  relocs-stay = d .relocs
+
+  output-stays : answer .1 .1 .1 .1 ≡ output
+  output-stays = d .written
+
+module _ {l : Lent} {output finalized : List ℕ} {answer : Answer} (d : LentUnchanged l output finalized answer) where
+  lent-counts-stay : answer .1 .0 ≡ l .counts
+  lent-counts-stay = d .counts
+
+  lent-labels-stay : answer .1 .1 .0 .0 ≡ l .labels
+  lent-labels-stay = d .labels
+
+  lent-relocs-stay : answer .1 .1 .0 .1 .0 ≡ l .relocs
+  lent-relocs-stay = d .relocs
+
+  lent-output-stays : answer .1 .1 .0 .1 .1 .1 ≡ output
+  lent-output-stays = d .written
+
+  lent-zeros-given : recordSize ≤ length finalized → answer .1 .1 .1 ≡ overWords finalized (recordOf zeros)
+  lent-zeros-given = d .given
+
+-- Demand 2, with a jump.
+module _ {p : Pooled} {c : Choice} {code : List ℕ} (d : Relaxed p c code) where
+  refs-mean : (i : ℕ) (k : LabelUse) → i < length (p .refs) → decoded (refOf p i .code) ≡ Use k
+      → ((j : ℕ) → i < j → RefMisses p c (moved p c (refOf p i .offset)) (patchSize k) j)
+      → ((j : ℕ) → ConstantMisses (moved p c) p (moved p c (refOf p i .offset)) (patchSize k) j)
+      → Means k (moved p c (refOf p i .offset)) (plus (target p c (refOf p i .label)) (signExtend 32 (refOf p i .addend)))
+      (part code (moved p c (refOf p i .offset)) (patchSize k))
+  refs-mean = d .refs
+
+  jumps-read : (i : ℕ) (v : RelaxableJump) → i < length (p .events) → eventOf p i ≡ Jump v → (base : ℕ)
+      → Reads (plus base (newStart p c i)) (part code (newStart p c i) (newEnd p c i - newStart p c i)) (v .cc) (plus base (target p c (v .label)))
+  jumps-read = d .jumps
+
+  padding-reads : (i : ℕ) (a : Alignment) → i < length (p .events) → eventOf p i ≡ Align a
+      → AreNops (part code (newStart p c i) (newEnd p c i - newStart p c i))
+  padding-reads = d .padding
+
+  events-lie-within : (i : ℕ) → i < length (p .events) → newEnd p c i ≤ length code
+  events-lie-within = d .within
+
+-- Without one.
+module _ {p : Pooled} {code : List ℕ} (d : InPlace p code) where
+  uses-mean : (i : ℕ) (k : LabelUse) → i < length (p .uses) → decoded (useOf p i .code) ≡ Use k
+      → ((j : ℕ) → i < j → UseMisses p (useOf p i .offset) (patchSize k) j)
+      → ((j : ℕ) → ConstantMisses here p (useOf p i .offset) (patchSize k) j)
+      → Clear k (wordAt (heldBy p i k) 0) → (codeOf k ≡ 0 → wordAt (heldBy p i k) 0 ≡ 0)
+      → Means k (useOf p i .offset) (getD (p .labels) (useOf p i .label) none) (part code (useOf p i .offset) (patchSize k))
+  uses-mean = d .uses
+
+  uses-add : (i : ℕ) (k : LabelUse) → i < length (p .uses) → decoded (useOf p i .code) ≡ Use k → codeOf k ≡ 0
+      → ((j : ℕ) → i < j → UseMisses p (useOf p i .offset) (patchSize k) j)
+      → ((j : ℕ) → ConstantMisses here p (useOf p i .offset) (patchSize k) j)
+      → (base : ℕ) → meaning k (plus base (useOf p i .offset)) (wordAt (part code (useOf p i .offset) (patchSize k)) 0) % 4294967296
+      ≡ demanded k (plus base (plus (getD (p .labels) (useOf p i .label) none) (signExtend 32 (wordAt (heldBy p i k) 0)))) % 4294967296
+  uses-add = d .adds
+
+  uncovered-stays : (a n : ℕ) → ((j : ℕ) → UseMisses p a n j) → ((j : ℕ) → ConstantMisses here p a n j) → part code a n ≡ part (p .code) a n
+  uncovered-stays = d .copied
+
+module _ {arch n : ℕ} {bytes : List ℕ} (d : IsPadding arch n bytes) where
+  nops-on-x86 : arch ≢ archA64 → AreNops bytes
+  nops-on-x86 = d .nops
+
+  zeros-on-aarch64 : arch ≡ archA64 → bytes ≡ replicate n 0
+  zeros-on-aarch64 = d .zeros
+
+module _ {p : Pooled} {arch a n : ℕ} {code : List ℕ} (d : Padded p arch a n code) where
+  each-byte-pads : (x : ℕ) → a ≤ x → x < a + n → ((i : ℕ) → UseMisses p x 1 i) → ((i : ℕ) → ConstantMisses here p x 1 i)
+      → getD code x 0 ≡ getD (padding arch n) (x - a) 0
+  each-byte-pads = d .each
+
+  all-bytes-pad : ((i : ℕ) → UseMisses p a n i) → ((i : ℕ) → ConstantMisses here p a n i) → IsPadding arch n (part code a n)
+  all-bytes-pad = d .whole
+
+module _ {r : Recording} {code : List ℕ} (d : Demand2 r code) where
+  relaxed-with-a-jump : moves (pooled (r .buffer .arch) (view r) .events) ≡ true
+      → Relaxed (pooled (r .buffer .arch) (view r)) (settled (pooled (r .buffer .arch) (view r)) .choice) code
+  relaxed-with-a-jump = d .jumped
+
+  in-place-without : moves (pooled (r .buffer .arch) (view r) .events) ≡ false
+      → InPlace (pooled (r .buffer .arch) (view r)) code × PoolPadded (r .buffer .arch) (view r) code
+  in-place-without = d .straight
+
+-- Demand 3.
+module _ {p : Pooled} {code labels : List ℕ} {len layouts : ℕ} (d : Demand3 p code labels len layouts) where
+  layouts-are-rounds : Rounds p (allShort (p .events)) (d .choice) layouts
+  layouts-are-rounds = d .rounds
+
+  length-is-fresh : len ≡ length (assembled p (d .choice))
+  length-is-fresh = d .finished
+
+  bytes-are-fresh : code ≡ assembled p (d .choice)
+  bytes-are-fresh = d .bytes
+
+  offsets-are-fresh : labels ≡ map (moved p (d .choice)) (p .labels)
+  offsets-are-fresh = d .offsets
+
+  layouts-are-few : layouts ≤ jumps (p .events) + 1
+  layouts-are-few = d .few
+
+  short-jumps-reach : Fits p (d .choice)
+  short-jumps-reach = d .reach
+
+  long-jumps-are-least : NoAlign (p .events) → (e : Choice) → Fits p e → Includes (d .choice) e
+  long-jumps-are-least = d .least
+
+-- All three, at the C boundary.
+module _ {l : Lent} {output finalized : List ℕ} {a : Answer} (d : Demands l output finalized a) where
+  c-demand1 : a .0 ≢ 0 → LentUnchanged l output finalized a
+  c-demand1 = d .one
+
+  c-demand2 : a .0 ≡ 0 → Demand2 (recordingIn l) (finishedCode a)
+  c-demand2 = d .two
+
+  c-demand3 : a .0 ≡ 0 → moves (pooledIn l .events) ≡ true
+      → Demand3 (pooledIn l) (finishedCode a) (entries (wordAt (labelsOf a)) (recordingIn l .buffer .labels)) (wordOf a 1) (wordOf a 3)
+  c-demand3 = d .three

@@ -1,0 +1,46 @@
+-- The demands where a C program meets them: what it has once `wargnifla_finish` has answered, in the bytes that it lent.
+use mathlib.Core.Path.{_≡_}
+use mathlib.Core.Logic.{_≢_}
+use mathlib.Core.Bool.{true}
+use mathlib.Core.List.{List}
+use Prim.Native.Nat.{ℕ}
+use lib.ListN.{take}
+use Rattle.words.specs.Words.{wordAt}
+use Rattle.recording.specs.View.{entries, view}
+use Rattle.fresh.specs.Pooled.{Pooled, pooled}
+use Rattle.fresh.specs.Forms.{moves}
+use Rattle.fresh.specs.Demand.{Demand3}
+use Rattle.finish.specs.Finish.{Left}
+use Rattle.wargnifla.specs.Boundary.{Lent, recordingIn}
+use Rattle.demands.specs.Demand1.{LentUnchanged}
+use Rattle.demands.specs.Demand2.{Demand2}
+
+-- what `wargnifla_finish` answers and leaves: the answer, the counts, the tables and the output, and the record
+abbrev pub Answer : Type 0
+Answer = ℕ × (List ℕ × (Left × List ℕ))
+
+-- the output, the labels, and the record's words
+abbrev pub outputOf : Answer → List ℕ
+outputOf a = a .1 .1 .0 .1 .1 .1
+
+abbrev pub labelsOf : Answer → List ℕ
+labelsOf a = a .1 .1 .0 .0
+
+abbrev pub wordOf : Answer → ℕ → ℕ
+wordOf a k = wordAt (a .1 .1 .1) k
+
+-- the finished code: as many bytes of the output as word 1 of the record says
+abbrev pub finishedCode : Answer → List ℕ
+finishedCode a = take (wordOf a 1) (outputOf a)
+
+-- the pooled recording of what is lent
+abbrev pub pooledIn : Lent → Pooled
+pooledIn l = pooled (recordingIn l .buffer .arch) (view (recordingIn l))
+
+-- The three demands of a finish. A number is answered: recording and output are unchanged. 0 is: the finished code meets demand 2 and, where a jump stands,
+-- it, the labels' offsets, its length (word 1) and the layouts (word 3) meet demand 3.
+pub record Demands (l : Lent) (output finalized : List ℕ) (a : Answer) : Type 0 where
+  pub one : a .0 ≢ 0 → LentUnchanged l output finalized a
+  pub two : a .0 ≡ 0 → Demand2 (recordingIn l) (finishedCode a)
+  pub three : a .0 ≡ 0 → moves (pooledIn l .events) ≡ true
+      → Demand3 (pooledIn l) (finishedCode a) (entries (wordAt (labelsOf a)) (recordingIn l .buffer .labels)) (wordOf a 1) (wordOf a 3)
