@@ -29,11 +29,13 @@ pub struct CodeBuffer {
 
 impl CodeBuffer {
     /// Starts a recording without symbols.
+    #[must_use]
     pub fn new(arch: Arch) -> Self {
         Self::with_symbols(arch, 0)
     }
 
     /// Starts a recording whose relocations may name the symbols below a number.
+    #[must_use]
     pub fn with_symbols(arch: Arch, symbols: u32) -> Self {
         Self::start(arch.number(), symbols).expect("start takes every Arch")
     }
@@ -56,36 +58,43 @@ impl CodeBuffer {
     }
 
     /// The architecture.
+    #[must_use]
     pub fn arch(&self) -> Arch {
         self.tables.arch()
     }
 
     /// The refusal that this recording answers every call with, if one was recorded.
+    #[must_use]
     pub fn error(&self) -> Option<&Error> {
         self.first_refusal.as_ref()
     }
 
     /// Whether the recording has finished.
+    #[must_use]
     pub fn is_finished(&self) -> bool {
         self.tables.counts.is_finished()
     }
 
     /// The bytes recorded so far.
+    #[must_use]
     pub fn data(&self) -> &[u8] {
         self.tables.code()
     }
 
     /// Where the next byte goes.
+    #[must_use]
     pub fn cur_offset(&self) -> CodeOffset {
         self.data().len() as CodeOffset
     }
 
     /// The relocations recorded so far; after finish, with their final offsets.
+    #[must_use]
     pub fn relocs(&self) -> Vec<AsmReloc> {
         self.tables.relocs().collect()
     }
 
     /// Everything recorded so far but the bytes, as typed entries. After finish, labels and relocations have their final offsets.
+    #[must_use]
     pub fn recording(&self) -> Recording {
         self.tables.recording()
     }
@@ -148,16 +157,19 @@ impl CodeBuffer {
     }
 
     /// Whether a label is known and bound.
+    #[must_use]
     pub fn is_bound(&self, label: Label) -> bool {
         self.label_offset(label) != UNBOUND
     }
 
     /// Number of labels made so far; label numbers below it are known.
+    #[must_use]
     pub fn label_count(&self) -> u32 {
         self.tables.label_count() as u32
     }
 
     /// The offset of a label, or [`UNBOUND`].
+    #[must_use]
     pub fn label_offset(&self, label: Label) -> CodeOffset {
         self.tables.label_offset(label).unwrap_or(UNBOUND)
     }

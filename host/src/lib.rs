@@ -2,7 +2,7 @@
 //!
 //! [`CodeBuffer`] owns the tables of a recording and lends them to the C functions of libwargnifla.a, which record calls and finish the code. Names
 //! are those of asmkit's core/buffer.rs (see NOTICE), of which the verified library is a port. A refusal is an [`Error`]: its number by document 01,
-//! and a sentence that says what is wrong and where.
+//! its name ([`Refusal`]), and a sentence that says what is wrong and where.
 //!
 //! ```
 //! use wargnifla::{Arch, CodeBuffer, RelaxableJump};
@@ -32,6 +32,7 @@ pub mod ffi;
 mod finalized;
 mod listing;
 mod recording;
+mod refusal;
 mod relax;
 mod rounds;
 mod sheet;
@@ -48,6 +49,7 @@ pub use recording::{
     AsmConstant, AsmFixup, AsmReloc, Constant, Label, LabelRef, LayoutEvent, Pooled,
     PooledConstant, Recording, RelaxableJump, RelocTarget, Sym,
 };
+pub use refusal::Refusal;
 pub use rounds::{Lengthened, Mismatch, Round, Rounds};
 pub use sheet::{Sheet, Unwritable, symbols_named, write_sheet};
 pub use sheet_text::{Arch, Call, Condition, LabelUse, Reach, Reloc};
