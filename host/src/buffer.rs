@@ -19,8 +19,28 @@ use crate::{
 
 /// A buffer of code to be produced: bytes, labels, fields, alignments, constants, relocations and jumps, recorded call by call and then finished.
 ///
+/// Labels are numbered from 0 in the order of making, and so are constants; a constant's label takes the next number among the labels when it is first
+/// asked for. Tables grow before a call could find one full, up to [`MOST_ENTRIES`] entries each and [`MOST_CODE`] bytes of code.
+///
 /// A refused call changes nothing but, for some numbers, that the recording answers every later call with the same refusal. A refused finish changes
 /// nothing at all.
+///
+/// ```
+/// use wargnifla::{Arch, CodeBuffer, Condition, RelaxableJump};
+///
+/// # fn main() -> Result<(), wargnifla::Error> {
+/// let mut buffer = CodeBuffer::new(Arch::X64);
+/// let again = buffer.get_label()?;
+/// buffer.try_bind_label(again)?;
+/// buffer.put_bytes(&[0xFF, 0xC9])?; // dec ecx
+/// let start = buffer.cur_offset();
+/// buffer.put_bytes(&[0; 6])?; // room for the jump; finish writes its bytes
+/// buffer.record_relaxable_jump(RelaxableJump { start, len: 6, label: again, cc: Some(Condition::Ne) })?;
+/// let code = buffer.finish()?;
+/// assert_eq!(code.data(), [0xFF, 0xC9, 0x75, 0xFC]);
+/// # Ok(())
+/// # }
+/// ```
 pub struct CodeBuffer {
     tables: Tables,
     /// What the recorded refusal said, if there is one.
@@ -64,6 +84,15 @@ impl CodeBuffer {
     }
 
     /// The refusal that this recording answers every call with, if one was recorded.
+    ///
+    /// ```
+    /// use wargnifla::{Arch, CodeBuffer, Refusal};
+    ///
+    /// let mut buffer = CodeBuffer::new(Arch::X64);
+    /// buffer.add_constant(&[0; 65]).unwrap_err();
+    /// assert_eq!(buffer.error().unwrap().refusal(), Refusal::BadEntry);
+    /// assert_eq!(buffer.put1(0).unwrap_err().refusal(), Refusal::BadEntry);
+    /// ```
     #[must_use]
     pub fn error(&self) -> Option<&Error> {
         self.first_refusal.as_ref()
@@ -185,6 +214,18 @@ impl CodeBuffer {
 
     /// Pads to a multiple, a power of two up to 4,096: with NOPs on x86, with zeros on AArch64.
     ///
+    /// ```
+    /// use wargnifla::{Arch, CodeBuffer};
+    ///
+    /// # fn main() -> Result<(), wargnifla::Error> {
+    /// let mut buffer = CodeBuffer::new(Arch::X64);
+    /// buffer.put1(0xC3)?;
+    /// buffer.try_align_to(4)?;
+    /// assert_eq!(buffer.data(), [0xC3, 0x0F, 0x1F, 0x00]);
+    /// # Ok(())
+    /// # }
+    /// ```
+    ///
     /// # Errors
     ///
     /// Number 4, 5, 11 or 12.
@@ -192,7 +233,23 @@ impl CodeBuffer {
         self.call(&Call::Align(align_to))
     }
 
-    /// Records a field that a finish without a jump patches.
+    /// Records a field that a finish without a jump patches; one with a jump leaves it as it is. A field of [`LabelUse::X86JmpRel32`] adds the value
+    /// that stands in it.
+    ///
+    /// ```
+    /// use wargnifla::{Arch, CodeBuffer, LabelUse};
+    ///
+    /// # fn main() -> Result<(), wargnifla::Error> {
+    /// let mut buffer = CodeBuffer::new(Arch::AArch64);
+    /// let over = buffer.get_label()?;
+    /// buffer.use_label_at_offset(0, over, LabelUse::A64Branch26)?;
+    /// buffer.put4(0x1400_0000)?; // b over
+    /// buffer.put4(0)?;
+    /// buffer.try_bind_label(over)?;
+    /// assert_eq!(buffer.finish()?.data()[..4], 0x1400_0002u32.to_le_bytes());
+    /// # Ok(())
+    /// # }
+    /// ```
     ///
     /// # Errors
     ///
@@ -210,7 +267,27 @@ impl CodeBuffer {
         })
     }
 
-    /// Records a field that a finish with a jump encodes. Accepted unread unless the architecture is X64.
+    /// Records a field that a finish with a jump encodes; one without a jump leaves it as it is. What stands in the field does not matter. Accepted
+    /// unread unless the architecture is X64.
+    ///
+    /// Where it is not known whether a jump will stand, a field is recorded as a use and as a ref:
+    ///
+    /// ```
+    /// use wargnifla::{Arch, CodeBuffer, LabelUse};
+    ///
+    /// # fn main() -> Result<(), wargnifla::Error> {
+    /// let mut buffer = CodeBuffer::new(Arch::X64);
+    /// let data = buffer.get_label()?;
+    /// buffer.put_bytes(&[0x48, 0x8D, 0x05])?; // lea rax, [rip + data + 1]
+    /// let field = buffer.cur_offset();
+    /// buffer.put4(1)?;
+    /// buffer.use_label_at_offset(field, data, LabelUse::X86JmpRel32)?;
+    /// buffer.record_label_ref(field, data, LabelUse::X86JmpRel32, 1)?;
+    /// buffer.try_bind_label(data)?;
+    /// assert_eq!(buffer.finish()?.data()[3..], [1, 0, 0, 0]);
+    /// # Ok(())
+    /// # }
+    /// ```
     ///
     /// # Errors
     ///
@@ -257,6 +334,19 @@ impl CodeBuffer {
 
     /// The label of a constant, made when it is first asked for and bound by finish.
     ///
+    /// ```
+    /// use wargnifla::{Arch, CodeBuffer};
+    ///
+    /// # fn main() -> Result<(), wargnifla::Error> {
+    /// let mut buffer = CodeBuffer::new(Arch::X64);
+    /// let one = buffer.add_constant(&1f64.to_le_bytes())?;
+    /// let one = buffer.get_label_for_constant(one)?;
+    /// buffer.put1(0xC3)?;
+    /// assert_eq!(buffer.finish()?.label_offset(one), 8);
+    /// # Ok(())
+    /// # }
+    /// ```
+    ///
     /// # Errors
     ///
     /// Number 4, 8 or 11.
@@ -267,6 +357,19 @@ impl CodeBuffer {
     }
 
     /// Records a relocation at the current offset.
+    ///
+    /// ```
+    /// use wargnifla::{Arch, CodeBuffer, Reloc, RelocTarget, Sym};
+    ///
+    /// # fn main() -> Result<(), wargnifla::Error> {
+    /// let mut buffer = CodeBuffer::with_symbols(Arch::X64, 1);
+    /// buffer.put1(0xE8)?; // call symbol 0
+    /// buffer.add_reloc(Reloc::X86CallPLTRel4, RelocTarget::Sym(Sym::from_id(0)), -4)?;
+    /// buffer.put4(0)?;
+    /// assert_eq!(buffer.finish()?.relocs()[0].offset, 1);
+    /// # Ok(())
+    /// # }
+    /// ```
     ///
     /// # Errors
     ///
@@ -375,6 +478,15 @@ impl CodeBuffer {
 
     /// Makes the calls of a binary sheet, up to the first that is refused. A sheet whose form is broken makes none.
     ///
+    /// ```
+    /// use wargnifla::{Arch, CodeBuffer, read_text, write_sheet};
+    ///
+    /// let calls = read_text("label; bytes 90 C3; bind 0").unwrap().calls;
+    /// let mut buffer = CodeBuffer::new(Arch::X64);
+    /// buffer.run_sheet(&write_sheet(&calls).unwrap()).unwrap();
+    /// assert_eq!(buffer.data(), [0x90, 0xC3]);
+    /// ```
+    ///
     /// # Errors
     ///
     /// The refused call's, with its index; number 1 for a broken form.
@@ -416,6 +528,26 @@ impl CodeBuffer {
 
     /// Finishes the recording: pools its constants, relaxes its jumps, fills its fields and writes its code. The recording's labels and relocations
     /// take their final offsets, and it accepts no more calls.
+    ///
+    /// With a jump the recording's refs are filled, without one its uses.
+    ///
+    #[doc = concat!(
+        "The verified function takes up to ", finish_stack!(), " bytes of the thread's stack ([`FINISH_STACK`](crate::FINISH_STACK)), \
+         whatever is recorded: a thread of 256 KiB has enough."
+    )]
+    ///
+    /// ```
+    /// use wargnifla::{Arch, CodeBuffer, Refusal};
+    ///
+    /// # fn main() -> Result<(), wargnifla::Error> {
+    /// let mut buffer = CodeBuffer::with_symbols(Arch::X64, 0);
+    /// buffer.put_bytes(&[0x90; 3])?;
+    /// let code = buffer.finish()?;
+    /// assert_eq!((code.total_size(), code.layouts(), code.alignment()), (3, 0, 32));
+    /// assert_eq!(buffer.finish().unwrap_err().refusal(), Refusal::AlreadyFinished);
+    /// # Ok(())
+    /// # }
+    /// ```
     ///
     /// # Errors
     ///
