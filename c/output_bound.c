@@ -32,5 +32,6 @@ int main(void) {
     refusal = wargnifla_tables_finish(&tables, segments, ENTRY_ROOM, output, bound, &record);
     printf("with %u bytes: %s, finished %u\n", (unsigned)bound, wargnifla_refusal_name(refusal), (unsigned)record.length);
     printf("from numbers alone: %u\n", (unsigned)sizeof output);
+    printf("at the limit: %u\n", (unsigned)WARGNIFLA_MOST_OUTPUT(WARGNIFLA_MOST_CODE, 1, 1, 1));
     return 0;
 }

@@ -1,8 +1,8 @@
 /* Wargnifla: a verified code buffer. The C functions of libwargnifla.a.
  *
  * A recording is made call by call: bytes, labels, alignments, fields that name labels, jumps, constants, relocations. Finishing it pools its
- * constants, gives each jump its shortest form that reaches, and writes the code. The six functions are proved to do what crates/wargnifla/specs/
- * says; the inline functions at the end of this file are tested.
+ * constants, takes every jump for short and lengthens those that then can't reach, round by round, and writes the code. The six functions are proved
+ * to do what crates/wargnifla/specs/ says; the inline functions at the end of this file are tested.
  *
  * Every function accepts every input and ends. It allocates nothing and keeps nothing: a recording is the counts and the tables that the caller lends
  * to each call. So functions may be called from several threads at a time, as long as no two of the calls are lent the same memory to write, or one
@@ -242,8 +242,8 @@ uint32_t wargnifla_run_sheet(const uint8_t *sheet, size_t sheet_len, uint32_t *i
  * field. A ref adds its addend and ignores what its field holds, while a use of code 0 adds what its field holds, so there the addend is to stand in
  * the field too. Constants are written last.
  *
- * segments_len counts segments; with a jump there is to be one for each event and each constant asked for. They are scratch: 18, 23 and success leave
- * the settled ones there, every other refusal, and a finish without a jump, leaves them untouched.
+ * segments_len counts segments; with a jump there is to be one for each event and each constant asked for. They are scratch: with a jump, 18, 23 and
+ * success leave the settled ones there; every other refusal, and every finish without a jump, leaves them untouched.
  *
  * output_len: WARGNIFLA_MOST_OUTPUT and wargnifla_output_bound say what is enough. */
 uint32_t wargnifla_finish(uint8_t *counts, size_t counts_len, const uint8_t *code, size_t code_len, uint8_t *labels, size_t labels_len,
