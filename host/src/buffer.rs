@@ -8,13 +8,14 @@ use crate::ffi::Segment;
 use crate::finalized::CodeBufferFinalized;
 use crate::recording::{
     AsmReloc, Constant, Label, LayoutEvent, Recording, RelaxableJump, RelocTarget,
+    constant_alignment,
 };
 use crate::sheet::Sheet;
 use crate::tables::{Room, Tables};
 use crate::verified::{self, Record};
 use crate::{
-    Arch, Call, CodeOffset, Condition, Error, LabelUse, MOST_CODE, MOST_CONSTANT, MOST_ENTRIES,
-    Place, Reloc, UNBOUND,
+    Arch, Call, CodeOffset, Condition, Error, LabelUse, MOST_CODE, MOST_ENTRIES, Place, Reloc,
+    UNBOUND,
 };
 
 /// A buffer of code to be produced: bytes, labels, fields, alignments, constants, relocations and jumps, recorded call by call and then finished.
@@ -570,15 +571,22 @@ impl CodeBuffer {
         MOST_ENTRIES.min(self.tables.event_count() + self.tables.asked_count())
     }
 
-    /// What the finished code cannot exceed: every jump long, every padding as long as its multiple lets it be, every constant of the greatest size.
+    /// What the finished code cannot exceed, as `wargnifla_output_bound` of include/wargnifla.h has it: every jump long, every padding one less than
+    /// its multiple, and the same of the pool.
     fn most_finished(&self) -> usize {
-        const MOST_CONSTANT_PADDING: usize = 15;
-        let events = self.tables.events().map(|event| match event {
-            LayoutEvent::Jump(jump) => jump.long_len() as usize,
-            LayoutEvent::Align { align, .. } => align as usize - 1,
-        });
-        let pool = self.tables.asked_count() * (MOST_CONSTANT + MOST_CONSTANT_PADDING);
-        MOST_CODE.min(self.data().len() + events.sum::<usize>() + pool)
+        let mut most = self.data().len();
+        for event in self.tables.events() {
+            most -= (event.end() - event.start()) as usize;
+            most += match event {
+                LayoutEvent::Jump(jump) => jump.long_len() as usize,
+                LayoutEvent::Align { align, .. } => align as usize - 1,
+            };
+        }
+        let pool = self.tables.asked_sizes();
+        most += pool
+            .map(|size| size + constant_alignment(size) as usize - 1)
+            .sum::<usize>();
+        MOST_CODE.min(most)
     }
 
     fn finalized(

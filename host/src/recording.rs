@@ -219,8 +219,13 @@ impl AsmConstant {
     /// The multiple that a constant stands on.
     #[must_use]
     pub const fn alignment(&self) -> u32 {
-        if self.data.len() <= 8 { 8 } else { 16 }
+        constant_alignment(self.data.len())
     }
+}
+
+/// The multiple that a constant of a size stands on.
+pub(crate) const fn constant_alignment(size: usize) -> u32 {
+    if size <= 8 { 8 } else { 16 }
 }
 
 /// What a recording holds at some time, but for its bytes.

@@ -1,5 +1,6 @@
 //! The library against the verified archive.
 
+mod bound;
 mod cases;
 mod header;
 mod limits;
