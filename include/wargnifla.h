@@ -191,7 +191,7 @@ enum wargnifla_count {
  *   table        entry                                                              bytes
  *   code         a byte                                                                 1
  *   labels       offset, or WARGNIFLA_NONE                                              4
- *   events       kind (1 jump, 2 alignment), start, length,
+ *   events       kind (enum wargnifla_event), start, length,
  *                label or multiple, condition or 0                                     20
  *   uses         offset, label, code                                                   12
  *   refs         offset, label, code, signed addend                                    16
@@ -209,6 +209,11 @@ enum wargnifla_count {
 #define WARGNIFLA_CONSTANT_BYTES 72
 #define WARGNIFLA_ASKED_BYTES 4
 #define WARGNIFLA_RELOC_BYTES 24
+
+enum wargnifla_event {
+    WARGNIFLA_EVENT_JUMP = 1,
+    WARGNIFLA_EVENT_ALIGNMENT = 2
+};
 
 /* Where an event, recorded from old_start to old_end, comes to stand. Finish fills one for each event, those of the pool included. */
 typedef struct {
@@ -462,7 +467,7 @@ static inline size_t wargnifla_entries(const wargnifla_tables *tables, const war
  * one less than its multiple. */
 static inline uint64_t wargnifla_event_growth(const uint8_t *event) {
     uint32_t length = wargnifla_word(event + 8), most = wargnifla_word(event + 12) - 1;
-    if (wargnifla_word(event) == 1)
+    if (wargnifla_word(event) == WARGNIFLA_EVENT_JUMP)
         most = wargnifla_word(event + 16) == WARGNIFLA_ALWAYS ? 5 : 6;
     return (uint64_t)most - length;
 }
