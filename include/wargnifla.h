@@ -1,11 +1,16 @@
 /* Wargnifla: a verified code buffer. The C functions of libwargnifla.a.
  *
- * Document 01 names what is behind each of them; crates/wargnifla/src/lib.rt has their source and their contracts. Every function accepts every
- * input, ends, allocates nothing and keeps nothing: a recording is the counts and the tables that the caller lends to each call. Finish takes some
- * 140 KiB of stack, the others less than one.
+ * A recording is made call by call: bytes, labels, alignments, fields that name labels, jumps, constants, relocations. Finishing it pools its
+ * constants, takes every jump for short and lengthens those that then can't reach, round by round, and writes the code. The six functions are proved
+ * to do what crates/wargnifla/specs/ says; the inline functions at the end of this file are tested.
  *
- * What the caller owes, and no function can check: every pointer is valid for its length, not null even where the length is 0, and no part of what
- * is lent to be written overlaps anything else that is lent to the same call. Words are 32 bits, little-endian.
+ * Every function accepts every input and ends. It allocates nothing and keeps nothing: a recording is the counts and the tables that the caller lends
+ * to each call. So functions may be called from several threads at a time, as long as no two of the calls are lent the same memory to write, or one
+ * to write what the other reads.
+ *
+ * What the caller owes, and no function can check: every pointer is valid for its length, and no part of what is lent to be written overlaps anything
+ * else that is lent to the same call. Where a length is 0 the pointer may be NULL. A pointer without a length (index, number) is never NULL. Segments
+ * are aligned as their type asks; bytes need no alignment. Words are 32 bits, little-endian, on every machine.
  */
 #ifndef WARGNIFLA_H
 #define WARGNIFLA_H
@@ -13,14 +18,140 @@
 #include <stddef.h>
 #include <stdint.h>
 
+/* The version of this header and of the archive beside it. */
+#define WARGNIFLA_VERSION_MAJOR 0
+#define WARGNIFLA_VERSION_MINOR 1
+#define WARGNIFLA_VERSION_PATCH 0
+#define WARGNIFLA_VERSION "0.1.0"
+
 #ifdef __cplusplus
 extern "C" {
 #endif
 
 /* Architectures. */
-#define WARGNIFLA_X86 1
-#define WARGNIFLA_X64 2
-#define WARGNIFLA_AARCH64 6
+enum wargnifla_arch {
+    WARGNIFLA_X86 = 1,
+    WARGNIFLA_X64 = 2,
+    WARGNIFLA_AARCH64 = 6
+};
+
+/* Refusals: what every function returns. Numbers 6, 7, 8, 10, 11 and 12 end a recording, but for 8 at a bind: it then answers every call, finish too,
+ * with the first of them and changes nothing else. All others leave it as it was. Where several apply, 1 comes first (but for a table entry that
+ * finish finds, which comes after 4), then the recorded one, then the lowest number; 19 to 22 are tried together, use by use. */
+enum wargnifla_refusal {
+    WARGNIFLA_ACCEPTED = 0,
+    WARGNIFLA_MALFORMED = 1,            /* a sheet's form, a field code above 16 and a relocation kind above 27 too; a count that passes what is lent;
+                                           an architecture or refusal in the counts that can't occur; counts or a record lent too short; at finish, a
+                                           table entry that no recording writes */
+    WARGNIFLA_UNKNOWN_ARCH = 2,         /* start names an architecture other than 1, 2, 6 */
+    WARGNIFLA_PAST_LIMIT = 3,           /* a call is lent more than a limit */
+    WARGNIFLA_ALREADY_FINISHED = 4,     /* the recording has finished */
+    WARGNIFLA_BAD_ALIGNMENT = 5,        /* an alignment is no power of two, or exceeds 4,096 */
+    WARGNIFLA_UNSUPPORTED_USE = 6,      /* a use has code 15 */
+    WARGNIFLA_FOREIGN_KIND = 7,         /* a use, ref or relocation has a kind foreign to the architecture */
+    WARGNIFLA_UNKNOWN_NUMBER = 8,       /* a label, constant or symbol number is unknown */
+    WARGNIFLA_ALREADY_BOUND = 9,        /* the label is bound already */
+    WARGNIFLA_BAD_ENTRY = 10,           /* a jump does not end at the current offset, is not 2 to 15 bytes long, has a condition above 16, starts
+                                           before the last event's end, or holds a label strictly inside; a relocation's offset exceeds 16,777,215;
+                                           a constant exceeds 64 bytes */
+    WARGNIFLA_TABLE_FULL = 11,          /* a table that the call must extend is full */
+    WARGNIFLA_CODE_FULL = 12,           /* bytes or padding pass the lent code's end */
+    WARGNIFLA_POOL_LABEL_BOUND = 13,    /* from here on at finish: the label of a constant asked for was bound by the caller */
+    WARGNIFLA_POOL_TOO_LARGE = 14,      /* code with pool exceeds 16,777,216 bytes */
+    WARGNIFLA_UNBOUND_LABEL = 15,       /* a use, ref, jump or a relocation against a label names an unbound one */
+    WARGNIFLA_TOO_FEW_SEGMENTS = 16,    /* with a jump, fewer segments are lent than there are events and constants asked for */
+    WARGNIFLA_REF_OVERLAPS = 17,        /* with a jump, a ref's field passes the end of the code with its pool, or starts before an event's end and
+                                           ends after that event's start (events of length 0 and the pool's alignments too) */
+    WARGNIFLA_REF_OUT_OF_REACH = 18,    /* with a jump, a ref can't reach its label plus addend */
+    WARGNIFLA_USE_PAST_END = 19,        /* without a jump, a use's field passes the end of the code with its pool */
+    WARGNIFLA_BRANCH_OUT_OF_REACH = 20, /* without a jump, a use of code 9, 10 or 11 can't reach its label */
+    WARGNIFLA_LABEL_TOO_FAR_AHEAD = 21, /* without a jump, another use can't reach a label at or after it */
+    WARGNIFLA_LABEL_TOO_FAR_BACK = 22,  /* without a jump, another use can't reach a label before it */
+    WARGNIFLA_OUTPUT_TOO_SMALL = 23     /* the finished code exceeds the lent output */
+};
+
+/* The kinds of call that a sheet makes. Beside each: its arguments, and what it extends. On X86 and AArch64 refs and jumps are accepted unread and
+ * extend nothing.
+ *
+ * Labels are numbered from 0 in the order of making, and so are constants. A constant has no label until it is asked for; its label then takes the
+ * next number among the labels, and asking again gives the same one. */
+enum wargnifla_call {
+    WARGNIFLA_CALL_BYTES = 1,          /* count (0 to 12), the bytes: code by count */
+    WARGNIFLA_CALL_NEW_LABEL = 2,      /* none: labels by 1 */
+    WARGNIFLA_CALL_BIND = 3,           /* label: nothing; the label is bound to the current offset */
+    WARGNIFLA_CALL_ALIGN = 4,          /* multiple (a power of two, at most 4,096): code by the padding, less than the multiple; on X64 events by 1,
+                                          for a padding of length 0 too */
+    WARGNIFLA_CALL_USE = 5,            /* offset, label, code: uses by 1 */
+    WARGNIFLA_CALL_REF = 6,            /* offset, label, code, signed addend: on X64 refs by 1 */
+    WARGNIFLA_CALL_JUMP = 7,           /* start, length, label, condition: on X64 events by 1; the last length bytes, from start on, are a jump */
+    WARGNIFLA_CALL_CONSTANT = 8,       /* count (0 to 12), the bytes: constants by 1 */
+    WARGNIFLA_CALL_CONSTANT_LABEL = 9, /* constant: labels and asked by 1, where it has no label yet */
+    WARGNIFLA_CALL_RELOCATION = 10     /* offset, kind, target, signed addend: relocations by 1 */
+};
+
+/* A jump's condition: 0 to 15 are the low four bits of Intel's opcode (0 o, 1 no, 2 b, 3 ae, 4 e, 5 ne, 6 be, 7 a, 8 s, 9 ns, 10 p, 11 np, 12 l,
+ * 13 ge, 14 le, 15 g), and this is none: jmp. */
+#define WARGNIFLA_ALWAYS 16
+
+/* The codes of fields that name labels, with asmkit's names. Codes 0 and 1 are of X86 and X64, 9 to 14 and 16 of AArch64; 2 to 8 are foreign to all
+ * three, and 15 is refused (6 for a use, 7 for a ref on X64). A field of code 1 takes one byte, any other four. With d, the label's offset less the
+ * field's (a ref: plus its addend), a field reaches where: */
+enum wargnifla_field {
+    WARGNIFLA_FIELD_X86JmpRel32 = 0,   /* d - 4 is signed 32 bits; a use adds the value that stands in its field */
+    WARGNIFLA_FIELD_X86BranchRel8 = 1, /* d - 1 is in -128..127 */
+    WARGNIFLA_FIELD_RVJal20 = 2,
+    WARGNIFLA_FIELD_RVPCRel32 = 3,
+    WARGNIFLA_FIELD_RVB12 = 4,
+    WARGNIFLA_FIELD_RVPCRelHi20 = 5,
+    WARGNIFLA_FIELD_RVPCRelLo12I = 6,
+    WARGNIFLA_FIELD_RVCJump = 7,
+    WARGNIFLA_FIELD_RVCB9 = 8,
+    WARGNIFLA_FIELD_A64Branch14 = 9,   /* tbz, tbnz: d is a multiple of 4 in -2^15..2^15 - 4 */
+    WARGNIFLA_FIELD_A64Branch19 = 10,  /* b.cond, cbz, cbnz: a multiple of 4 in -2^20..2^20 - 4 */
+    WARGNIFLA_FIELD_A64Branch26 = 11,  /* b, bl: a multiple of 4 in -2^27..2^27 - 4 */
+    WARGNIFLA_FIELD_A64Ldr19 = 12,     /* ldr of a literal: a multiple of 4 in -2^20..2^20 - 4 */
+    WARGNIFLA_FIELD_A64Adr21 = 13,     /* adr: d is in -2^20..2^20 - 1 */
+    WARGNIFLA_FIELD_A64Adrp21 = 14,    /* adrp: always; it holds the distance of pages of 4,096 bytes */
+    WARGNIFLA_FIELD_A64Ldr12 = 15,
+    WARGNIFLA_FIELD_A64AddAbsLo12 = 16 /* the add after an adrp: always; the label's low 12 bits are ORed in, so the field is to be clear, and the
+                                          code to be loaded on a multiple of 4,096 */
+};
+
+/* The kinds of relocation, with asmkit's names. Kinds 0 and 1 are of every architecture, 2 to 6, 9 and 10 of X86 and X64, 8 and 11 to 21 of AArch64;
+ * 7 and 22 to 27 are foreign to all three. */
+enum wargnifla_reloc {
+    WARGNIFLA_RELOC_Abs4 = 0,
+    WARGNIFLA_RELOC_Abs8 = 1,
+    WARGNIFLA_RELOC_X86PCRel4 = 2,
+    WARGNIFLA_RELOC_X86CallPCRel4 = 3,
+    WARGNIFLA_RELOC_X86CallPLTRel4 = 4,
+    WARGNIFLA_RELOC_X86GOTPCRel4 = 5,
+    WARGNIFLA_RELOC_X86SecRel = 6,
+    WARGNIFLA_RELOC_Arm32Call = 7,
+    WARGNIFLA_RELOC_Arm64Call = 8,
+    WARGNIFLA_RELOC_ElfX86_64TlsGd = 9,
+    WARGNIFLA_RELOC_MachOX86_64Tlv = 10,
+    WARGNIFLA_RELOC_MachOAarch64TlsAdrPage21 = 11,
+    WARGNIFLA_RELOC_MachOAarch64TlsAdrPageOff12 = 12,
+    WARGNIFLA_RELOC_Aarch64TlsDescAdrPage21 = 13,
+    WARGNIFLA_RELOC_Aarch64TlsDescLd64Lo12 = 14,
+    WARGNIFLA_RELOC_Aarch64TlsDescAddLo12 = 15,
+    WARGNIFLA_RELOC_Aarch64TlsDescCall = 16,
+    WARGNIFLA_RELOC_Aarch64AdrGotPage21 = 17,
+    WARGNIFLA_RELOC_Aarch64Ld64GotLo12Nc = 18,
+    WARGNIFLA_RELOC_Aarch64AdrPrelPgHi21 = 19,
+    WARGNIFLA_RELOC_Aarch64AddAbsLo12Nc = 20,
+    WARGNIFLA_RELOC_Aarch64Ld64AbsLo12Nc = 21,
+    WARGNIFLA_RELOC_RiscvAbs8 = 22,
+    WARGNIFLA_RELOC_RiscvCallPlt = 23,
+    WARGNIFLA_RELOC_RiscvTlsGdHi20 = 24,
+    WARGNIFLA_RELOC_RiscvPCRelLo12I = 25,
+    WARGNIFLA_RELOC_RiscvGotHi20 = 26,
+    WARGNIFLA_RELOC_RiscvPCRelHi20 = 27
+};
+
+/* A relocation's target is a symbol, below the number given at start, or a label plus this. */
+#define WARGNIFLA_LABEL_TARGET 0x80000000u
 
 /* The offset of a label that is not bound, the label of a constant that has none, and what a refused call for a number gives. */
 #define WARGNIFLA_NONE 0xFFFFFFFFu
@@ -28,15 +159,25 @@ extern "C" {
 /* Limits: a call that is lent more answers 3. */
 #define WARGNIFLA_MOST_CODE 16777216 /* bytes of code, and of output */
 #define WARGNIFLA_MOST_ENTRIES 65536 /* entries of each table, and segments */
+#define WARGNIFLA_MOST_CONSTANT 64   /* bytes of a constant; more answer 10 */
 
-/* The counts of a recording, 12 words. The caller keeps them between calls and lends them to each; a call answers 1 to fewer bytes,
- * before anything else (a finish after a record that is too short).
- *
- *   0 architecture   1 symbols   2 finished (0: no)   3 first recorded refusal, or 0
- *   4 bytes of code, then entries of each table:
- *   5 labels   6 events   7 uses   8 refs   9 constants   10 asked   11 relocations
- */
+/* The counts of a recording, 12 words. The caller keeps them between calls and lends them to each; a call answers 1 to fewer bytes, before anything
+ * else (a finish after a record that is too short), and leaves bytes past them alone. */
 #define WARGNIFLA_COUNTS_BYTES 48
+enum wargnifla_count {
+    WARGNIFLA_COUNT_ARCH = 0,
+    WARGNIFLA_COUNT_SYMBOLS = 1,
+    WARGNIFLA_COUNT_FINISHED = 2, /* 0: no */
+    WARGNIFLA_COUNT_REFUSAL = 3,  /* the first recorded one, or 0 */
+    WARGNIFLA_COUNT_CODE = 4,     /* bytes, and so the current offset */
+    WARGNIFLA_COUNT_LABELS = 5,   /* entries of each table */
+    WARGNIFLA_COUNT_EVENTS = 6,
+    WARGNIFLA_COUNT_USES = 7,
+    WARGNIFLA_COUNT_REFS = 8,
+    WARGNIFLA_COUNT_CONSTANTS = 9,
+    WARGNIFLA_COUNT_ASKED = 10,
+    WARGNIFLA_COUNT_RELOCS = 11
+};
 
 /* What finish reports, 6 words; it answers 1 to fewer bytes, and then writes nothing.
  *
@@ -44,18 +185,22 @@ extern "C" {
  */
 #define WARGNIFLA_RECORD_BYTES 24
 
-/* The tables. Each is lent whole, as bytes; its length is its capacity, of which whole entries count.
+/* The tables. Each is lent whole, as bytes; its length is its capacity, of which whole entries count. What stands in a table past its count is not
+ * read.
  *
  *   table        entry                                                              bytes
  *   code         a byte                                                                 1
  *   labels       offset, or WARGNIFLA_NONE                                              4
- *   events       kind (1 jump, 2 alignment), start, length,
+ *   events       kind (enum wargnifla_event), start, length,
  *                label or multiple, condition or 0                                     20
  *   uses         offset, label, code                                                   12
  *   refs         offset, label, code, signed addend                                    16
  *   constants    size, label or WARGNIFLA_NONE, 64 bytes                               72
  *   asked        constants whose labels were asked for, in order                        4
  *   relocations  offset, kind, target, 0, signed addend of 64 bits                     24
+ *
+ * A full table ends the recording: 11 and 12 are recorded, and no later call takes them back. So make room before a call, for all that its kind
+ * extends (enum wargnifla_call): move the table to a longer place, entries and counts as they are. At a limit there is no more room to make.
  */
 #define WARGNIFLA_LABEL_BYTES 4
 #define WARGNIFLA_EVENT_BYTES 20
@@ -64,6 +209,11 @@ extern "C" {
 #define WARGNIFLA_CONSTANT_BYTES 72
 #define WARGNIFLA_ASKED_BYTES 4
 #define WARGNIFLA_RELOC_BYTES 24
+
+enum wargnifla_event {
+    WARGNIFLA_EVENT_JUMP = 1,
+    WARGNIFLA_EVENT_ALIGNMENT = 2
+};
 
 /* Where an event, recorded from old_start to old_end, comes to stand. Finish fills one for each event, those of the pool included. */
 typedef struct {
@@ -74,50 +224,8 @@ typedef struct {
 } wargnifla_segment;
 
 /* A sheet of calls: the number of calls (a word), a byte for each one's kind, then four words for each one's arguments. Unused words and bytes
- * are 0.
- *
- *   kind  call              arguments
- *   1     bytes             count (0 to 12), the bytes
- *   2     new label
- *   3     bind              label
- *   4     align             multiple (a power of two, at most 4,096)
- *   5     use               offset, label, code
- *   6     ref               offset, label, code, signed addend
- *   7     jump              start, length, label, condition (0 to 15; 16 none)
- *   8     constant          count (0 to 12), the bytes
- *   9     constant's label  constant
- *   10    relocation        offset, kind (0 to 27), symbol or label + 2^31, signed addend
- */
-
-/* Refusals: what every function returns. 0 is none. Numbers 6, 7, 8, 10, 11 and 12 of a recording call are recorded (8 not at a bind): the recording
- * then answers every call with the first of them.
- *
- *   1   InvalidArgument         a sheet's form, a count that passes what is lent, an architecture or refusal that can't occur, counts or a record
- *                               lent too short, or a table entry that no recording writes
- *   2   InvalidArch             start names an architecture other than 1, 2, 6
- *   3   TooLarge                a call is lent more than a limit
- *   4   InvalidState            the recording has finished
- *   5   InvalidArgument         an alignment is no power of two, or exceeds 4,096
- *   6   UnsupportedInstruction  a use has code 15
- *   7   InvalidArch             a use, ref or relocation has a kind foreign to the architecture
- *   8   InvalidArgument         a label, constant or symbol number is unknown
- *   9   InvalidState            the label is bound already
- *   10  InvalidArgument         a jump that does not end at the current offset, is not 2 to 15 bytes long, has a condition above 16, starts before the
- *                               last event's end or holds a label strictly inside; a relocation's offset above 16,777,215; a constant above 64 bytes
- *   11  TooManyHandles          a table that the call must extend is full
- *   12  OutOfMemory             bytes or padding pass the lent code's end
- *   13  InvalidState            finish finds a pooled constant's label bound by the caller
- *   14  OutOfMemory             code with pool exceeds 16,777,216
- *   15  UnboundLabel            a use, label relocation, ref or jump names an unbound label
- *   16  TooManyHandles          with a jump, the segment table is short
- *   17  InvalidArgument         with a jump, a ref's field passes the code's end or touches an event
- *   18  TooLarge                with a jump, a ref can't reach its label plus addend
- *   19  InvalidArgument         without a jump, a use's field passes the code's end
- *   20  UnsupportedInstruction  without a jump, a use of code 9, 10 or 11 can't reach
- *   21  TooLarge                another use can't reach a label at or after it
- *   22  UnsupportedInstruction  another use can't reach a label before it
- *   23  OutOfMemory             the finished code exceeds the lent output
- */
+ * are 0. */
+#define WARGNIFLA_SHEET_BYTES(calls) (4 + 17 * (size_t)(calls))
 
 /* Starts a recording: writes its counts. A refused start (2) writes zeros. symbols: how many symbol numbers relocations may name. */
 uint32_t wargnifla_start(uint32_t arch, uint32_t symbols, uint8_t *counts, size_t counts_len);
@@ -130,28 +238,260 @@ uint32_t wargnifla_run_sheet(const uint8_t *sheet, size_t sheet_len, uint32_t *i
                              size_t uses_len, uint8_t *refs, size_t refs_len, uint8_t *constants, size_t constants_len, uint8_t *asked,
                              size_t asked_len, uint8_t *relocs, size_t relocs_len);
 
-/* Finishes a recording: pools its constants, relaxes its jumps, writes its code to output and what it reports to record. On success labels and
- * relocations hold final offsets and the counts say finished. A refused finish changes neither recording nor output and writes a record of
- * zeros. segments_len counts segments; there is to be one for each event and each constant asked for. They are scratch: 18 and 23 after a layout, and
- * success, leave the settled ones there, and every other refusal, and a finish without a jump, leaves them untouched. */
+/* Finishes a recording: pools its constants behind the code, in the order of asking, and writes the finished code to output and what it reports to
+ * record. On success labels and relocations hold final offsets and the counts say finished; output past the finished length is untouched. A refused
+ * finish changes neither recording nor output and writes a record of zeros, and another may follow, with more room.
+ *
+ * With a jump, which X64 alone keeps, the code is laid out anew: refs are patched in order, then jumps; uses are not patched. Without one, nothing
+ * moves: uses are patched in order; refs are not. So a recorder for X64 that does not know whether a jump will stand records a use and a ref of each
+ * field. A ref adds its addend and ignores what its field holds, while a use of code 0 adds what its field holds, so there the addend is to stand in
+ * the field too. Constants are written last.
+ *
+ * segments_len counts segments; with a jump there is to be one for each event and each constant asked for. They are scratch: with a jump, 18, 23 and
+ * success leave the settled ones there; every other refusal, and every finish without a jump, leaves them untouched.
+ *
+ * output_len: WARGNIFLA_MOST_OUTPUT and wargnifla_output_bound say what is enough. */
 uint32_t wargnifla_finish(uint8_t *counts, size_t counts_len, const uint8_t *code, size_t code_len, uint8_t *labels, size_t labels_len,
                           const uint8_t *events, size_t events_len, const uint8_t *uses, size_t uses_len, const uint8_t *refs, size_t refs_len,
                           const uint8_t *constants, size_t constants_len, const uint8_t *asked, size_t asked_len, uint8_t *relocs,
                           size_t relocs_len, wargnifla_segment *segments, size_t segments_len, uint8_t *output, size_t output_len,
                           uint8_t *record, size_t record_len);
 
+/* Bytes of stack that are enough for finish: c/finish_stack.c measures some 132,000, and 4,096 more are for a memcpy or memset that the dynamic
+ * linker looks up at its first call. Less than 8,192 are enough for each of the others. */
+#define WARGNIFLA_FINISH_STACK 139264
+
 /* Three calls that a sheet carries only in part. */
 
-/* Appends bytes, any number of them. */
+/* Appends bytes, any number of them: code by bytes_len. */
 uint32_t wargnifla_put_bytes(uint8_t *counts, size_t counts_len, uint8_t *code, size_t code_len, const uint8_t *bytes, size_t bytes_len);
 
-/* A new constant of at most 64 bytes, without a label; number becomes its number, or WARGNIFLA_NONE where it is refused. */
+/* A new constant of at most 64 bytes, without a label: constants by 1. number becomes its number, or WARGNIFLA_NONE where it is refused. */
 uint32_t wargnifla_add_constant(uint8_t *counts, size_t counts_len, uint8_t *constants, size_t constants_len, const uint8_t *bytes,
                                 size_t bytes_len, uint32_t *number);
 
-/* A relocation with an addend of 64 bits, two's complement. target: a symbol, or a label + 2^31. labels are counted, not lent. */
+/* A relocation with an addend of 64 bits, two's complement: relocations by 1. Labels are counted, not lent. */
 uint32_t wargnifla_add_reloc(uint8_t *counts, size_t counts_len, uint8_t *relocs, size_t relocs_len, uint32_t offset, uint32_t kind,
                              uint32_t target, uint64_t addend);
+
+/* How long the finished code can be, from numbers known when memory is set aside. A jump gains at most 4 bytes, an alignment 4,095, and a constant
+ * that is asked for takes at most 64 and 15 of padding. Where finish answers 0 the code is never longer than WARGNIFLA_MOST_CODE, since no longer
+ * output may be lent. */
+#define WARGNIFLA_MOST_OUTPUT(code, jumps, alignments, asked) \
+    WARGNIFLA_CAPPED((size_t)(code) + 4 * (size_t)(jumps) + 4095 * (size_t)(alignments) + 79 * (size_t)(asked))
+#define WARGNIFLA_CAPPED(length) ((length) < WARGNIFLA_MOST_CODE ? (length) : (size_t)WARGNIFLA_MOST_CODE)
+
+/* From here on: inline functions over a struct of tables, in place of the long lists of arguments. */
+
+/* A table: bytes is NULL, or lent for len bytes. */
+typedef struct {
+    uint8_t *bytes;
+    size_t len;
+} wargnifla_table;
+
+/* A recording. All zeros is one without room, to be started. */
+typedef struct {
+    uint8_t counts[WARGNIFLA_COUNTS_BYTES];
+    wargnifla_table code, labels, events, uses, refs, constants, asked, relocs;
+} wargnifla_tables;
+
+/* What finish reports. */
+typedef struct {
+    uint32_t arch;
+    uint32_t length;    /* bytes of finished code */
+    uint32_t alignment; /* what the code is to be loaded on a multiple of */
+    uint32_t layouts;   /* rounds of relaxation; 0 without a jump */
+    uint32_t labels;
+    uint32_t relocs;
+} wargnifla_record;
+
+static inline uint32_t wargnifla_word(const uint8_t *bytes) {
+    return bytes[0] | (uint32_t)bytes[1] << 8 | (uint32_t)bytes[2] << 16 | (uint32_t)bytes[3] << 24;
+}
+
+static inline void wargnifla_put_word(uint8_t *bytes, uint32_t word) {
+    int i;
+    for (i = 0; i < 4; i++)
+        bytes[i] = (uint8_t)(word >> 8 * i);
+}
+
+/* The name of a refusal, as it stands in enum wargnifla_refusal after WARGNIFLA_. */
+static inline const char *wargnifla_refusal_name(uint32_t refusal) {
+    static const char *const names[] = {
+        "ACCEPTED",        "MALFORMED",        "UNKNOWN_ARCH",       "PAST_LIMIT",          "ALREADY_FINISHED",   "BAD_ALIGNMENT",
+        "UNSUPPORTED_USE", "FOREIGN_KIND",     "UNKNOWN_NUMBER",     "ALREADY_BOUND",       "BAD_ENTRY",          "TABLE_FULL",
+        "CODE_FULL",       "POOL_LABEL_BOUND", "POOL_TOO_LARGE",     "UNBOUND_LABEL",       "TOO_FEW_SEGMENTS",   "REF_OVERLAPS",
+        "REF_OUT_OF_REACH", "USE_PAST_END",    "BRANCH_OUT_OF_REACH", "LABEL_TOO_FAR_AHEAD", "LABEL_TOO_FAR_BACK", "OUTPUT_TOO_SMALL",
+    };
+    return refusal < sizeof names / sizeof *names ? names[refusal] : "UNKNOWN";
+}
+
+/* One of the counts, named by enum wargnifla_count. */
+static inline uint32_t wargnifla_count_of(const wargnifla_tables *tables, int which) {
+    return wargnifla_word(tables->counts + 4 * which);
+}
+
+/* The offset of a label: the recorded one, after finish the final one. WARGNIFLA_NONE where it is unknown or not bound. */
+static inline uint32_t wargnifla_label_offset(const wargnifla_tables *tables, uint32_t label) {
+    if (label >= wargnifla_count_of(tables, WARGNIFLA_COUNT_LABELS) || label >= tables->labels.len / WARGNIFLA_LABEL_BYTES)
+        return WARGNIFLA_NONE;
+    return wargnifla_word(tables->labels.bytes + WARGNIFLA_LABEL_BYTES * (size_t)label);
+}
+
+/* Prepares a sheet of so many calls, WARGNIFLA_SHEET_BYTES(calls) long; each is then to be set. */
+static inline void wargnifla_sheet_start(uint8_t *sheet, uint32_t calls) {
+    size_t i;
+    wargnifla_put_word(sheet, calls);
+    for (i = 4; i < WARGNIFLA_SHEET_BYTES(calls); i++)
+        sheet[i] = 0;
+}
+
+/* The arguments of a prepared sheet's call, 16 bytes. */
+static inline uint8_t *wargnifla_sheet_arguments(uint8_t *sheet, uint32_t index) {
+    return sheet + 4 + (size_t)wargnifla_word(sheet) + 16 * (size_t)index;
+}
+
+/* Sets a call of a prepared sheet, its arguments four words; an unused one is 0. */
+static inline void wargnifla_sheet_call(uint8_t *sheet, uint32_t index, int kind, uint32_t a, uint32_t b, uint32_t c, uint32_t d) {
+    uint8_t *arguments = wargnifla_sheet_arguments(sheet, index);
+    sheet[4 + (size_t)index] = (uint8_t)kind;
+    wargnifla_put_word(arguments, a);
+    wargnifla_put_word(arguments + 4, b);
+    wargnifla_put_word(arguments + 8, c);
+    wargnifla_put_word(arguments + 12, d);
+}
+
+/* Sets a call of kind WARGNIFLA_CALL_BYTES or WARGNIFLA_CALL_CONSTANT; len is at most 12. */
+static inline void wargnifla_sheet_bytes(uint8_t *sheet, uint32_t index, int kind, const uint8_t *bytes, uint32_t len) {
+    uint8_t *arguments = wargnifla_sheet_arguments(sheet, index);
+    uint32_t i;
+    wargnifla_sheet_call(sheet, index, kind, len, 0, 0, 0);
+    for (i = 0; i < len; i++)
+        arguments[4 + i] = bytes[i];
+}
+
+static inline uint32_t wargnifla_tables_start(wargnifla_tables *tables, uint32_t arch, uint32_t symbols) {
+    return wargnifla_start(arch, symbols, tables->counts, sizeof tables->counts);
+}
+
+static inline uint32_t wargnifla_tables_run_sheet(wargnifla_tables *tables, const uint8_t *sheet, size_t sheet_len, uint32_t *index) {
+    return wargnifla_run_sheet(sheet, sheet_len, index, tables->counts, sizeof tables->counts, tables->code.bytes, tables->code.len,
+                               tables->labels.bytes, tables->labels.len, tables->events.bytes, tables->events.len, tables->uses.bytes,
+                               tables->uses.len, tables->refs.bytes, tables->refs.len, tables->constants.bytes, tables->constants.len,
+                               tables->asked.bytes, tables->asked.len, tables->relocs.bytes, tables->relocs.len);
+}
+
+static inline uint32_t wargnifla_tables_finish(wargnifla_tables *tables, wargnifla_segment *segments, size_t segments_len, uint8_t *output,
+                                               size_t output_len, wargnifla_record *record) {
+    uint8_t words[WARGNIFLA_RECORD_BYTES];
+    uint32_t refusal =
+        wargnifla_finish(tables->counts, sizeof tables->counts, tables->code.bytes, tables->code.len, tables->labels.bytes, tables->labels.len,
+                         tables->events.bytes, tables->events.len, tables->uses.bytes, tables->uses.len, tables->refs.bytes, tables->refs.len,
+                         tables->constants.bytes, tables->constants.len, tables->asked.bytes, tables->asked.len, tables->relocs.bytes,
+                         tables->relocs.len, segments, segments_len, output, output_len, words, sizeof words);
+    record->arch = wargnifla_word(words);
+    record->length = wargnifla_word(words + 4);
+    record->alignment = wargnifla_word(words + 8);
+    record->layouts = wargnifla_word(words + 12);
+    record->labels = wargnifla_word(words + 16);
+    record->relocs = wargnifla_word(words + 20);
+    return refusal;
+}
+
+static inline uint32_t wargnifla_tables_put_bytes(wargnifla_tables *tables, const uint8_t *bytes, size_t bytes_len) {
+    return wargnifla_put_bytes(tables->counts, sizeof tables->counts, tables->code.bytes, tables->code.len, bytes, bytes_len);
+}
+
+static inline uint32_t wargnifla_tables_add_constant(wargnifla_tables *tables, const uint8_t *bytes, size_t bytes_len, uint32_t *number) {
+    return wargnifla_add_constant(tables->counts, sizeof tables->counts, tables->constants.bytes, tables->constants.len, bytes, bytes_len, number);
+}
+
+static inline uint32_t wargnifla_tables_add_reloc(wargnifla_tables *tables, uint32_t offset, uint32_t kind, uint32_t target, int64_t addend) {
+    return wargnifla_add_reloc(tables->counts, sizeof tables->counts, tables->relocs.bytes, tables->relocs.len, offset, kind, target,
+                               (uint64_t)addend);
+}
+
+/* Makes one call that takes words. */
+static inline uint32_t wargnifla_tables_call(wargnifla_tables *tables, int kind, uint32_t a, uint32_t b, uint32_t c, uint32_t d) {
+    uint8_t sheet[WARGNIFLA_SHEET_BYTES(1)];
+    uint32_t index;
+    wargnifla_sheet_start(sheet, 1);
+    wargnifla_sheet_call(sheet, 0, kind, a, b, c, d);
+    return wargnifla_tables_run_sheet(tables, sheet, sizeof sheet, &index);
+}
+
+/* label becomes the new label's number, or WARGNIFLA_NONE where it is refused. */
+static inline uint32_t wargnifla_tables_new_label(wargnifla_tables *tables, uint32_t *label) {
+    uint32_t next = wargnifla_count_of(tables, WARGNIFLA_COUNT_LABELS);
+    uint32_t refusal = wargnifla_tables_call(tables, WARGNIFLA_CALL_NEW_LABEL, 0, 0, 0, 0);
+    *label = refusal == WARGNIFLA_ACCEPTED ? next : WARGNIFLA_NONE;
+    return refusal;
+}
+
+static inline uint32_t wargnifla_tables_bind(wargnifla_tables *tables, uint32_t label) {
+    return wargnifla_tables_call(tables, WARGNIFLA_CALL_BIND, label, 0, 0, 0);
+}
+
+static inline uint32_t wargnifla_tables_align(wargnifla_tables *tables, uint32_t multiple) {
+    return wargnifla_tables_call(tables, WARGNIFLA_CALL_ALIGN, multiple, 0, 0, 0);
+}
+
+static inline uint32_t wargnifla_tables_use(wargnifla_tables *tables, uint32_t offset, uint32_t label, uint32_t code) {
+    return wargnifla_tables_call(tables, WARGNIFLA_CALL_USE, offset, label, code, 0);
+}
+
+static inline uint32_t wargnifla_tables_ref(wargnifla_tables *tables, uint32_t offset, uint32_t label, uint32_t code, int32_t addend) {
+    return wargnifla_tables_call(tables, WARGNIFLA_CALL_REF, offset, label, code, (uint32_t)addend);
+}
+
+static inline uint32_t wargnifla_tables_jump(wargnifla_tables *tables, uint32_t start, uint32_t length, uint32_t label, uint32_t condition) {
+    return wargnifla_tables_call(tables, WARGNIFLA_CALL_JUMP, start, length, label, condition);
+}
+
+/* label becomes the label of a constant, made at the first asking, or WARGNIFLA_NONE where it is refused. */
+static inline uint32_t wargnifla_tables_constant_label(wargnifla_tables *tables, uint32_t constant, uint32_t *label) {
+    uint32_t refusal = wargnifla_tables_call(tables, WARGNIFLA_CALL_CONSTANT_LABEL, constant, 0, 0, 0);
+    *label = WARGNIFLA_NONE;
+    if (refusal == WARGNIFLA_ACCEPTED)
+        *label = wargnifla_word(tables->constants.bytes + WARGNIFLA_CONSTANT_BYTES * (size_t)constant + 4);
+    return refusal;
+}
+
+/* How many whole entries there are of those counted. */
+static inline size_t wargnifla_entries(const wargnifla_tables *tables, const wargnifla_table *table, int which, size_t entry_bytes) {
+    size_t counted = wargnifla_count_of(tables, which);
+    return counted < table->len / entry_bytes ? counted : table->len / entry_bytes;
+}
+
+/* By how much an event can be longer than recorded, modulo 2^64: a jump becomes at most 5 bytes long without a condition and 6 with one, an alignment
+ * one less than its multiple. */
+static inline uint64_t wargnifla_event_growth(const uint8_t *event) {
+    uint32_t length = wargnifla_word(event + 8), most = wargnifla_word(event + 12) - 1;
+    if (wargnifla_word(event) == WARGNIFLA_EVENT_JUMP)
+        most = wargnifla_word(event + 16) == WARGNIFLA_ALWAYS ? 5 : 6;
+    return (uint64_t)most - length;
+}
+
+/* What a constant of a size can take in the pool: it is aligned on 8 up to 8 bytes, else on 16. */
+static inline uint64_t wargnifla_pooled_growth(uint32_t size) { return (uint64_t)size + (size <= 8 ? 7 : 15); }
+
+/* How long the finished code of a recording can be: what is recorded, every jump long, every padding one less than its multiple, and the pool; at
+ * most WARGNIFLA_MOST_CODE. With an output of this length finish answers 23 only where the code is longer than any output that may be lent. */
+static inline size_t wargnifla_output_bound(const wargnifla_tables *tables) {
+    size_t events = wargnifla_entries(tables, &tables->events, WARGNIFLA_COUNT_EVENTS, WARGNIFLA_EVENT_BYTES);
+    size_t asked = wargnifla_entries(tables, &tables->asked, WARGNIFLA_COUNT_ASKED, WARGNIFLA_ASKED_BYTES);
+    size_t constants = wargnifla_entries(tables, &tables->constants, WARGNIFLA_COUNT_CONSTANTS, WARGNIFLA_CONSTANT_BYTES);
+    uint64_t bound = wargnifla_count_of(tables, WARGNIFLA_COUNT_CODE);
+    size_t i;
+    for (i = 0; i < events; i++)
+        bound += wargnifla_event_growth(tables->events.bytes + WARGNIFLA_EVENT_BYTES * i);
+    for (i = 0; i < asked; i++) {
+        uint32_t constant = wargnifla_word(tables->asked.bytes + WARGNIFLA_ASKED_BYTES * i);
+        if (constant < constants)
+            bound += wargnifla_pooled_growth(wargnifla_word(tables->constants.bytes + WARGNIFLA_CONSTANT_BYTES * (size_t)constant));
+    }
+    return (size_t)WARGNIFLA_CAPPED(bound);
+}
 
 #ifdef __cplusplus
 }

@@ -8,19 +8,40 @@ use crate::ffi::Segment;
 use crate::finalized::CodeBufferFinalized;
 use crate::recording::{
     AsmReloc, Constant, Label, LayoutEvent, Recording, RelaxableJump, RelocTarget,
+    constant_alignment,
 };
 use crate::sheet::Sheet;
 use crate::tables::{Room, Tables};
 use crate::verified::{self, Record};
 use crate::{
-    Arch, Call, CodeOffset, Condition, Error, LabelUse, MOST_CODE, MOST_CONSTANT, MOST_ENTRIES,
-    Place, Reloc, UNBOUND,
+    Arch, Call, CodeOffset, Condition, Error, LabelUse, MOST_CODE, MOST_ENTRIES, Place, Reloc,
+    UNBOUND,
 };
 
 /// A buffer of code to be produced: bytes, labels, fields, alignments, constants, relocations and jumps, recorded call by call and then finished.
 ///
+/// Labels are numbered from 0 in the order of making, and so are constants; a constant's label takes the next number among the labels when it is first
+/// asked for. Tables grow before a call could find one full, up to [`MOST_ENTRIES`] entries each and [`MOST_CODE`] bytes of code.
+///
 /// A refused call changes nothing but, for some numbers, that the recording answers every later call with the same refusal. A refused finish changes
 /// nothing at all.
+///
+/// ```
+/// use wargnifla::{Arch, CodeBuffer, Condition, RelaxableJump};
+///
+/// # fn main() -> Result<(), wargnifla::Error> {
+/// let mut buffer = CodeBuffer::new(Arch::X64);
+/// let again = buffer.get_label()?;
+/// buffer.try_bind_label(again)?;
+/// buffer.put_bytes(&[0xFF, 0xC9])?; // dec ecx
+/// let start = buffer.cur_offset();
+/// buffer.put_bytes(&[0; 6])?; // room for the jump; finish writes its bytes
+/// buffer.record_relaxable_jump(RelaxableJump { start, len: 6, label: again, cc: Some(Condition::Ne) })?;
+/// let code = buffer.finish()?;
+/// assert_eq!(code.data(), [0xFF, 0xC9, 0x75, 0xFC]);
+/// # Ok(())
+/// # }
+/// ```
 pub struct CodeBuffer {
     tables: Tables,
     /// What the recorded refusal said, if there is one.
@@ -29,11 +50,13 @@ pub struct CodeBuffer {
 
 impl CodeBuffer {
     /// Starts a recording without symbols.
+    #[must_use]
     pub fn new(arch: Arch) -> Self {
         Self::with_symbols(arch, 0)
     }
 
     /// Starts a recording whose relocations may name the symbols below a number.
+    #[must_use]
     pub fn with_symbols(arch: Arch, symbols: u32) -> Self {
         Self::start(arch.number(), symbols).expect("start takes every Arch")
     }
@@ -56,36 +79,52 @@ impl CodeBuffer {
     }
 
     /// The architecture.
+    #[must_use]
     pub fn arch(&self) -> Arch {
         self.tables.arch()
     }
 
     /// The refusal that this recording answers every call with, if one was recorded.
+    ///
+    /// ```
+    /// use wargnifla::{Arch, CodeBuffer, Refusal};
+    ///
+    /// let mut buffer = CodeBuffer::new(Arch::X64);
+    /// buffer.add_constant(&[0; 65]).unwrap_err();
+    /// assert_eq!(buffer.error().unwrap().refusal(), Refusal::BadEntry);
+    /// assert_eq!(buffer.put1(0).unwrap_err().refusal(), Refusal::BadEntry);
+    /// ```
+    #[must_use]
     pub fn error(&self) -> Option<&Error> {
         self.first_refusal.as_ref()
     }
 
     /// Whether the recording has finished.
+    #[must_use]
     pub fn is_finished(&self) -> bool {
         self.tables.counts.is_finished()
     }
 
     /// The bytes recorded so far.
+    #[must_use]
     pub fn data(&self) -> &[u8] {
         self.tables.code()
     }
 
     /// Where the next byte goes.
+    #[must_use]
     pub fn cur_offset(&self) -> CodeOffset {
         self.data().len() as CodeOffset
     }
 
     /// The relocations recorded so far; after finish, with their final offsets.
+    #[must_use]
     pub fn relocs(&self) -> Vec<AsmReloc> {
         self.tables.relocs().collect()
     }
 
     /// Everything recorded so far but the bytes, as typed entries. After finish, labels and relocations have their final offsets.
+    #[must_use]
     pub fn recording(&self) -> Recording {
         self.tables.recording()
     }
@@ -148,16 +187,19 @@ impl CodeBuffer {
     }
 
     /// Whether a label is known and bound.
+    #[must_use]
     pub fn is_bound(&self, label: Label) -> bool {
         self.label_offset(label) != UNBOUND
     }
 
     /// Number of labels made so far; label numbers below it are known.
+    #[must_use]
     pub fn label_count(&self) -> u32 {
         self.tables.label_count() as u32
     }
 
     /// The offset of a label, or [`UNBOUND`].
+    #[must_use]
     pub fn label_offset(&self, label: Label) -> CodeOffset {
         self.tables.label_offset(label).unwrap_or(UNBOUND)
     }
@@ -173,6 +215,18 @@ impl CodeBuffer {
 
     /// Pads to a multiple, a power of two up to 4,096: with NOPs on x86, with zeros on AArch64.
     ///
+    /// ```
+    /// use wargnifla::{Arch, CodeBuffer};
+    ///
+    /// # fn main() -> Result<(), wargnifla::Error> {
+    /// let mut buffer = CodeBuffer::new(Arch::X64);
+    /// buffer.put1(0xC3)?;
+    /// buffer.try_align_to(4)?;
+    /// assert_eq!(buffer.data(), [0xC3, 0x0F, 0x1F, 0x00]);
+    /// # Ok(())
+    /// # }
+    /// ```
+    ///
     /// # Errors
     ///
     /// Number 4, 5, 11 or 12.
@@ -180,7 +234,23 @@ impl CodeBuffer {
         self.call(&Call::Align(align_to))
     }
 
-    /// Records a field that a finish without a jump patches.
+    /// Records a field that a finish without a jump patches; one with a jump leaves it as it is. A field of [`LabelUse::X86JmpRel32`] adds the value
+    /// that stands in it.
+    ///
+    /// ```
+    /// use wargnifla::{Arch, CodeBuffer, LabelUse};
+    ///
+    /// # fn main() -> Result<(), wargnifla::Error> {
+    /// let mut buffer = CodeBuffer::new(Arch::AArch64);
+    /// let over = buffer.get_label()?;
+    /// buffer.use_label_at_offset(0, over, LabelUse::A64Branch26)?;
+    /// buffer.put4(0x1400_0000)?; // b over
+    /// buffer.put4(0)?;
+    /// buffer.try_bind_label(over)?;
+    /// assert_eq!(buffer.finish()?.data()[..4], 0x1400_0002u32.to_le_bytes());
+    /// # Ok(())
+    /// # }
+    /// ```
     ///
     /// # Errors
     ///
@@ -198,7 +268,27 @@ impl CodeBuffer {
         })
     }
 
-    /// Records a field that a finish with a jump encodes. Accepted unread unless the architecture is X64.
+    /// Records a field that a finish with a jump encodes; one without a jump leaves it as it is. What stands in the field does not matter. Accepted
+    /// unread unless the architecture is X64.
+    ///
+    /// Where it is not known whether a jump will stand, a field is recorded as a use and as a ref:
+    ///
+    /// ```
+    /// use wargnifla::{Arch, CodeBuffer, LabelUse};
+    ///
+    /// # fn main() -> Result<(), wargnifla::Error> {
+    /// let mut buffer = CodeBuffer::new(Arch::X64);
+    /// let data = buffer.get_label()?;
+    /// buffer.put_bytes(&[0x48, 0x8D, 0x05])?; // lea rax, [rip + data + 1]
+    /// let field = buffer.cur_offset();
+    /// buffer.put4(1)?;
+    /// buffer.use_label_at_offset(field, data, LabelUse::X86JmpRel32)?;
+    /// buffer.record_label_ref(field, data, LabelUse::X86JmpRel32, 1)?;
+    /// buffer.try_bind_label(data)?;
+    /// assert_eq!(buffer.finish()?.data()[3..], [1, 0, 0, 0]);
+    /// # Ok(())
+    /// # }
+    /// ```
     ///
     /// # Errors
     ///
@@ -245,6 +335,19 @@ impl CodeBuffer {
 
     /// The label of a constant, made when it is first asked for and bound by finish.
     ///
+    /// ```
+    /// use wargnifla::{Arch, CodeBuffer};
+    ///
+    /// # fn main() -> Result<(), wargnifla::Error> {
+    /// let mut buffer = CodeBuffer::new(Arch::X64);
+    /// let one = buffer.add_constant(&1f64.to_le_bytes())?;
+    /// let one = buffer.get_label_for_constant(one)?;
+    /// buffer.put1(0xC3)?;
+    /// assert_eq!(buffer.finish()?.label_offset(one), 8);
+    /// # Ok(())
+    /// # }
+    /// ```
+    ///
     /// # Errors
     ///
     /// Number 4, 8 or 11.
@@ -255,6 +358,19 @@ impl CodeBuffer {
     }
 
     /// Records a relocation at the current offset.
+    ///
+    /// ```
+    /// use wargnifla::{Arch, CodeBuffer, Reloc, RelocTarget, Sym};
+    ///
+    /// # fn main() -> Result<(), wargnifla::Error> {
+    /// let mut buffer = CodeBuffer::with_symbols(Arch::X64, 1);
+    /// buffer.put1(0xE8)?; // call symbol 0
+    /// buffer.add_reloc(Reloc::X86CallPLTRel4, RelocTarget::Sym(Sym::from_id(0)), -4)?;
+    /// buffer.put4(0)?;
+    /// assert_eq!(buffer.finish()?.relocs()[0].offset, 1);
+    /// # Ok(())
+    /// # }
+    /// ```
     ///
     /// # Errors
     ///
@@ -363,6 +479,15 @@ impl CodeBuffer {
 
     /// Makes the calls of a binary sheet, up to the first that is refused. A sheet whose form is broken makes none.
     ///
+    /// ```
+    /// use wargnifla::{Arch, CodeBuffer, read_text, write_sheet};
+    ///
+    /// let calls = read_text("label; bytes 90 C3; bind 0").unwrap().calls;
+    /// let mut buffer = CodeBuffer::new(Arch::X64);
+    /// buffer.run_sheet(&write_sheet(&calls).unwrap()).unwrap();
+    /// assert_eq!(buffer.data(), [0x90, 0xC3]);
+    /// ```
+    ///
     /// # Errors
     ///
     /// The refused call's, with its index; number 1 for a broken form.
@@ -405,6 +530,26 @@ impl CodeBuffer {
     /// Finishes the recording: pools its constants, relaxes its jumps, fills its fields and writes its code. The recording's labels and relocations
     /// take their final offsets, and it accepts no more calls.
     ///
+    /// With a jump the recording's refs are filled, without one its uses.
+    ///
+    #[doc = concat!(
+        "The verified function takes up to ", finish_stack!(), " bytes of the thread's stack ([`FINISH_STACK`](crate::FINISH_STACK)), \
+         whatever is recorded: a thread of 256 KiB has enough."
+    )]
+    ///
+    /// ```
+    /// use wargnifla::{Arch, CodeBuffer, Refusal};
+    ///
+    /// # fn main() -> Result<(), wargnifla::Error> {
+    /// let mut buffer = CodeBuffer::with_symbols(Arch::X64, 0);
+    /// buffer.put_bytes(&[0x90; 3])?;
+    /// let code = buffer.finish()?;
+    /// assert_eq!((code.total_size(), code.layouts(), code.alignment()), (3, 0, 32));
+    /// assert_eq!(buffer.finish().unwrap_err().refusal(), Refusal::AlreadyFinished);
+    /// # Ok(())
+    /// # }
+    /// ```
+    ///
     /// # Errors
     ///
     /// A recorded refusal, number 4, or one of 13 to 23; the buffer is then as it was before.
@@ -426,15 +571,22 @@ impl CodeBuffer {
         MOST_ENTRIES.min(self.tables.event_count() + self.tables.asked_count())
     }
 
-    /// What the finished code cannot exceed: every jump long, every padding as long as its multiple lets it be, every constant of the greatest size.
+    /// What the finished code cannot exceed, as `wargnifla_output_bound` of include/wargnifla.h has it: every jump long, every padding one less than
+    /// its multiple, and the same of the pool.
     fn most_finished(&self) -> usize {
-        const MOST_CONSTANT_PADDING: usize = 15;
-        let events = self.tables.events().map(|event| match event {
-            LayoutEvent::Jump(jump) => jump.long_len() as usize,
-            LayoutEvent::Align { align, .. } => align as usize - 1,
-        });
-        let pool = self.tables.asked_count() * (MOST_CONSTANT + MOST_CONSTANT_PADDING);
-        MOST_CODE.min(self.data().len() + events.sum::<usize>() + pool)
+        let mut most = self.data().len();
+        for event in self.tables.events() {
+            most -= (event.end() - event.start()) as usize;
+            most += match event {
+                LayoutEvent::Jump(jump) => jump.long_len() as usize,
+                LayoutEvent::Align { align, .. } => align as usize - 1,
+            };
+        }
+        let pool = self.tables.asked_sizes();
+        most += pool
+            .map(|size| size + constant_alignment(size) as usize - 1)
+            .sum::<usize>();
+        MOST_CODE.min(most)
     }
 
     fn finalized(

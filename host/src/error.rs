@@ -2,6 +2,8 @@
 
 use std::fmt;
 
+use crate::Refusal;
+
 /// A refusal of document 01. Nothing that was recorded before is lost by one.
 #[derive(Clone, Debug, PartialEq, Eq)]
 pub struct Error {
@@ -13,6 +15,7 @@ pub struct Error {
 
 /// What was refused.
 #[derive(Clone, Copy, Debug, PartialEq, Eq)]
+#[non_exhaustive]
 pub enum Place {
     /// The start of a recording.
     Start,
@@ -59,11 +62,30 @@ impl Error {
     }
 
     /// The refusal's number, 1 to 23.
+    #[must_use]
     pub fn number(&self) -> u32 {
         self.number
     }
 
+    /// The refusal, named.
+    ///
+    /// ```
+    /// use wargnifla::{Arch, CodeBuffer, Refusal};
+    ///
+    /// let mut buffer = CodeBuffer::new(Arch::X64);
+    /// let error = buffer.try_align_to(24).unwrap_err();
+    /// match error.refusal() {
+    ///     Refusal::BadAlignment => assert_eq!(error.number(), 5),
+    ///     other => panic!("{other}"),
+    /// }
+    /// ```
+    #[must_use]
+    pub fn refusal(&self) -> Refusal {
+        Refusal::from_number(self.number).expect("the functions answer numbers of document 01 only")
+    }
+
     /// The refusal's name, asmkit's.
+    #[must_use]
     pub fn name(&self) -> &'static str {
         match self.number {
             1 | 5 | 8 | 10 | 17 | 19 => "InvalidArgument",
@@ -79,16 +101,19 @@ impl Error {
     }
 
     /// What was refused.
+    #[must_use]
     pub fn place(&self) -> Place {
         self.place
     }
 
     /// What is wrong, without number and place.
+    #[must_use]
     pub fn sentence(&self) -> &str {
         &self.sentence
     }
 
     /// The entry that a finish was refused for, where there is one.
+    #[must_use]
     pub fn entry(&self) -> Option<Entry> {
         self.entry
     }

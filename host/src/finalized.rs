@@ -18,47 +18,56 @@ pub struct CodeBufferFinalized {
 
 impl CodeBufferFinalized {
     /// The architecture.
+    #[must_use]
     pub fn arch(&self) -> Arch {
         self.arch
     }
 
     /// Bytes of finished code.
+    #[must_use]
     pub fn total_size(&self) -> usize {
         self.data.len()
     }
 
     /// The finished code.
+    #[must_use]
     pub fn data(&self) -> &[u8] {
         &self.data
     }
 
     /// The final offset of a label, or [`UNBOUND`].
+    #[must_use]
     pub fn label_offset(&self, label: Label) -> CodeOffset {
         let offset = self.label_offsets.get(label.id() as usize);
         offset.copied().unwrap_or(UNBOUND)
     }
 
     /// The final offset of every label, or [`UNBOUND`].
+    #[must_use]
     pub fn label_offsets(&self) -> &[CodeOffset] {
         &self.label_offsets
     }
 
     /// The relocations, with their final offsets.
+    #[must_use]
     pub fn relocs(&self) -> &[AsmReloc] {
         &self.relocs
     }
 
     /// The multiple that the code is to be loaded on.
+    #[must_use]
     pub fn alignment(&self) -> u32 {
         self.alignment
     }
 
     /// How many layouts finish made: the rounds of relaxation, 0 without a jump.
+    #[must_use]
     pub fn layouts(&self) -> u32 {
         self.layouts
     }
 
     /// Where each event came to stand, those of the pool included; empty without a jump.
+    #[must_use]
     pub fn segments(&self) -> &[Segment] {
         &self.segments
     }

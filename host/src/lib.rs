@@ -2,7 +2,7 @@
 //!
 //! [`CodeBuffer`] owns the tables of a recording and lends them to the C functions of libwargnifla.a, which record calls and finish the code. Names
 //! are those of asmkit's core/buffer.rs (see NOTICE), of which the verified library is a port. A refusal is an [`Error`]: its number by document 01,
-//! and a sentence that says what is wrong and where.
+//! its name ([`Refusal`]), and a sentence that says what is wrong and where. Buffers share nothing: threads may each have their own.
 //!
 //! ```
 //! use wargnifla::{Arch, CodeBuffer, RelaxableJump};
@@ -23,6 +23,13 @@
 #![deny(unsafe_code)]
 #![warn(missing_docs)]
 
+/// Bytes of stack that are enough for finish, as a literal: `WARGNIFLA_FINISH_STACK` in include/wargnifla.h.
+macro_rules! finish_stack {
+    () => {
+        139264
+    };
+}
+
 mod buffer;
 mod call;
 mod error;
@@ -32,6 +39,7 @@ pub mod ffi;
 mod finalized;
 mod listing;
 mod recording;
+mod refusal;
 mod relax;
 mod rounds;
 mod sheet;
@@ -48,6 +56,7 @@ pub use recording::{
     AsmConstant, AsmFixup, AsmReloc, Constant, Label, LabelRef, LayoutEvent, Pooled,
     PooledConstant, Recording, RelaxableJump, RelocTarget, Sym,
 };
+pub use refusal::Refusal;
 pub use rounds::{Lengthened, Mismatch, Round, Rounds};
 pub use sheet::{Sheet, Unwritable, symbols_named, write_sheet};
 pub use sheet_text::{Arch, Call, Condition, LabelUse, Reach, Reloc};
@@ -64,6 +73,10 @@ pub const MOST_ENTRIES: usize = 65_536;
 
 /// The most bytes of a constant.
 pub const MOST_CONSTANT: usize = 64;
+
+/// Bytes of stack that are enough for the verified finish, which [`CodeBuffer::finish`] calls: it keeps its marks there and allocates nothing. The
+/// other calls take less than 8 KiB.
+pub const FINISH_STACK: usize = finish_stack!();
 
 /// The offset of a label that is not bound.
 pub const UNBOUND: CodeOffset = u32::MAX;

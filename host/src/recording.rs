@@ -11,11 +11,13 @@ pub struct Label(u32);
 
 impl Label {
     /// The label of a number.
+    #[must_use]
     pub const fn from_id(id: u32) -> Self {
         Self(id)
     }
 
     /// The label's number.
+    #[must_use]
     pub const fn id(self) -> u32 {
         self.0
     }
@@ -27,11 +29,13 @@ pub struct Sym(u32);
 
 impl Sym {
     /// The symbol of a number.
+    #[must_use]
     pub const fn from_id(id: u32) -> Self {
         Self(id)
     }
 
     /// The symbol's number.
+    #[must_use]
     pub const fn id(self) -> u32 {
         self.0
     }
@@ -43,11 +47,13 @@ pub struct Constant(u32);
 
 impl Constant {
     /// The constant of a number.
+    #[must_use]
     pub const fn from_id(id: u32) -> Self {
         Self(id)
     }
 
     /// The constant's number.
+    #[must_use]
     pub const fn id(self) -> u32 {
         self.0
     }
@@ -65,6 +71,7 @@ pub enum RelocTarget {
 impl RelocTarget {
     /// The target in one word, as sheets and tables have it: a symbol, or a label plus 2^31. Numbers from 2^31 on have no word of their own; they
     /// become that of the last label, which no recording can know, so that the call is refused as it should be.
+    #[must_use]
     pub const fn to_word(self) -> u32 {
         match self {
             Self::Sym(Sym(id)) if id < LABEL_TARGET => id,
@@ -74,6 +81,7 @@ impl RelocTarget {
     }
 
     /// The target that a word names.
+    #[must_use]
     pub const fn from_word(word: u32) -> Self {
         match word.checked_sub(LABEL_TARGET) {
             Some(label) => Self::Label(Label(label)),
@@ -109,11 +117,13 @@ impl RelaxableJump {
     pub const SHORT_LEN: u32 = 2;
 
     /// Length of the long form: `E9 rel32` or `0F 8x rel32`.
+    #[must_use]
     pub const fn long_len(&self) -> u32 {
         if self.cc.is_some() { 6 } else { 5 }
     }
 
     /// The instruction's name: `jmp`, or `j` and the condition.
+    #[must_use]
     pub fn mnemonic(&self) -> String {
         match self.cc {
             Some(cc) => format!("j{cc}"),
@@ -124,6 +134,7 @@ impl RelaxableJump {
 
 /// What finish may resize.
 #[derive(Clone, Copy, Debug, PartialEq, Eq)]
+#[non_exhaustive]
 pub enum LayoutEvent {
     /// A jump.
     Jump(RelaxableJump),
@@ -140,6 +151,7 @@ pub enum LayoutEvent {
 
 impl LayoutEvent {
     /// Where the event was recorded.
+    #[must_use]
     pub const fn start(&self) -> CodeOffset {
         match self {
             Self::Jump(jump) => jump.start,
@@ -148,6 +160,7 @@ impl LayoutEvent {
     }
 
     /// The end of the event as recorded.
+    #[must_use]
     pub const fn end(&self) -> CodeOffset {
         match self {
             Self::Jump(jump) => jump.start + jump.len as u32,
@@ -204,13 +217,20 @@ pub struct AsmConstant {
 
 impl AsmConstant {
     /// The multiple that a constant stands on.
+    #[must_use]
     pub const fn alignment(&self) -> u32 {
-        if self.data.len() <= 8 { 8 } else { 16 }
+        constant_alignment(self.data.len())
     }
+}
+
+/// The multiple that a constant of a size stands on.
+pub(crate) const fn constant_alignment(size: usize) -> u32 {
+    if size <= 8 { 8 } else { 16 }
 }
 
 /// What a recording holds at some time, but for its bytes.
 #[derive(Clone, Debug, PartialEq, Eq)]
+#[non_exhaustive]
 pub struct Recording {
     /// The architecture.
     pub arch: Arch,
@@ -234,6 +254,7 @@ pub struct Recording {
 
 impl Recording {
     /// Whether finish has jumps to relax.
+    #[must_use]
     pub fn has_jump(&self) -> bool {
         self.jumps().next().is_some()
     }
@@ -270,6 +291,7 @@ impl Recording {
     }
 
     /// The recording as finish lays it out: constants pooled after the code, in the order of asking.
+    #[must_use]
     pub fn pooled(&self) -> Pooled {
         let mut pooled = Pooled {
             events: self.events.clone(),
@@ -294,6 +316,7 @@ fn alignment(start: CodeOffset, multiple: u32) -> LayoutEvent {
 
 /// A constant in its place behind the code.
 #[derive(Clone, Copy, Debug, PartialEq, Eq)]
+#[non_exhaustive]
 pub struct PooledConstant {
     /// Which constant.
     pub constant: Constant,
@@ -307,6 +330,7 @@ pub struct PooledConstant {
 
 /// A recording with its constants pooled, before jumps are relaxed.
 #[derive(Clone, Debug, PartialEq, Eq)]
+#[non_exhaustive]
 pub struct Pooled {
     /// The recording's events, then the alignment of each pooled constant.
     pub events: Vec<LayoutEvent>,

@@ -218,6 +218,13 @@ impl Tables {
         self.asked.entries(self.asked_count()).map(first_word)
     }
 
+    /// The sizes of the constants that were asked for, in order.
+    pub fn asked_sizes(&self) -> impl Iterator<Item = usize> {
+        let words = self.constants.entry_size / 4;
+        self.asked()
+            .map(move |number| word(&self.constants.bytes, number as usize * words) as usize)
+    }
+
     pub fn relocs(&self) -> impl Iterator<Item = AsmReloc> {
         self.relocs
             .entries(self.counts.count(11))

@@ -1,7 +1,7 @@
 //! The C functions on tables: the only unsafe code of the host.
 //!
 //! What they ask of a caller (include/wargnifla.h) holds of every call here for one reason. Each pointer and length come from a slice, so it is valid
-//! for its length and, even where that is 0, not null; and what is written is borrowed mutably, so nothing else that is lent overlaps it.
+//! for its length; and what is written is borrowed mutably, so nothing else that is lent overlaps it.
 
 #![allow(unsafe_code)]
 

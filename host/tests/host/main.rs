@@ -1,11 +1,14 @@
 //! The library against the verified archive.
 
+mod bound;
 mod cases;
+mod header;
 mod limits;
 mod listings;
 mod random;
 mod refusals;
 mod sheets;
+mod threads;
 mod wrapper;
 
 use wargnifla::{Arch, CodeBuffer, CodeBufferFinalized, Error, read_text, symbols_named};

@@ -1,0 +1,131 @@
+//! The refusals of document 01, named.
+
+use std::fmt;
+
+/// Why something is refused: document 01's numbers, each with a name. include/wargnifla.h has the same ones.
+///
+/// Of a recording call [`UnsupportedUse`](Self::UnsupportedUse), [`ForeignKind`](Self::ForeignKind), [`UnknownNumber`](Self::UnknownNumber) (but for a
+/// bind), [`BadEntry`](Self::BadEntry), [`TableFull`](Self::TableFull) and [`CodeFull`](Self::CodeFull) end the recording, which then answers every
+/// call with the first of them. All others leave it as it was.
+#[derive(Clone, Copy, Debug, PartialEq, Eq, PartialOrd, Ord, Hash)]
+#[non_exhaustive]
+pub enum Refusal {
+    /// A sheet, code or kind breaks its form, or finish meets a table entry that no recording writes.
+    Malformed = 1,
+    /// Start names an architecture other than 1, 2, 6.
+    UnknownArch,
+    /// A call is lent more than a limit.
+    PastLimit,
+    /// The recording has finished.
+    AlreadyFinished,
+    /// An alignment is no power of two, or exceeds 4,096.
+    BadAlignment,
+    /// A use has code 15.
+    UnsupportedUse,
+    /// A use, ref or relocation has a kind foreign to the architecture.
+    ForeignKind,
+    /// A label, constant or symbol number is unknown.
+    UnknownNumber,
+    /// The label is bound already.
+    AlreadyBound,
+    /// A jump doesn't end at the current offset, has a length outside 2 to 15 or a condition above 16, starts before the last event's end or holds a
+    /// label strictly inside; a relocation's offset exceeds 16,777,215; a constant exceeds 64 bytes.
+    BadEntry,
+    /// A table that the call must extend is full.
+    TableFull,
+    /// Bytes or padding pass the end of the room for code.
+    CodeFull,
+    /// Finish finds a pooled constant's label bound by the caller.
+    PoolLabelBound,
+    /// Code with pool exceeds 16,777,216 bytes.
+    PoolTooLarge,
+    /// A use, ref, jump or a relocation against a label names an unbound one.
+    UnboundLabel,
+    /// With a jump, the table of segments is short.
+    TooFewSegments,
+    /// With a jump, a ref's field passes the end of the code, or starts before an event's end and ends after that event's start.
+    RefOverlaps,
+    /// With a jump, a ref can't reach its label plus addend.
+    RefOutOfReach,
+    /// Without a jump, a use's field passes the end of the code.
+    UsePastEnd,
+    /// Without a jump, a use of a branch (code 9, 10 or 11) can't reach its label.
+    BranchOutOfReach,
+    /// Without a jump, another use can't reach a label at or after it.
+    LabelTooFarAhead,
+    /// Without a jump, another use can't reach a label before it.
+    LabelTooFarBack,
+    /// The finished code exceeds the output.
+    OutputTooSmall,
+}
+
+impl Refusal {
+    /// Every refusal, by rising number.
+    pub const ALL: [Self; 23] = [
+        Self::Malformed,
+        Self::UnknownArch,
+        Self::PastLimit,
+        Self::AlreadyFinished,
+        Self::BadAlignment,
+        Self::UnsupportedUse,
+        Self::ForeignKind,
+        Self::UnknownNumber,
+        Self::AlreadyBound,
+        Self::BadEntry,
+        Self::TableFull,
+        Self::CodeFull,
+        Self::PoolLabelBound,
+        Self::PoolTooLarge,
+        Self::UnboundLabel,
+        Self::TooFewSegments,
+        Self::RefOverlaps,
+        Self::RefOutOfReach,
+        Self::UsePastEnd,
+        Self::BranchOutOfReach,
+        Self::LabelTooFarAhead,
+        Self::LabelTooFarBack,
+        Self::OutputTooSmall,
+    ];
+
+    /// The refusal's number, 1 to 23.
+    #[must_use]
+    pub const fn number(self) -> u32 {
+        self as u32
+    }
+
+    /// The refusal of a number, if there is one.
+    ///
+    /// ```
+    /// use wargnifla::Refusal;
+    ///
+    /// assert_eq!(Refusal::from_number(9), Some(Refusal::AlreadyBound));
+    /// assert_eq!(Refusal::from_number(24), None);
+    /// ```
+    #[must_use]
+    pub fn from_number(number: u32) -> Option<Self> {
+        Self::ALL
+            .into_iter()
+            .find(|refusal| refusal.number() == number)
+    }
+}
+
+impl fmt::Display for Refusal {
+    fn fmt(&self, f: &mut fmt::Formatter<'_>) -> fmt::Result {
+        fmt::Debug::fmt(self, f)
+    }
+}
+
+#[cfg(test)]
+mod tests {
+    use super::*;
+
+    #[test]
+    fn numbers_run_from_1_to_23() {
+        let numbers = Refusal::ALL.map(Refusal::number);
+        assert!(numbers.into_iter().eq(1..=23));
+        for refusal in Refusal::ALL {
+            assert_eq!(Refusal::from_number(refusal.number()), Some(refusal));
+        }
+        assert_eq!(Refusal::from_number(0), None);
+    }
+}

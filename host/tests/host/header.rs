@@ -1,0 +1,163 @@
+//! include/wargnifla.h has the names and numbers that this package has.
+
+use std::fmt::Debug;
+
+use wargnifla::{Arch, Call, LabelUse, Refusal, Reloc};
+
+const HEADER: &str = include_str!("../../../include/wargnifla.h");
+
+/// The enumerators of an enum, without their prefix, and their numbers.
+fn enumerators(name: &str, prefix: &str) -> Vec<(String, u32)> {
+    let (_, after) = HEADER
+        .split_once(&format!("enum {name} {{"))
+        .expect("the enum stands in the header");
+    let (body, _) = after.split_once("};").expect("the enum ends");
+    body.lines()
+        .filter_map(|line| line.trim().strip_prefix(prefix))
+        .map(|line| {
+            let (name, number) = line.split_once(" = ").expect("each has a number");
+            let digits = number.split([',', ' ']).next().expect("a word");
+            (name.to_owned(), digits.parse().expect("a number"))
+        })
+        .collect()
+}
+
+/// What a macro stands for.
+fn defined(name: &str) -> &'static str {
+    let (_, after) = HEADER
+        .split_once(&format!("#define {name} "))
+        .expect("the macro stands in the header");
+    let line = after.lines().next().expect("a line");
+    line.split("/*").next().expect("what it stands for").trim()
+}
+
+fn named<T: Copy + Debug>(all: &[T], number: impl Fn(T) -> u32) -> Vec<(String, u32)> {
+    all.iter()
+        .map(|&value| (format!("{value:?}"), number(value)))
+        .collect()
+}
+
+/// `UnknownArch` as `UNKNOWN_ARCH`.
+fn in_capitals(name: &str) -> String {
+    let mut capitals = String::new();
+    for (index, letter) in name.char_indices() {
+        if index > 0 && letter.is_uppercase() {
+            capitals.push('_');
+        }
+        capitals.push(letter.to_ascii_uppercase());
+    }
+    capitals
+}
+
+fn in_capitals_all(names: Vec<(String, u32)>) -> Vec<(String, u32)> {
+    names
+        .into_iter()
+        .map(|(name, number)| (in_capitals(&name), number))
+        .collect()
+}
+
+#[test]
+fn refusals() {
+    let mut expected = vec![("ACCEPTED".to_owned(), 0)];
+    expected.extend(in_capitals_all(named(&Refusal::ALL, Refusal::number)));
+    assert_eq!(enumerators("wargnifla_refusal", "WARGNIFLA_"), expected);
+    for (name, number) in expected {
+        assert_eq!(
+            HEADER.matches(&format!("\"{name}\"")).count(),
+            1,
+            "{number}"
+        );
+    }
+}
+
+#[test]
+fn kinds_of_field_and_relocation() {
+    assert_eq!(
+        enumerators("wargnifla_field", "WARGNIFLA_FIELD_"),
+        named(&LabelUse::ALL, LabelUse::code)
+    );
+    assert_eq!(
+        enumerators("wargnifla_reloc", "WARGNIFLA_RELOC_"),
+        named(&Reloc::ALL, Reloc::number)
+    );
+}
+
+#[test]
+fn architectures() {
+    let names = named(&Arch::ALL, Arch::number);
+    let expected: Vec<_> = names
+        .into_iter()
+        .map(|(name, number)| (name.to_uppercase(), number))
+        .collect();
+    assert_eq!(enumerators("wargnifla_arch", "WARGNIFLA_"), expected);
+}
+
+#[test]
+fn calls() {
+    let calls = [
+        ("BYTES", Call::Bytes([].into())),
+        ("NEW_LABEL", Call::NewLabel),
+        ("BIND", Call::Bind(0)),
+        ("ALIGN", Call::Align(1)),
+        (
+            "USE",
+            Call::Use {
+                offset: 0,
+                label: 0,
+                code: 0,
+            },
+        ),
+        (
+            "REF",
+            Call::Ref {
+                offset: 0,
+                label: 0,
+                code: 0,
+                addend: 0,
+            },
+        ),
+        (
+            "JUMP",
+            Call::Jump {
+                start: 0,
+                length: 2,
+                label: 0,
+                condition: 16,
+            },
+        ),
+        ("CONSTANT", Call::Constant([].into())),
+        ("CONSTANT_LABEL", Call::ConstantLabel(0)),
+        (
+            "RELOCATION",
+            Call::Relocation {
+                offset: 0,
+                kind: 0,
+                target: 0,
+                addend: 0,
+            },
+        ),
+    ];
+    let expected: Vec<_> = calls
+        .iter()
+        .map(|(name, call)| ((*name).to_owned(), u32::from(call.kind())))
+        .collect();
+    assert_eq!(enumerators("wargnifla_call", "WARGNIFLA_CALL_"), expected);
+}
+
+#[test]
+fn limits_and_the_stack_of_finish() {
+    let number = |name: &str| defined(name).parse::<usize>().expect("a number");
+    assert_eq!(number("WARGNIFLA_MOST_CODE"), wargnifla::MOST_CODE);
+    assert_eq!(number("WARGNIFLA_MOST_ENTRIES"), wargnifla::MOST_ENTRIES);
+    assert_eq!(number("WARGNIFLA_MOST_CONSTANT"), wargnifla::MOST_CONSTANT);
+    assert_eq!(number("WARGNIFLA_FINISH_STACK"), wargnifla::FINISH_STACK);
+}
+
+#[test]
+fn version() {
+    let version = env!("CARGO_PKG_VERSION");
+    assert_eq!(defined("WARGNIFLA_VERSION"), format!("\"{version}\""));
+    let parts =
+        ["MAJOR", "MINOR", "PATCH"].map(|part| defined(&format!("WARGNIFLA_VERSION_{part}")));
+    assert_eq!(parts.join("."), version);
+}

@@ -1,0 +1,39 @@
+//! The functions hold no state, and a thread with the stack that is said to be enough can finish.
+
+use std::thread;
+
+use wargnifla::{CodeBuffer, FINISH_STACK};
+
+use crate::finished;
+
+/// Jumps of both lengths, alignments and a pooled constant.
+const TEXT: &str = "n; n; c 0102030405060708; k 0; 40 ( z 5; a 8 ); z 5; j 320 5 0; z 6; j 325 6 1 ne; z 100; l 0; \
+                    a 64; z 40; l 1; u 0 2 0; r 0 2 0 0; b C3";
+
+#[test]
+fn threads_finish_at_the_same_time() {
+    let expected = finished(TEXT);
+    thread::scope(|scope| {
+        for _ in 0..8 {
+            scope.spawn(|| {
+                for _ in 0..50 {
+                    assert_eq!(finished(TEXT), expected);
+                }
+            });
+        }
+    });
+}
+
+#[test]
+fn a_small_stack_is_enough() {
+    const OWN: usize = 96 * 1024;
+    let small = thread::Builder::new().stack_size(FINISH_STACK + OWN);
+    let finishing = small.spawn(|| finished(TEXT)).unwrap();
+    assert_eq!(finishing.join().unwrap(), finished(TEXT));
+}
+
+#[test]
+fn buffers_may_go_from_thread_to_thread() {
+    fn is_free<T: Send + Sync>() {}
+    is_free::<CodeBuffer>();
+}
