@@ -16,3 +16,4 @@ pub mod Example
 pub mod Demand1
 pub mod Boundary
 pub mod Claims
+pub mod Worked

@@ -1,0 +1,220 @@
+-- The demands applied to two recordings as a C program lends them, with the numbers written out: a claim that says less than it should is refused here.
+use mathlib.Core.Path.{_≡_, refl}
+use mathlib.Core.Bool.{Bool, true, false}
+use mathlib.Core.List.{List, [], _∷_, _++_, map}
+use Prim.Native.Nat.{ℕ, zero, suc, _+_, _*_, _/_, _%_, _≤_, _<_}
+use native.Mathlib.Omega.{arith}
+use lib.Dec.{ltb}
+use lib.ListN.{length, getD, replicate}
+use borrow.Author.Tests.{ltb-true}
+use Rattle.seqs.specs.Every.{every, all}
+use Rattle.seqs.specs.Over.{over}
+use Rattle.seqs.specs.Pick.{pick}
+use Rattle.seqs.proofs.Booleans.{both-true}
+use Rattle.words.specs.Words.{wordAt}
+use Rattle.encoder.specs.Intel.{AreNops, nopLength}
+use Rattle.encoder.specs.Nops as nop
+use Rattle.encoder.specs.Padding.{paddingLength}
+use Rattle.fields.specs.Words64.{plus, signExtend, range}
+use Rattle.fields.specs.Bits.{insertBits}
+use Rattle.fields.specs.Kinds.{archX64, archA64, decoded}
+use Rattle.fields.specs.Intel.{rel32}
+use Rattle.fields.specs.Arm.{b, adrp, addImmediate}
+use Rattle.fields.specs.Reach.{reachRefusal, canReach, canReachDelta, pagesReach}
+use Rattle.fields.specs.Patch.{patched, heldAddend}
+use Rattle.fields.specs.declared.LabelUse.the-variants.{X86JmpRel32, A64Branch26, A64Adrp21, A64AddAbsLo12}
+use Rattle.relax.specs.declared.Condition.the-variants.{On}
+use Rattle.relax.specs.declared.Segment.{Segment}
+use Rattle.relax.specs.Events.{conditionOf, eventOf, eventAt}
+use Rattle.buffer.specs.State.{none}
+use Rattle.buffer.specs.Refusals.{standing, isAlignment, lastEnd}
+use Rattle.checks.specs.Entries.{formFits, eventFits, keptOnly, eventsFit, outside, labelFits, labelsFit, useFits, usesFit, refFits, refsFit, relocFits, relocsFit, constantFits, constantsFit, askedFits, askedOnce, isAsked, orderFits, entriesFit}
+use Rattle.checks.specs.Lent.{countsFit, withinLimits}
+use Rattle.fresh.specs.Pooled.{pooledOne}
+use Rattle.fresh.specs.Forms.{form, width, roleOf, moves}
+use Rattle.fresh.specs.Fresh.{Choice, items, writes, starts, stands, moved}
+use Rattle.fresh.specs.Rounds.{allShort, jumps, Rounds, reaches, isFar, farOf, any, join, settle}
+use Rattle.fresh.specs.Fill.{fillUse, fillUses, inPlace, fillField, fillRefs, fillJump, fillJumps, fillPool, fill, assembled}
+use Rattle.fresh.specs.Segments.{segments}
+use Rattle.finish.specs.Refusals.{poolBoundBefore, relocBound, allBound, refClear, refReaches, whyNotLaid, whyNotWritten, useRefusal, usesRefusal, whyNotInPlace, whyUnfit}
+use Rattle.finish.specs.Finish.{bytesOfAll, relocated, relaxed, unrelaxed, placedBy}
+use Rattle.finish.specs.Finish as finishing
+use Rattle.wargnifla.specs.Boundary.{Lent, finish}
+use Rattle.demands.specs.Reading.{Reads}
+use Rattle.demands.specs.Demand2.{Bytes, UseMisses, ConstantMisses, IsPadding}
+use Rattle.demands.specs.Boundary.{Answer, finishedCode, pooledIn}
+use Rattle.demands.proofs.Boundary.{c-finish-meets-the-demands}
+
+-- numbers below 256 are bytes
+bytes-of : (l : List ℕ) → every (λ (b : ℕ). ltb b 256) l ≡ true → Bytes l
+unfolding every
+bytes-of [] e i = omega arith
+bytes-of (b ∷ l) e zero = ltb-true b 256 (both-true (ltb b 256) (every (λ (x : ℕ). ltb x 256) l) e .0)
+bytes-of (b ∷ l) e (suc i) = bytes-of l (both-true (ltb b 256) (every (λ (x : ℕ). ltb x 256) l) e .1) i
+
+-- On X64: a ref, a conditional jump, an alignment, and constants of 8 and 9 bytes that are asked for in reverse order. Label 0 is bound at 16.
+abbrev x64 : Lent
+x64 =
+    record {
+      counts = bytesOfAll (archX64 ∷ 0 ∷ 0 ∷ 0 ∷ 16 ∷ 3 ∷ 2 ∷ 0 ∷ 1 ∷ 2 ∷ 2 ∷ 0 ∷ []);
+      code = replicate 16 0;
+      labels = bytesOfAll (16 ∷ none ∷ none ∷ []);
+      events = bytesOfAll (1 ∷ 4 ∷ 6 ∷ 0 ∷ 4 ∷ 2 ∷ 10 ∷ 6 ∷ 16 ∷ 0 ∷ []);
+      uses = [];
+      refs = bytesOfAll (0 ∷ 0 ∷ 0 ∷ 4 ∷ []);
+      constants =
+          bytesOfAll (8 ∷ 2 ∷ []) ++ ((1 ∷ 2 ∷ 3 ∷ 4 ∷ 5 ∷ 6 ∷ 7 ∷ 8 ∷ []) ++ (replicate 56 0
+          ++ (bytesOfAll (9 ∷ 1 ∷ []) ++ ((11 ∷ 12 ∷ 13 ∷ 14 ∷ 15 ∷ 16 ∷ 17 ∷ 18 ∷ 19 ∷ []) ++ replicate 55 0))));
+      asked = bytesOfAll (1 ∷ 0 ∷ []);
+      relocs = [];
+    }
+
+abbrev table : List Segment
+table = replicate 4 (record { «old_start» = 0; «old_end» = 0; «new_start» = 0; «new_end» = 0 })
+
+abbrev x64-answer : Answer
+x64-answer = finish x64 table (replicate 40 0) (replicate 24 0)
+
+abbrev x64-code : List ℕ
+x64-code =
+    0x10 ∷ 0 ∷ 0 ∷ 0 ∷ 0x74 ∷ 0x0A ∷ 0x66 ∷ 0x0F ∷ 0x1F ∷ 0x84 ∷ 0 ∷ 0 ∷ 0 ∷ 0 ∷ 0 ∷ 0x90 ∷ 11 ∷ 12 ∷ 13 ∷ 14 ∷ 15 ∷ 16 ∷ 17 ∷ 18 ∷ 19 ∷ 0x0F ∷ 0x1F ∷ 0x80 ∷ 0
+    ∷ 0 ∷ 0 ∷ 0 ∷ 1 ∷ 2 ∷ 3 ∷ 4 ∷ 5 ∷ 6 ∷ 7 ∷ 8 ∷ []
+
+-- what the demands say of it
+record X64Meets : Type 0 where
+  taken : x64-answer .0 ≡ 0
+  -- the ref, of which 16 stands in the field, means label 0, at 16, plus 4
+  ref : (base : ℕ) → rel32 (plus base 0) 16 ≡ plus base 20
+  -- the jump at 4 is JE to label 0
+  jump : (base : ℕ) → Reads (plus base 4) (0x74 ∷ 0x0A ∷ []) (On 4) (plus base 16)
+  -- the alignment from 6 to 16, where 6 bytes were recorded, and the padding of the second constant of the pool, from 25 to 32
+  align : AreNops (0x66 ∷ 0x0F ∷ 0x1F ∷ 0x84 ∷ 0 ∷ 0 ∷ 0 ∷ 0 ∷ 0 ∷ 0x90 ∷ [])
+  pool : AreNops (0x0F ∷ 0x1F ∷ 0x80 ∷ 0 ∷ 0 ∷ 0 ∷ 0 ∷ [])
+  -- a fresh assembly that is told the long jumps has these 40 bytes and labels; one round was made
+  long : Choice
+  rounds : Rounds (pooledIn x64) (allShort (pooledIn x64 .events)) long 1
+  size : 40 ≡ length (assembled (pooledIn x64) long)
+  fresh : x64-code ≡ assembled (pooledIn x64) long
+  offsets : (16 ∷ 16 ∷ 32 ∷ []) ≡ map (moved (pooledIn x64) long) (pooledIn x64 .labels)
+  few : 1 ≤ 2
+
+-- no second ref, and no constant before 16
+abbrev x64-choice : Choice
+x64-choice = false ∷ false ∷ false ∷ false ∷ []
+
+x64-clear : (j : ℕ) → ConstantMisses (moved (pooledIn x64) x64-choice) (pooledIn x64) 0 4 j
+unfolding every all over pick wordAt nop.form nop.nopsBy nop.nops paddingLength decoded signExtend range canReachDelta patched conditionOf eventOf eventAt standing isAlignment
+    lastEnd formFits eventFits keptOnly eventsFit outside labelFits labelsFit usesFit refFits refsFit relocsFit constantFits constantsFit askedFits askedOnce
+    isAsked orderFits entriesFit countsFit withinLimits pooledOne form width roleOf moves items writes starts stands moved jumps reaches isFar farOf any join settle fillField
+    fillRefs fillJump fillJumps fillPool fill assembled segments poolBoundBefore relocBound allBound refClear refReaches whyNotLaid whyNotWritten whyUnfit relocated relaxed
+    placedBy finishing.finish finish
+x64-clear zero known x from to low high = omega arith
+x64-clear (suc zero) known x from to low high = omega arith
+x64-clear (suc (suc j)) known x from to low high = let few : suc (suc j) < 2 = known in omega arith
+
+x64-meets : X64Meets
+unfolding every all over pick wordAt nop.form nop.nopsBy nop.nops paddingLength decoded signExtend range canReachDelta patched conditionOf eventOf eventAt standing isAlignment
+    lastEnd formFits eventFits keptOnly eventsFit outside labelFits labelsFit usesFit refFits refsFit relocsFit constantFits constantsFit askedFits askedOnce
+    isAsked orderFits entriesFit countsFit withinLimits pooledOne form width roleOf moves items writes starts stands moved jumps reaches isFar farOf any join settle fillField
+    fillRefs fillJump fillJumps fillPool fill assembled segments poolBoundBefore relocBound allBound refClear refReaches whyNotLaid whyNotWritten whyUnfit relocated relaxed
+    placedBy finishing.finish finish
+x64-meets =
+    let demands = c-finish-meets-the-demands x64 table (replicate 40 0) (replicate 24 0) (bytes-of (x64 .counts) refl) (bytes-of (x64 .code) refl) in
+    let two = demands .two refl .jumped refl in
+    let three = demands .three refl refl in
+    record {
+      taken = refl;
+      ref = λ base. two .refs 0 X86JmpRel32 (omega arith) refl (λ j later known. absurd (omega arith)) x64-clear base (omega arith);
+      jump = λ base. two .jumps 0 (record { start = 4; len = 6; label = 0; cc = On 4 }) (omega arith) refl base;
+      align = two .padding 1 (record { start = 10; len = 6; align = 16 }) (omega arith) refl;
+      pool = two .padding 3 (record { start = 25; len = 7; align = 8 }) (omega arith) refl;
+      long = three .choice;
+      rounds = three .rounds;
+      size = three .finished;
+      fresh = three .bytes;
+      offsets = three .offsets;
+      few = three .few;
+    }
+
+-- On AArch64: B to label 0, at 12, and ADRP and ADD of a constant's label; 4 bytes of padding stand before the constant, at 16.
+abbrev a64 : Lent
+a64 =
+    record {
+      counts = bytesOfAll (archA64 ∷ 0 ∷ 0 ∷ 0 ∷ 12 ∷ 2 ∷ 0 ∷ 3 ∷ 0 ∷ 1 ∷ 1 ∷ 0 ∷ []);
+      code = bytesOfAll (0x14000000 ∷ 0x90000000 ∷ 0x91000000 ∷ []);
+      labels = bytesOfAll (12 ∷ none ∷ []);
+      events = [];
+      uses = bytesOfAll (0 ∷ 0 ∷ 11 ∷ 4 ∷ 1 ∷ 14 ∷ 8 ∷ 1 ∷ 16 ∷ []);
+      refs = [];
+      constants = bytesOfAll (8 ∷ 1 ∷ []) ++ ((1 ∷ 2 ∷ 3 ∷ 4 ∷ 5 ∷ 6 ∷ 7 ∷ 8 ∷ []) ++ replicate 56 0);
+      asked = bytesOfAll (0 ∷ []);
+      relocs = [];
+    }
+
+abbrev a64-answer : Answer
+a64-answer = finish a64 [] (replicate 24 0) (replicate 24 0)
+
+-- what the demands say of it
+record A64Meets : Type 0 where
+  taken : a64-answer .0 ≡ 0
+  code : finishedCode a64-answer ≡ bytesOfAll (0x14000003 ∷ 0x90000000 ∷ 0x91004000 ∷ 0 ∷ []) ++ (1 ∷ 2 ∷ 3 ∷ 4 ∷ 5 ∷ 6 ∷ 7 ∷ 8 ∷ [])
+  branch : (base : ℕ) → b (plus base 0) 0x14000003 ≡ plus base 12
+  page : (base : ℕ) → base % 4096 ≡ 0 → adrp (plus base 4) 0x90000000 ≡ plus base 16 / 4096 * 4096
+  place : (base : ℕ) → base % 4096 ≡ 0 → addImmediate 0x91004000 ≡ plus base 16 % 4096
+  -- the padding from 12 to 16, and its third byte
+  pads : IsPadding archA64 4 (0 ∷ 0 ∷ 0 ∷ 0 ∷ [])
+  third : getD (finishedCode a64-answer) 14 0 ≡ 0
+
+-- no later use covers a use, none covers the padding, and the constant stands behind both
+abbrev here : ℕ → ℕ
+here offset = offset
+
+after-first : (j : ℕ) → 0 < j → UseMisses (pooledIn a64) 0 4 j
+unfolding wordAt decoded pooledOne nop.form nop.nopsBy nop.nops paddingLength
+after-first zero later known x from to low high = omega arith
+after-first (suc zero) later known x from to low high = omega arith
+after-first (suc (suc zero)) later known x from to low high = omega arith
+after-first (suc (suc (suc j))) later known x from to low high = let few : suc (suc (suc j)) < 3 = known in omega arith
+
+after-second : (j : ℕ) → 1 < j → UseMisses (pooledIn a64) 4 4 j
+unfolding wordAt decoded pooledOne nop.form nop.nopsBy nop.nops paddingLength
+after-second zero later known x from to low high = omega arith
+after-second (suc zero) later known x from to low high = omega arith
+after-second (suc (suc zero)) later known x from to low high = omega arith
+after-second (suc (suc (suc j))) later known x from to low high = let few : suc (suc (suc j)) < 3 = known in omega arith
+
+after-third : (j : ℕ) → 2 < j → UseMisses (pooledIn a64) 8 4 j
+unfolding wordAt decoded pooledOne nop.form nop.nopsBy nop.nops paddingLength
+after-third j later known x from to low high = let few : j < 3 = known in omega arith
+
+before-padding : (a n : ℕ) → 12 ≤ a → (i : ℕ) → UseMisses (pooledIn a64) a n i
+unfolding wordAt decoded pooledOne nop.form nop.nopsBy nop.nops paddingLength
+before-padding a n behind zero known x from to low high = omega arith
+before-padding a n behind (suc zero) known x from to low high = omega arith
+before-padding a n behind (suc (suc zero)) known x from to low high = omega arith
+before-padding a n behind (suc (suc (suc j))) known x from to low high = let few : suc (suc (suc j)) < 3 = known in omega arith
+
+behind-all : (a n : ℕ) → a + n ≤ 16 → (j : ℕ) → ConstantMisses here (pooledIn a64) a n j
+unfolding wordAt decoded pooledOne nop.form nop.nopsBy nop.nops paddingLength
+behind-all a n before zero known x from to low high = omega arith
+behind-all a n before (suc j) known x from to low high = let few : suc j < 1 = known in omega arith
+
+a64-meets : A64Meets
+unfolding every all over pick wordAt paddingLength decoded signExtend range insertBits canReach canReachDelta pagesReach reachRefusal patched heldAddend conditionOf eventOf
+    eventAt standing lastEnd keptOnly eventsFit outside labelFits labelsFit useFits usesFit refsFit relocsFit constantFits constantsFit askedFits askedOnce isAsked orderFits
+    entriesFit countsFit withinLimits pooledOne roleOf moves fillUse fillUses fillPool inPlace poolBoundBefore relocBound allBound useRefusal usesRefusal whyNotInPlace whyUnfit
+    unrelaxed placedBy finishing.finish finish
+a64-meets =
+    let demands = c-finish-meets-the-demands a64 [] (replicate 24 0) (replicate 24 0) (bytes-of (a64 .counts) refl) (bytes-of (a64 .code) refl) in
+    let two = demands .two refl .straight refl in
+    let uses = two .0 .uses in
+    let padded = two .1 0 (omega arith) in
+    record {
+      taken = refl;
+      code = refl;
+      branch = λ base. uses 0 A64Branch26 (omega arith) refl after-first (behind-all 0 4 (omega arith)) tt (λ e. absurd (omega arith)) base (omega arith);
+      page = λ base loaded. uses 1 A64Adrp21 (omega arith) refl after-second (behind-all 4 4 (omega arith)) tt (λ e. absurd (omega arith)) base loaded;
+      place = λ base loaded. uses 2 A64AddAbsLo12 (omega arith) refl after-third (behind-all 8 4 (omega arith)) refl (λ e. absurd (omega arith)) base loaded;
+      pads = padded .whole (before-padding 12 4 (omega arith)) (behind-all 12 4 (omega arith));
+      third = padded .each 14 (omega arith) (omega arith) (before-padding 14 1 (omega arith)) (behind-all 14 1 (omega arith));
+    }
