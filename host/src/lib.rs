@@ -51,7 +51,7 @@ pub use recording::{
 pub use rounds::{Lengthened, Mismatch, Round, Rounds};
 pub use sheet::{Sheet, Unwritable, symbols_named, write_sheet};
 pub use sheet_text::{Arch, Call, Condition, LabelUse, Reach, Reloc};
-pub use text::{Script, TextError, read_text};
+pub use text::{Note, Script, Span, TextError, read_text, read_text_for};
 
 /// Offset in bytes from the beginning of the code.
 pub type CodeOffset = u32;

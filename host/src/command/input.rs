@@ -5,7 +5,7 @@ use std::fs;
 use std::io::{self, Read};
 
 use wargnifla::{
-    Arch, Call, CodeBuffer, Entry, Error, Sheet, Unwritable, read_text, symbols_named,
+    Arch, Call, CodeBuffer, Entry, Error, Sheet, Unwritable, read_text_for, symbols_named,
 };
 
 use super::Failure;
@@ -42,9 +42,12 @@ impl Input {
     fn from_text(file: String, options: &Options, bytes: &[u8]) -> Result<Self, Failure> {
         let text = str::from_utf8(bytes)
             .map_err(|error| Failure::unusable(format!("{file}: no UTF-8 text: {error}")))?;
-        let script = read_text(text).map_err(|error| {
-            Failure::unusable(format!("{file}:{}: {}", error.line, error.sentence))
+        let script = read_text_for(options.arch, text).map_err(|error| {
+            Failure::unusable(format!("{file}:{}: {}", error.place.line, error.sentence))
         })?;
+        let lines = (0..script.calls.len())
+            .map(|call| script.place(call).line)
+            .collect();
         Ok(Self {
             file,
             arch: options.arch.or(script.arch).unwrap_or(Arch::X64),
@@ -53,7 +56,7 @@ impl Input {
                 .or(script.symbols)
                 .unwrap_or_else(|| symbols_named(&script.calls)),
             calls: script.calls,
-            source: Source::Text(script.lines),
+            source: Source::Text(lines),
         })
     }
 
@@ -151,6 +154,7 @@ fn call_of_entry(calls: &[Call], arch: Arch, entry: Entry) -> Option<usize> {
 #[cfg(test)]
 mod tests {
     use super::*;
+    use wargnifla::read_text;
 
     #[test]
     fn forms_are_told_apart() {
