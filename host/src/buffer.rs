@@ -11,6 +11,7 @@ use crate::recording::{
 };
 use crate::sheet::Sheet;
 use crate::tables::{Room, Tables};
+use crate::unpatched::unpatched;
 use crate::verified::{self, Record};
 use crate::{
     Arch, Call, CodeOffset, Condition, Error, LabelUse, MOST_CODE, MOST_CONSTANT, MOST_ENTRIES,
@@ -25,6 +26,8 @@ pub struct CodeBuffer {
     tables: Tables,
     /// What the recorded refusal said, if there is one.
     first_refusal: Option<Error>,
+    /// The jumps and refs that were accepted unread, which no table keeps.
+    unread: Vec<Call>,
 }
 
 impl CodeBuffer {
@@ -52,6 +55,7 @@ impl CodeBuffer {
         Ok(Self {
             tables: Tables::new(counts),
             first_refusal: None,
+            unread: Vec::new(),
         })
     }
 
@@ -162,6 +166,11 @@ impl CodeBuffer {
         self.tables.label_offset(label).unwrap_or(UNBOUND)
     }
 
+    /// Gives a label a name, for refusals and listings; nothing else depends on it.
+    pub fn name_label(&mut self, label: Label, name: &str) {
+        self.tables.names.insert(label, name);
+    }
+
     /// Binds a label to the current offset.
     ///
     /// # Errors
@@ -198,7 +207,8 @@ impl CodeBuffer {
         })
     }
 
-    /// Records a field that a finish with a jump encodes. Accepted unread unless the architecture is X64.
+    /// Records a field that a finish with a jump encodes. Accepted unread unless the architecture is X64; what finish did not write can be asked of
+    /// its record, [`CodeBufferFinalized::unpatched`].
     ///
     /// # Errors
     ///
@@ -218,7 +228,8 @@ impl CodeBuffer {
         })
     }
 
-    /// Records the bytes just appended as a jump that finish may resize. Accepted unread unless the architecture is X64.
+    /// Records the bytes just appended as a jump that finish may resize. Accepted unread unless the architecture is X64; what finish did not write can
+    /// be asked of its record, [`CodeBufferFinalized::unpatched`].
     ///
     /// # Errors
     ///
@@ -316,7 +327,17 @@ impl CodeBuffer {
                 verified::run_sheet(&mut self.tables, &sheet).0
             }
         };
+        if number == 0 {
+            self.note_unread(call);
+        }
         self.answer(number, || call.clone())
+    }
+
+    /// Keeps an accepted call that the tables don't.
+    fn note_unread(&mut self, call: &Call) {
+        if !self.arch().tracks_layout() && matches!(call, Call::Jump { .. } | Call::Ref { .. }) {
+            self.unread.push(call.clone());
+        }
     }
 
     fn append(&mut self, bytes: &[u8]) -> u32 {
@@ -373,6 +394,13 @@ impl CodeBuffer {
             self.tables.make_room(&room);
         }
         let (number, index) = verified::run_sheet(&mut self.tables, sheet);
+        if let Ok(sheet) = &read {
+            // A broken form, number 1, is found before any call is made.
+            let made = if number == 1 { 0 } else { index as usize };
+            for call in sheet.calls().take(made) {
+                self.note_unread(&call);
+            }
+        }
         match (number, read) {
             (0, _) => Ok(()),
             (_, Ok(sheet)) => Err(self.refused_sheet(number, &sheet, index as usize)),
@@ -451,6 +479,7 @@ impl CodeBuffer {
             alignment: record.alignment(),
             layouts: record.layouts(),
             segments,
+            unpatched: unpatched(&self.tables, &self.unread),
         }
     }
 

@@ -6,6 +6,7 @@ mod listings;
 mod random;
 mod refusals;
 mod sheets;
+mod unpatched;
 mod wrapper;
 
 use wargnifla::{Arch, CodeBuffer, CodeBufferFinalized, Error, read_text, symbols_named};
