@@ -49,7 +49,7 @@ pub use recording::{
     AsmConstant, AsmFixup, AsmReloc, Constant, Label, LabelNames, LabelRef, LayoutEvent, Pooled,
     PooledConstant, Recording, RelaxableJump, RelocTarget, Sym,
 };
-pub use rounds::{Lengthened, Mismatch, Round, Rounds};
+pub use rounds::{Change, Lengthened, Mismatch, Round, Rounds};
 pub use sheet::{Sheet, Unwritable, symbols_named, write_sheet};
 pub use sheet_text::{Arch, Call, Condition, LabelUse, Reach, Reloc};
 pub use text::{Note, Script, Span, TextError, read_text, read_text_for};
