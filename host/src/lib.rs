@@ -44,7 +44,7 @@ pub use buffer::CodeBuffer;
 pub use error::{Entry, Error, Place};
 pub use ffi::Segment;
 pub use finalized::CodeBufferFinalized;
-pub use listing::{Extent, listing};
+pub use listing::{Extent, Radix, Style, listing};
 pub use recording::{
     AsmConstant, AsmFixup, AsmReloc, Constant, Label, LabelNames, LabelRef, LayoutEvent, Pooled,
     PooledConstant, Recording, RelaxableJump, RelocTarget, Sym,

@@ -373,6 +373,14 @@ impl Reloc {
     pub fn from_name(name: &str) -> Option<Self> {
         find_by_name(&Self::ALL, name)
     }
+
+    /// The bytes that it applies to.
+    pub const fn field_size(self) -> u32 {
+        match self {
+            Self::Abs8 | Self::RiscvAbs8 => 8,
+            _ => 4,
+        }
+    }
 }
 
 impl fmt::Display for Reloc {
