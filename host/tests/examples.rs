@@ -90,14 +90,14 @@ fn sheets_of_fields_and_constants() {
 fn the_readme_shows_what_the_command_prints() {
     let readme = include_str!("../README.md");
     let (_, after) = readme
-        .split_once("    $ wargnifla --rounds sheets/case-b.txt\n")
+        .split_once("    $ wargnifla --rounds sheets/case-c.txt\n")
         .unwrap();
     let (block, _) = after.split_once("\n## ").unwrap();
     let lines = block
         .lines()
         .map(|line| line.strip_prefix("    ").unwrap_or(line));
     let expected: Vec<&str> = lines.collect();
-    assert_eq!(shown("case-b.txt").lines().collect::<Vec<_>>(), expected);
+    assert_eq!(shown("case-c.txt").lines().collect::<Vec<_>>(), expected);
 }
 
 /// What an example program prints. Cargo builds the examples with the tests, into a folder beside the command.
@@ -113,8 +113,8 @@ fn printed(example: &str) -> String {
 fn forward_jump() {
     assert_eq!(
         printed("forward_jump"),
-        "a run of 127: 129 bytes, 1 layouts, first byte EB\n\
-         a run of 128: 133 bytes, 2 layouts, first byte E9\n"
+        "a run of 127: 129 bytes, layouts 1, first byte EB\n\
+         a run of 128: 133 bytes, layouts 2, first byte E9\n"
     );
 }
 
