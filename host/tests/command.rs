@@ -533,7 +533,7 @@ fn refusals_show_the_second_place_that_they_speak_of() {
     );
     note(
         "jmp ende\nend:",
-        "    jmp ende\n        ^^^^\nnote: did you mean 'end'?",
+        "names it\n    jmp ende\n        ^^^^\nnote: did you mean 'end'?",
     );
 }
 

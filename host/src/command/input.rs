@@ -207,22 +207,25 @@ impl Input {
         let word = wrong_word(&self.calls[call], error);
         let mut message = self.said_of(call, word, sentence);
         if let Some((other, note)) = second_place(&self.calls, call, error, recording) {
-            if !self.is_one_statement(call, other) {
-                message += &format!("\n{}", self.said_of(other, 0, &format!("note: {note}")));
-            } else if call != other {
-                message += "\nnote: a group repeats this call";
-            }
+            message += &self.second(call, word, other, &note);
         }
         message += &self.hint(error);
         message += &self.meant_label(call, error, recording);
         Failure::refused(message)
     }
 
-    fn is_one_statement(&self, call: usize, other: usize) -> bool {
-        match &self.source {
-            Source::Text(source) => source.statement(call) == source.statement(other),
-            Source::Binary(_) => call == other,
+    /// A note about a second call, unless it stands where the first does.
+    fn second(&self, call: usize, word: usize, other: usize, note: &str) -> String {
+        if let Source::Text(source) = &self.source {
+            let place = |call: usize, word| source.place(call, &self.calls[call], word);
+            if source.statement(call) == source.statement(other) {
+                return "\nnote: a group repeats this call".into();
+            }
+            if place(call, word) == place(other, 0) {
+                return String::new();
+            }
         }
+        format!("\n{}", self.said_of(other, 0, &format!("note: {note}")))
     }
 
     /// What may help where a kind is foreign to an architecture that nobody named.
