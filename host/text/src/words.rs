@@ -135,7 +135,9 @@ pub(crate) fn bytes(words: &[Token<'_>]) -> Result<Arc<[u8]>, TextError> {
     }
     let digits: String = words.iter().map(|word| word.text).collect();
     if !digits.len().is_multiple_of(2) {
-        let mut odd = words.iter().filter(|word| !word.text.len().is_multiple_of(2));
+        let mut odd = words
+            .iter()
+            .filter(|word| !word.text.len().is_multiple_of(2));
         let odd = odd.next().expect("an odd sum has an odd part");
         let count = counted(digits.len(), "hexadecimal digit");
         let is = if digits.len() == 1 { "is" } else { "are" };
