@@ -7,6 +7,7 @@ mod input;
 mod options;
 mod report;
 mod rounds;
+mod source;
 mod unpatched;
 
 use std::env;

@@ -321,7 +321,8 @@ fn what_is_not_in_the_code_is_said_with_its_lines() {
     let output = run(&["--arch", "x86", "-"], &sheet);
     assert_eq!(
         err(&output),
-        "note: 2 jumps are not kept on X86 (calls 3, 5)\n"
+        "note: 2 jumps are not kept on X86 (calls 3, 5)\n\
+         note: a binary sheet does not say its architecture: X86 was asked for; try another --arch\n"
     );
     assert!(out(&output).contains("jump to label 0: not kept on X86"));
 }

@@ -3,16 +3,16 @@
 use std::fs;
 use std::io::{self, Read};
 
-use sheet_text::{nearest, words_in};
+use sheet_text::nearest;
 use wargnifla::{
-    Arch, Call, CodeBuffer, Entry, Error, Recording, Sheet, Span, TextError, UNBOUND, Unwritable,
-    read_text_for, symbols_named,
+    Arch, Call, CodeBuffer, Entry, Error, Recording, Sheet, UNBOUND, Unwritable, read_text_for,
+    symbols_named,
 };
 
 use super::Failure;
 use super::calls::{binding, call_of_entry, second_place, wrong_word};
-use super::excerpt::excerpt;
 use super::options::{Form, Options};
+use super::source::{Source, TextSource, form_of, malformed, placed, text_of};
 
 /// A sheet, and how to record it.
 pub struct Input {
@@ -26,52 +26,6 @@ pub struct Input {
     source: Source,
     /// Whether option or sheet says the architecture.
     names_arch: bool,
-}
-
-enum Source {
-    Text(TextSource),
-    /// A binary sheet.
-    Binary(Vec<u8>),
-}
-
-/// A text, the statement of each call, and where statements stand.
-struct TextSource {
-    text: String,
-    sources: Vec<u32>,
-    statements: Vec<Span>,
-}
-
-impl TextSource {
-    fn statement(&self, call: usize) -> Span {
-        self.statements[self.sources[call] as usize]
-    }
-
-    /// The words of the statement that makes a call.
-    fn words(&self, call: usize) -> Vec<Span> {
-        let statement = self.statement(call);
-        let line = self.text.lines().nth(statement.line as usize - 1);
-        line.map_or(Vec::new(), |line| words_in(line, statement))
-    }
-
-    fn word(&self, place: Span) -> &str {
-        let line = self.text.lines().nth(place.line as usize - 1);
-        let word = line.and_then(|line| line.get(place.columns()));
-        word.unwrap_or_default()
-    }
-
-    /// Where a word of a call's statement stands, its name being word 0. A jump by name and a label with `:` have fewer words than their calls.
-    fn place(&self, call: usize, made: &Call, word: usize) -> Span {
-        let words = self.words(call);
-        let first = words.first().map_or("", |first| self.word(*first));
-        let is_named_jump = first.len() > 1 && !matches!(first, "jump" | "use");
-        let word = match made {
-            Call::Jump { .. } if is_named_jump => usize::from(word == 3),
-            Call::Use { .. } if is_named_jump => usize::from(word == 2),
-            _ => word,
-        };
-        let found = words.get(word).or(words.first());
-        found.copied().unwrap_or_else(|| self.statement(call))
-    }
 }
 
 impl Input {
@@ -228,20 +182,32 @@ impl Input {
         format!("\n{}", self.said_of(other, 0, &format!("note: {note}")))
     }
 
-    /// What may help where a kind is foreign to an architecture that nobody named.
+    /// What may help where a kind is foreign to the architecture.
     fn hint(&self, error: &Error) -> String {
-        if error.number() != 7 {
-            return String::new();
+        match &self.source {
+            _ if error.number() != 7 => String::new(),
+            Source::Binary(_) => format!("\n{}", self.unsaid_arch().unwrap_or_default()),
+            Source::Text(_) if self.names_arch => String::new(),
+            Source::Text(_) => "\nnote: the text names no architecture, so X64 is taken; \
+                                'arch aarch64' in front of it, or --arch, names another"
+                .into(),
         }
-        match (&self.source, self.names_arch) {
-            (Source::Binary(_), named) => {
-                let arch = self.arch;
-                let taken = if named { "was asked for" } else { "is taken where --arch names none" };
-                format!("\nnote: a binary sheet does not say its architecture: {arch} {taken}; try another --arch")
-            }
-            (Source::Text(_), false) => "\nnote: the text names no architecture, so X64 is taken; 'arch aarch64' in front of it, or --arch, names another".into(),
-            (Source::Text(_), true) => String::new(),
-        }
+    }
+
+    /// That a binary sheet may have been made for another architecture than it is read for.
+    pub fn unsaid_arch(&self) -> Option<String> {
+        let Source::Binary(_) = self.source else {
+            return None;
+        };
+        let taken = if self.names_arch {
+            "was asked for"
+        } else {
+            "is taken where --arch names none"
+        };
+        let arch = self.arch;
+        Some(format!(
+            "note: a binary sheet does not say its architecture: {arch} {taken}; try another --arch"
+        ))
     }
 
     /// A bound label with nearly the name of one that is not.
@@ -317,27 +283,6 @@ impl Input {
     }
 }
 
-/// A sentence with its place, and the line that it is about.
-fn placed(file: &str, text: &str, place: Span, sentence: &str) -> String {
-    let lines = excerpt(text, place).unwrap_or_default();
-    format!("{file}:{}: {sentence}\n{}", place.line, lines)
-        .trim_end()
-        .into()
-}
-
-fn malformed(file: &str, text: &str, error: &TextError) -> String {
-    let mut message = placed(file, text, error.place, &error.sentence);
-    for note in &error.notes {
-        let sentence = format!("note: {}", note.sentence);
-        message.push('\n');
-        message += &match note.place {
-            Some(place) => placed(file, text, place, &sentence),
-            None => sentence,
-        };
-    }
-    message
-}
-
 fn bytes_of(options: &Options) -> io::Result<Vec<u8>> {
     if !options.is_standard_input() {
         return fs::read(&options.file);
@@ -345,75 +290,4 @@ fn bytes_of(options: &Options) -> io::Result<Vec<u8>> {
     let mut bytes = Vec::new();
     io::stdin().lock().read_to_end(&mut bytes)?;
     Ok(bytes)
-}
-
-/// Binary if it is a sheet by length and kinds, and text otherwise.
-fn form_of(bytes: &[u8]) -> Form {
-    match Sheet::read(bytes) {
-        Ok(sheet) if sheet.has_known_kinds() => Form::Binary,
-        _ => Form::Text,
-    }
-}
-
-/// The text that some bytes are, or the line of the first that is in none, and what is wrong.
-fn text_of(bytes: &[u8]) -> Result<String, (usize, String)> {
-    const UTF_16: [&[u8]; 2] = [&[0xFF, 0xFE], &[0xFE, 0xFF]];
-    if UTF_16.iter().any(|mark| bytes.starts_with(mark)) {
-        return Err((1, "this text is UTF-16; save it as UTF-8".into()));
-    }
-    let valid = match str::from_utf8(bytes) {
-        Ok(_) => bytes.len(),
-        Err(error) => error.valid_up_to(),
-    };
-    let zero = bytes[..valid].iter().position(|byte| *byte == 0);
-    let at = zero.unwrap_or(valid);
-    let Some(byte) = bytes.get(at) else {
-        let text = String::from_utf8_lossy(bytes);
-        return Ok(text.trim_start_matches('\u{FEFF}').into());
-    };
-    let line = 1 + bytes[..at].iter().filter(|byte| **byte == b'\n').count();
-    let help = if bytes.contains(&0) {
-        "this is neither a text nor a binary sheet, which has 4 bytes, 17 more for each call, and kinds 1 to 10; \
-         --binary says what is wrong with it as one"
-    } else {
-        "save the text as UTF-8"
-    };
-    let what = match byte {
-        0 => "a zero byte stands in no text".into(),
-        _ => format!("the byte {byte:02X} is no UTF-8"),
-    };
-    Err((line, format!("{what}: {help}")))
-}
-
-#[cfg(test)]
-mod tests {
-    use super::*;
-
-    #[test]
-    fn forms_are_told_apart() {
-        assert_eq!(form_of(b""), Form::Text);
-        assert_eq!(form_of(b"n; l 0\r\n\tb 00"), Form::Text);
-        assert_eq!(form_of("n # \u{e9}".as_bytes()), Form::Text);
-        assert_eq!(form_of(&[0; 4]), Form::Binary);
-        assert_eq!(form_of(b"n\0"), Form::Text);
-        assert_eq!(form_of(b"n \xFF"), Form::Text);
-        let mut sheet = vec![1, 0, 0, 0, 2];
-        sheet.extend([0; 16]);
-        assert_eq!(form_of(&sheet), Form::Binary);
-        sheet[4] = 11;
-        assert_eq!(form_of(&sheet), Form::Text);
-    }
-
-    #[test]
-    fn bytes_that_are_no_text_are_named_by_line() {
-        let wrong = |bytes: &[u8]| text_of(bytes).unwrap_err();
-        assert_eq!(
-            wrong(b"n\n# caf\xE9\n"),
-            (2, "the byte E9 is no UTF-8: save the text as UTF-8".into())
-        );
-        assert_eq!(wrong(b"n\n\nb 00\0").0, 3);
-        assert!(wrong(b"n\0").1.contains("--binary"));
-        assert!(wrong(b"\xFF\xFEn\0").1.contains("UTF-16"));
-        assert_eq!(text_of("\u{FEFF}n".as_bytes()), Ok("n".into()));
-    }
 }

@@ -30,6 +30,13 @@ pub fn notes(input: &Input, finished: &CodeBufferFinalized) -> String {
         let places = input.where_are(&group.calls);
         let _ = writeln!(out, "note: {} ({places})", group.text(finished.arch()));
     }
+    let is_not_kept = |group: &Group| group.why == WhyUnpatched::NotKept;
+    if let Some(note) = input
+        .unsaid_arch()
+        .filter(|_| groups.iter().any(is_not_kept))
+    {
+        let _ = writeln!(out, "{note}");
+    }
     out
 }
 
