@@ -76,7 +76,7 @@ rounds
        2  135 bytes; 1 jump becomes long
           jmp recorded at 0 (line 1): label 0 at 132 less its own end at 2 is 130, outside -128..127
             127 in round 1; since then, between the jump and its label,
-              jmp recorded at 5 (line 2) grew by 3 in round 2
+              jmp recorded at 5 (line 2) grew by 3 after round 1
        3  138 bytes; every short jump reaches: settled
 
 finished for X64: 138 bytes, alignment 32, layouts 3, long jumps 2 of 2
@@ -580,9 +580,9 @@ fn rounds_say_what_grew_and_are_cut() {
     let output = run(&["--rounds", "-"], chain(4).as_bytes());
     let expected = "          jmp recorded at 0 (line 1): label t0 at 130 less its own end at 2 is 128, outside -128..127
             119 in round 1; since then, between the jump and its label,
-              jmp recorded at 5 (line 2) grew by 3 in round 4
-              jmp recorded at 10 (line 3) grew by 3 in round 3
-              jmp recorded at 15 (line 4) grew by 3 in round 2
+              jmp recorded at 5 (line 2) grew by 3 after round 3
+              jmp recorded at 10 (line 3) grew by 3 after round 2
+              jmp recorded at 15 (line 4) grew by 3 after round 1
        5  ";
     assert!(out(&output).contains(expected), "{}", out(&output));
     let long = "label far\n".to_owned() + &"jmp far\n".repeat(40) + "zeros 200\nbind far\n";

@@ -108,14 +108,14 @@ impl<'a> RoundsReport<'a> {
         }
     }
 
-    /// `jmp recorded at 5 (line 6) grew by 3 in round 2`.
+    /// `jmp recorded at 5 (line 6) grew by 3 after round 1`: the round that made it long, or moved what it pads.
     fn change(&self, change: &Change) -> String {
         let verb = if change.by < 0 { "shrank" } else { "grew" };
         format!(
-            "{} {verb} by {} in round {}",
+            "{} {verb} by {} after round {}",
             self.event(change.event),
             change.by.unsigned_abs(),
-            change.round
+            change.round - 1
         )
     }
 

@@ -1,6 +1,6 @@
 //! What a sheet was read from: a text whose words have places, or the bytes of a binary sheet.
 
-use sheet_text::words_in;
+use sheet_text::{plain_lines, words_in};
 use wargnifla::{Call, Sheet, Span, TextError};
 
 use super::excerpt::excerpt;
@@ -97,9 +97,10 @@ pub fn text_of(bytes: &[u8]) -> Result<String, (usize, String)> {
     let at = zero.unwrap_or(valid);
     let Some(byte) = bytes.get(at) else {
         let text = String::from_utf8_lossy(bytes);
-        return Ok(text.trim_start_matches('\u{FEFF}').into());
+        return Ok(plain_lines(&text).into_owned());
     };
-    let line = 1 + bytes[..at].iter().filter(|byte| **byte == b'\n').count();
+    let before = String::from_utf8_lossy(&bytes[..at]);
+    let line = 1 + plain_lines(&before).matches('\n').count();
     let help = if bytes.contains(&0) {
         "this is neither a text nor a binary sheet, which has 4 bytes, 17 more for each call, and kinds 1 to 10; \
          --binary says what is wrong with it as one"
@@ -140,6 +141,7 @@ mod tests {
             (2, "the byte E9 is no UTF-8: save the text as UTF-8".into())
         );
         assert_eq!(wrong(b"n\n\nb 00\0").0, 3);
+        assert_eq!(wrong(b"n\rn\r\n\xFF").0, 3);
         assert!(wrong(b"n\0").1.contains("--binary"));
         assert!(wrong(b"\xFF\xFEn\0").1.contains("UTF-16"));
         assert_eq!(text_of("\u{FEFF}n".as_bytes()), Ok("n".into()));

@@ -21,6 +21,8 @@ mod text_call;
 mod tokens;
 mod words;
 
+use std::borrow::Cow;
+
 pub use call::{CALL_NAMES, Call};
 pub use kinds::{Arch, Condition, LabelUse, Reach, Reloc};
 pub use place::{Note, Span, TextError};
@@ -55,6 +57,15 @@ impl<C> Script<C> {
     }
 }
 
+/// A text without its byte order mark, every line ended by a line feed; places are those of this text.
+pub fn plain_lines(text: &str) -> Cow<'_, str> {
+    let text = text.trim_start_matches('\u{FEFF}');
+    if text.contains('\r') {
+        return text.replace("\r\n", "\n").replace('\r', "\n").into();
+    }
+    text.into()
+}
+
 /// Reads a text. `arch` goes before the architecture that the text names; X64 is taken if neither says. `append` appends what a text's call becomes,
 /// or says why it can't be made.
 ///
@@ -66,7 +77,7 @@ pub fn read_text<C>(
     arch: Option<Arch>,
     append: impl Fn(TextCall, &mut Vec<C>) -> Result<(), String>,
 ) -> Result<Script<C>, TextError> {
-    let read = read_steps(text.trim_start_matches('\u{FEFF}'))?;
+    let read = read_steps(&plain_lines(text))?;
     let mut placing = Placing::new(arch.or(read.arch).unwrap_or(Arch::X64), append);
     let mut sources = Vec::new();
     for (step, statement) in read.steps {
@@ -147,6 +158,14 @@ mod tests {
         assert_eq!(calls("0 ( n )"), []);
         assert_eq!(calls("4294967295 ( )"), []);
         assert_eq!(calls("2(n)").len(), 2);
+    }
+
+    #[test]
+    fn lines_may_end_as_on_any_system() {
+        for end in ["\n", "\r\n", "\r"] {
+            let script = read(&format!("\u{FEFF}# comment{end}n{end}{end}l 0")).unwrap();
+            assert_eq!(lines(&script), [2, 4], "{end:?}");
+        }
     }
 
     #[test]
