@@ -23,7 +23,7 @@ fn main() -> Result<(), Error> {
     for run in [127, 128] {
         let code = jump_over(run)?;
         println!(
-            "a run of {run}: {} bytes, {} layouts, first byte {:02X}",
+            "a run of {run}: {} bytes, layouts {}, first byte {:02X}",
             code.total_size(),
             code.layouts(),
             code.data()[0]

@@ -12,6 +12,7 @@ use crate::recording::{
 };
 use crate::sheet::Sheet;
 use crate::tables::{Room, Tables};
+use crate::unpatched::unpatched;
 use crate::verified::{self, Record};
 use crate::{
     Arch, Call, CodeOffset, Condition, Error, LabelUse, MOST_CODE, MOST_ENTRIES, Place, Reloc,
@@ -46,6 +47,8 @@ pub struct CodeBuffer {
     tables: Tables,
     /// What the recorded refusal said, if there is one.
     first_refusal: Option<Error>,
+    /// The jumps and refs that were accepted unread, which no table keeps.
+    unread: Vec<Call>,
 }
 
 impl CodeBuffer {
@@ -75,6 +78,7 @@ impl CodeBuffer {
         Ok(Self {
             tables: Tables::new(counts),
             first_refusal: None,
+            unread: Vec::new(),
         })
     }
 
@@ -204,6 +208,11 @@ impl CodeBuffer {
         self.tables.label_offset(label).unwrap_or(UNBOUND)
     }
 
+    /// Gives a label a name, for refusals and listings; nothing else depends on it.
+    pub fn name_label(&mut self, label: Label, name: &str) {
+        self.tables.names.insert(label, name);
+    }
+
     /// Binds a label to the current offset.
     ///
     /// # Errors
@@ -269,7 +278,7 @@ impl CodeBuffer {
     }
 
     /// Records a field that a finish with a jump encodes; one without a jump leaves it as it is. What stands in the field does not matter. Accepted
-    /// unread unless the architecture is X64.
+    /// unread unless the architecture is X64; what finish did not write can be asked of its record, [`CodeBufferFinalized::unpatched`].
     ///
     /// Where it is not known whether a jump will stand, a field is recorded as a use and as a ref:
     ///
@@ -308,7 +317,8 @@ impl CodeBuffer {
         })
     }
 
-    /// Records the bytes just appended as a jump that finish may resize. Accepted unread unless the architecture is X64.
+    /// Records the bytes just appended as a jump that finish may resize. Accepted unread unless the architecture is X64; what finish did not write can
+    /// be asked of its record, [`CodeBufferFinalized::unpatched`].
     ///
     /// # Errors
     ///
@@ -432,7 +442,17 @@ impl CodeBuffer {
                 verified::run_sheet(&mut self.tables, &sheet).0
             }
         };
+        if number == 0 {
+            self.note_unread(call);
+        }
         self.answer(number, || call.clone())
+    }
+
+    /// Keeps an accepted call that the tables don't.
+    fn note_unread(&mut self, call: &Call) {
+        if !self.arch().tracks_layout() && matches!(call, Call::Jump { .. } | Call::Ref { .. }) {
+            self.unread.push(call.clone());
+        }
     }
 
     fn append(&mut self, bytes: &[u8]) -> u32 {
@@ -498,6 +518,13 @@ impl CodeBuffer {
             self.tables.make_room(&room);
         }
         let (number, index) = verified::run_sheet(&mut self.tables, sheet);
+        if let Ok(sheet) = &read {
+            // A broken form, number 1, is found before any call is made.
+            let made = if number == 1 { 0 } else { index as usize };
+            for call in sheet.calls().take(made) {
+                self.note_unread(&call);
+            }
+        }
         match (number, read) {
             (0, _) => Ok(()),
             (_, Ok(sheet)) => Err(self.refused_sheet(number, &sheet, index as usize)),
@@ -603,6 +630,7 @@ impl CodeBuffer {
             alignment: record.alignment(),
             layouts: record.layouts(),
             segments,
+            unpatched: unpatched(&self.tables, &self.unread),
         }
     }
 

@@ -1,18 +1,24 @@
 //! The command line: records a sheet of calls, finishes it, and shows the code.
 
+mod calls;
+mod excerpt;
+mod files;
 mod input;
 mod options;
 mod report;
+mod rounds;
+mod source;
+mod unpatched;
 
 use std::env;
-use std::fs;
 use std::io::{self, ErrorKind, Write};
 use std::path::Path;
 use std::process::ExitCode;
 
 use input::Input;
 use options::{HELP, Options, Request};
-use wargnifla::{CodeBuffer, CodeBufferFinalized, Extent, Recording, Rounds, listing, write_sheet};
+use rounds::RoundsReport;
+use wargnifla::{CodeBuffer, CodeBufferFinalized, Label, Recording, Rounds, listing, write_sheet};
 
 /// A message for standard error, and the exit status that goes with it.
 struct Failure {
@@ -42,8 +48,8 @@ pub fn main() -> ExitCode {
     let done = options::parse(env::args_os().skip(1))
         .map_err(|sentence| Failure::unusable(format!("{sentence}; see wargnifla --help")))
         .and_then(|request| match request {
-            Request::Help => print(HELP),
-            Request::Version => print(concat!("wargnifla ", env!("CARGO_PKG_VERSION"), "\n")),
+            Request::Help => print_text(HELP),
+            Request::Version => print_text(concat!("wargnifla ", env!("CARGO_PKG_VERSION"), "\n")),
             Request::Run(options) => run(&options),
         });
     match done {
@@ -56,38 +62,43 @@ pub fn main() -> ExitCode {
 }
 
 fn run(options: &Options) -> Result<(), Failure> {
+    files::check(options)?;
     let input = Input::read(options)?;
     let mut buffer = CodeBuffer::with_symbols(input.arch, input.symbols);
+    for (label, name) in &input.names {
+        buffer.name_label(Label::from_id(*label), name);
+    }
     input.record(&mut buffer)?;
     let mut recording = buffer.recording();
     let finished = buffer
         .finish()
-        .map_err(|error| input.refused_finish(&error))?;
+        .map_err(|error| input.refused_finish(&error, &recording))?;
     recording.note_alignments(&input.calls);
-    let text = shown(options, &recording, &finished)?;
+    let text = shown(options, &input, &recording, &finished)?;
     write_files(options, &input, &finished)?;
-    print(&text)
+    if !options.writes_standard_output() {
+        print_text(&text)?;
+    }
+    eprint!("{}", unpatched::notes(&input, &finished));
+    Ok(())
 }
 
 fn shown(
     options: &Options,
+    input: &Input,
     recording: &Recording,
     finished: &CodeBufferFinalized,
 ) -> Result<String, Failure> {
-    let extent = if options.full {
-        Extent::Full
-    } else {
-        Extent::Brief
-    };
-    let mut text = listing(recording, finished, extent);
-    text += &report::labels(recording, finished, extent);
-    text += &report::relocations(recording, finished, extent);
+    let style = options.style();
+    let mut text = listing(recording, finished, style);
+    text += &report::labels(recording, finished, style);
+    text += &report::relocations(recording, finished, style);
     if options.rounds {
         let rounds = Rounds::new(recording);
         rounds
             .check(finished)
             .map_err(|mismatch| Failure::internal(format!("internal error: {mismatch}")))?;
-        text += &report::rounds(rounds.rounds());
+        text += &RoundsReport::new(input, recording, style).text(rounds.rounds());
     }
     text += &report::record(recording, finished);
     Ok(text)
@@ -99,34 +110,31 @@ fn write_files(
     finished: &CodeBufferFinalized,
 ) -> Result<(), Failure> {
     let sheet = match &options.write_sheet {
-        Some(path) => {
-            let sheet = write_sheet(&input.calls).map_err(|error| input.unwritable(&error))?;
-            Some((path, sheet))
-        }
-        None => None,
+        Some(_) => write_sheet(&input.calls).map_err(|error| input.unwritable(&error))?,
+        None => Vec::new(),
     };
-    if let Some(path) = &options.output {
-        write_file(path, finished.data())?;
-    }
-    match sheet {
-        Some((path, sheet)) => write_file(path, &sheet),
-        None => Ok(()),
-    }
-}
-
-fn write_file(path: &Path, bytes: &[u8]) -> Result<(), Failure> {
-    fs::write(path, bytes).map_err(|error| {
-        Failure::unusable(format!("{}: can't be written: {error}", path.display()))
-    })
+    let code = options.output.iter().map(|path| (path, finished.data()));
+    let sheet = options.write_sheet.iter().map(|path| (path, &sheet[..]));
+    let outputs: Vec<(&Path, &[u8])> = code
+        .chain(sheet)
+        .map(|(path, bytes)| (path.as_path(), bytes))
+        .collect();
+    files::write(&outputs)
 }
 
 /// Prints to standard output. A reader that has gone away has seen enough.
-fn print(text: &str) -> Result<(), Failure> {
+fn print(bytes: &[u8]) -> io::Result<()> {
     let mut out = io::stdout().lock();
-    match out.write_all(text.as_bytes()).and_then(|()| out.flush()) {
-        Err(error) if error.kind() != ErrorKind::BrokenPipe => Err(Failure::unusable(format!(
-            "standard output can't be written: {error}"
-        ))),
-        _ => Ok(()),
+    match out.write_all(bytes).and_then(|()| out.flush()) {
+        Err(error) if error.kind() == ErrorKind::BrokenPipe => Ok(()),
+        printed => printed,
     }
+}
+
+fn print_text(text: &str) -> Result<(), Failure> {
+    print(text.as_bytes()).map_err(|error| unprintable(&error))
+}
+
+fn unprintable(error: &io::Error) -> Failure {
+    Failure::unusable(format!("standard output can't be written: {error}"))
 }

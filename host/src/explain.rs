@@ -14,9 +14,5 @@ const NO_REASON: &str = "the tables do not show why";
 
 /// An event with the offsets that it was recorded at: `the jump from 4 to 9`.
 fn named_event(event: &LayoutEvent) -> String {
-    let name = match event {
-        LayoutEvent::Jump(_) => "the jump".into(),
-        LayoutEvent::Align { align, .. } => format!("the alignment to {align}"),
-    };
-    format!("{name} from {} to {}", event.start(), event.end())
+    format!("{} from {} to {}", event.name(), event.start(), event.end())
 }

@@ -2,7 +2,7 @@
 
 use crate::ffi::Segment;
 use crate::recording::{AsmReloc, Label};
-use crate::{Arch, CodeOffset, UNBOUND};
+use crate::{Arch, CodeOffset, UNBOUND, Unpatched};
 
 /// A [`crate::CodeBuffer`] once finish has accepted it: the code and what goes with it.
 #[derive(Clone, Debug, PartialEq, Eq)]
@@ -14,6 +14,7 @@ pub struct CodeBufferFinalized {
     pub(crate) alignment: u32,
     pub(crate) layouts: u32,
     pub(crate) segments: Vec<Segment>,
+    pub(crate) unpatched: Vec<Unpatched>,
 }
 
 impl CodeBufferFinalized {
@@ -70,5 +71,10 @@ impl CodeBufferFinalized {
     #[must_use]
     pub fn segments(&self) -> &[Segment] {
         &self.segments
+    }
+
+    /// What was accepted and is not in the code: jumps and refs where the architecture keeps none, refs where no jump stands, uses where one does.
+    pub fn unpatched(&self) -> &[Unpatched] {
+        &self.unpatched
     }
 }

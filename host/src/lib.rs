@@ -45,22 +45,24 @@ mod rounds;
 mod sheet;
 mod tables;
 mod text;
+mod unpatched;
 mod verified;
 
 pub use buffer::CodeBuffer;
 pub use error::{Entry, Error, Place};
 pub use ffi::Segment;
 pub use finalized::CodeBufferFinalized;
-pub use listing::{Extent, listing};
+pub use listing::{Extent, Radix, Style, listing};
 pub use recording::{
-    AsmConstant, AsmFixup, AsmReloc, Constant, Label, LabelRef, LayoutEvent, Pooled,
+    AsmConstant, AsmFixup, AsmReloc, Constant, Label, LabelNames, LabelRef, LayoutEvent, Pooled,
     PooledConstant, Recording, RelaxableJump, RelocTarget, Sym,
 };
 pub use refusal::Refusal;
-pub use rounds::{Lengthened, Mismatch, Round, Rounds};
+pub use rounds::{Change, Lengthened, Mismatch, Round, Rounds};
 pub use sheet::{Sheet, Unwritable, symbols_named, write_sheet};
 pub use sheet_text::{Arch, Call, Condition, LabelUse, Reach, Reloc};
-pub use text::{Script, TextError, read_text};
+pub use text::{Note, Script, Span, TextError, read_text, read_text_for};
+pub use unpatched::{Unpatched, WhyUnpatched};
 
 /// Offset in bytes from the beginning of the code.
 pub type CodeOffset = u32;

@@ -4,9 +4,13 @@ use std::fmt::Write;
 use std::ops::Range;
 
 use crate::error::counted;
-use crate::recording::{Label, LayoutEvent, Pooled, Recording, RelaxableJump};
+use crate::recording::{
+    AsmReloc, Label, LabelNames, LayoutEvent, Pooled, Recording, RelaxableJump, RelocTarget,
+};
 use crate::relax::map;
-use crate::{Arch, CodeBufferFinalized, CodeOffset, LabelUse, UNBOUND};
+use crate::{
+    Arch, Call, CodeBufferFinalized, CodeOffset, LabelUse, UNBOUND, Unpatched, WhyUnpatched,
+};
 
 /// Bytes in a line; x86 padding has lines of 9, the longest NOP.
 const LINE: usize = 8;
@@ -17,25 +21,75 @@ const MOST_LINES: usize = 4;
 const LINES_OF_A_CUT_RUN: usize = 2;
 
 /// How much of long runs a listing shows.
-#[derive(Clone, Copy, Debug, PartialEq, Eq)]
+#[derive(Clone, Copy, Debug, Default, PartialEq, Eq)]
 pub enum Extent {
     /// The first lines of each, and how many bytes follow.
+    #[default]
     Brief,
     /// Every byte.
     Full,
 }
 
+/// How offsets are written.
+#[derive(Clone, Copy, Debug, Default, PartialEq, Eq)]
+pub enum Radix {
+    /// `26`
+    #[default]
+    Decimal,
+    /// `0x1A`
+    Hexadecimal,
+}
+
+impl Radix {
+    /// An offset in writing.
+    pub fn text(self, offset: CodeOffset) -> String {
+        match self {
+            Self::Decimal => offset.to_string(),
+            Self::Hexadecimal => format!("{offset:#X}"),
+        }
+    }
+}
+
+/// How a listing is written.
+#[derive(Clone, Copy, Debug, Default, PartialEq, Eq)]
+pub struct Style {
+    /// How much of long runs is shown.
+    pub extent: Extent,
+    /// How offsets are written.
+    pub offsets: Radix,
+}
+
+impl From<Extent> for Style {
+    fn from(extent: Extent) -> Self {
+        Self {
+            extent,
+            ..Self::default()
+        }
+    }
+}
+
 /// Lists finished code: offset, bytes, and what they are. `recording` is the recording as it was before finish.
-pub fn listing(recording: &Recording, finished: &CodeBufferFinalized, extent: Extent) -> String {
+pub fn listing(
+    recording: &Recording,
+    finished: &CodeBufferFinalized,
+    style: impl Into<Style>,
+) -> String {
+    let style = style.into();
+    let texts = Texts {
+        recording,
+        finished,
+        offsets: style.offsets,
+    };
     let mut writer = Writer {
         data: finished.data(),
+        names: &recording.names,
         labels: bound_labels(finished),
         next_label: 0,
         cursor: 0,
-        extent,
+        style,
         out: String::from("  offset  bytes                       what\n"),
     };
-    for row in rows(recording, finished) {
+    for row in rows(&texts) {
         writer.row(&row);
     }
     writer.rest();
@@ -59,29 +113,43 @@ impl Row {
     }
 }
 
-/// Every jump, padding, field and constant, by rising offset; what is empty comes first at its offset.
-fn rows(recording: &Recording, finished: &CodeBufferFinalized) -> Vec<Row> {
+/// Every jump, padding, field, relocation and constant, and what is none of them though it was recorded, by rising offset; what is empty comes first
+/// at its offset.
+fn rows(texts: &Texts<'_>) -> Vec<Row> {
+    let Texts {
+        recording,
+        finished,
+        ..
+    } = texts;
     let pooled = recording.pooled();
-    let mut rows = event_rows(recording, &pooled, finished);
-    rows.extend(field_rows(recording, finished));
+    let mut rows = event_rows(texts, &pooled);
+    rows.extend(field_rows(texts));
     rows.extend(pooled.constants.iter().map(|placed| {
         let start = finished.label_offset(placed.label);
-        let what = format!(
-            "constant {}, label {}",
-            placed.constant.id(),
-            placed.label.id()
-        );
+        let label = recording.names.text(placed.label);
+        let what = format!("constant {}, {label}", placed.constant.id());
         Row::new(start, start + placed.size, what)
     }));
+    rows.extend(finished.relocs().iter().map(|reloc| {
+        let size = reloc.kind.field_size();
+        texts.row_within(reloc.offset, size, texts.relocation(reloc))
+    }));
+    let unpatched = finished.unpatched().iter();
+    rows.extend(unpatched.filter_map(|entry| unpatched_row(texts, entry)));
     rows.sort_by_key(|row| (row.bytes.start, row.bytes.end));
     rows
 }
 
-fn event_rows(recording: &Recording, pooled: &Pooled, finished: &CodeBufferFinalized) -> Vec<Row> {
+fn event_rows(texts: &Texts<'_>, pooled: &Pooled) -> Vec<Row> {
+    let Texts {
+        recording,
+        finished,
+        ..
+    } = texts;
     let row = |(i, event): (usize, &LayoutEvent)| {
         let (start, end) = placed(finished, i, event);
         match event {
-            LayoutEvent::Jump(jump) => Row::new(start, end, jump_text(jump, start, end, finished)),
+            LayoutEvent::Jump(jump) => Row::new(start, end, texts.jump(jump, start, end)),
             LayoutEvent::Align { len, align, .. } => {
                 // Events past the recording's own are the pool's, one for each constant.
                 let pool = i.checked_sub(recording.events.len());
@@ -115,25 +183,6 @@ fn padding_line(arch: Arch) -> usize {
     }
 }
 
-fn jump_text(
-    jump: &RelaxableJump,
-    start: CodeOffset,
-    end: CodeOffset,
-    finished: &CodeBufferFinalized,
-) -> String {
-    let form = match end - start {
-        RelaxableJump::SHORT_LEN => "short",
-        _ => "near",
-    };
-    let target = finished.label_offset(jump.label);
-    let distance = i64::from(target) - i64::from(end);
-    format!(
-        "{} {form} to label {} at {target}, distance {distance}",
-        jump.mnemonic(),
-        jump.label.id()
-    )
-}
-
 fn padding_text(align: u32, owner: Option<u32>, len: u32, recorded: u32) -> String {
     let owner = owner.map_or(String::new(), |constant| {
         format!(" for constant {constant}")
@@ -151,10 +200,14 @@ fn padding_text(align: u32, owner: Option<u32>, len: u32, recorded: u32) -> Stri
 }
 
 /// The fields that finish filled: refs with a jump, uses without.
-fn field_rows(recording: &Recording, finished: &CodeBufferFinalized) -> Vec<Row> {
+fn field_rows(texts: &Texts<'_>) -> Vec<Row> {
+    let Texts {
+        recording,
+        finished,
+        ..
+    } = texts;
     let row = |offset: CodeOffset, kind: LabelUse, label: Label, addend: i32| {
-        let bytes = offset as usize..(offset + kind.patch_size()) as usize;
-        let what = field_text(&finished.data()[bytes], kind, label, addend, finished);
+        let what = texts.field(offset, kind, label, addend);
         Row::new(offset, offset + kind.patch_size(), what)
     };
     if recording.has_jump() {
@@ -171,31 +224,153 @@ fn field_rows(recording: &Recording, finished: &CodeBufferFinalized) -> Vec<Row>
     }
 }
 
-fn field_text(
-    bytes: &[u8],
-    kind: LabelUse,
-    label: Label,
-    addend: i32,
-    finished: &CodeBufferFinalized,
-) -> String {
-    let mut text = kind.to_string();
-    if let (Arch::AArch64, Ok(word)) = (finished.arch(), bytes.try_into()) {
-        let _ = write!(text, " in {:08X}", u32::from_le_bytes(word));
+/// A row where something was recorded that finish did not write.
+fn unpatched_row(texts: &Texts<'_>, entry: &Unpatched) -> Option<Row> {
+    let (offset, size, what) = match entry.call {
+        Call::Jump {
+            start,
+            length,
+            label,
+            ..
+        } => (start, length, format!("jump to {}", texts.label(label))),
+        Call::Ref {
+            offset,
+            label,
+            code,
+            ..
+        } => {
+            let kind = LabelUse::from_code(code)?;
+            let what = format!("ref {kind} to {}", texts.label(label));
+            (offset, kind.patch_size(), what)
+        }
+        Call::Use {
+            offset,
+            label,
+            code,
+        } => {
+            let kind = LabelUse::from_code(code)?;
+            let what = format!("use {kind} of {}", texts.label(label));
+            (offset, kind.patch_size(), what)
+        }
+        _ => return None,
+    };
+    let size = if entry.filled { 0 } else { size };
+    let offset = map(texts.finished.segments(), offset);
+    let what = format!("{what}: {}", unpatched_text(entry, texts.finished.arch()));
+    Some(texts.row_within(offset, size, what))
+}
+
+fn unpatched_text(entry: &Unpatched, arch: Arch) -> String {
+    let why = match entry.why {
+        WhyUnpatched::NotKept => format!("not kept on {arch}"),
+        WhyUnpatched::NoJump => "not patched, since no jump stands".into(),
+        WhyUnpatched::BesideJump => "dropped, since a jump stands".into(),
+    };
+    match (entry.filled, entry.why) {
+        (true, WhyUnpatched::BesideJump) => format!("{why}; a ref or jump fills the field"),
+        (true, _) => format!("{why}; a use fills the field"),
+        (false, _) => format!("{why}; the bytes stay as recorded"),
     }
-    let target = finished.label_offset(label);
-    let _ = write!(text, ": label {} at {target}", label.id());
-    if addend != 0 {
-        let _ = write!(text, ", addend {addend}");
+}
+
+/// What rows say.
+struct Texts<'a> {
+    recording: &'a Recording,
+    finished: &'a CodeBufferFinalized,
+    offsets: Radix,
+}
+
+impl Texts<'_> {
+    /// A row of some bytes, or of none where they pass the code's end.
+    fn row_within(&self, offset: CodeOffset, size: u32, what: String) -> Row {
+        let len = self.finished.total_size() as CodeOffset;
+        match offset.checked_add(size) {
+            Some(end) if end <= len => Row::new(offset, end, what),
+            _ if offset <= len => Row::new(offset, offset, what),
+            _ => {
+                let at = self.offsets.text(offset);
+                Row::new(len, len, format!("at {at}, past the end: {what}"))
+            }
+        }
     }
-    text
+
+    fn label(&self, number: u32) -> String {
+        self.recording.names.text(Label::from_id(number))
+    }
+
+    /// `label end at 16`.
+    fn target(&self, label: Label) -> String {
+        let offset = self.offsets.text(self.finished.label_offset(label));
+        format!("{} at {offset}", self.recording.names.text(label))
+    }
+
+    fn jump(&self, jump: &RelaxableJump, start: CodeOffset, end: CodeOffset) -> String {
+        let form = match end - start {
+            RelaxableJump::SHORT_LEN => "short",
+            _ => "near",
+        };
+        let target = self.finished.label_offset(jump.label);
+        let distance = i64::from(target) - i64::from(end);
+        format!(
+            "{} {form} to {}, distance {distance}",
+            jump.mnemonic(),
+            self.target(jump.label)
+        )
+    }
+
+    fn field(&self, offset: CodeOffset, kind: LabelUse, label: Label, addend: i32) -> String {
+        let mut text = kind.to_string();
+        let bytes = offset as usize..(offset + kind.patch_size()) as usize;
+        let bytes = &self.finished.data()[bytes];
+        if let (Arch::AArch64, Ok(word)) = (self.finished.arch(), bytes.try_into()) {
+            let _ = write!(text, " in {:08X}", u32::from_le_bytes(word));
+        }
+        let _ = write!(text, ": {}", self.target(label));
+        if addend != 0 {
+            let _ = write!(text, ", addend {addend}");
+        }
+        let target = i64::from(self.finished.label_offset(label)) + i64::from(addend);
+        let _ = write!(text, ", {}", self.distance(offset.into(), kind, target));
+        text
+    }
+
+    /// What a field holds of its target.
+    fn distance(&self, offset: i64, kind: LabelUse, target: i64) -> String {
+        const PAGE: i64 = 4096;
+        if let Some(reach) = kind.reach() {
+            return format!("distance {}", reach.distance(target - offset));
+        }
+        match kind {
+            LabelUse::A64Adrp21 => match target.div_euclid(PAGE) - offset.div_euclid(PAGE) {
+                1 => "distance 1 page".into(),
+                pages => format!("distance {pages} pages"),
+            },
+            _ => {
+                let low = target.rem_euclid(PAGE) as u32;
+                format!("low 12 bits {}", self.offsets.text(low))
+            }
+        }
+    }
+
+    fn relocation(&self, reloc: &AsmReloc) -> String {
+        let target = match reloc.target {
+            RelocTarget::Label(label) => self.recording.names.text(label),
+            RelocTarget::Sym(_) => reloc.target.to_string(),
+        };
+        let addend = match reloc.addend {
+            0 => String::new(),
+            addend => format!(", addend {addend}"),
+        };
+        format!("relocation {}: {target}{addend}", reloc.kind)
+    }
 }
 
 /// The bound labels by rising offset.
-fn bound_labels(finished: &CodeBufferFinalized) -> Vec<(usize, usize)> {
-    let labels = finished.label_offsets().iter().enumerate();
-    let mut bound: Vec<(usize, usize)> = labels
+fn bound_labels(finished: &CodeBufferFinalized) -> Vec<(usize, Label)> {
+    let labels = (0..).zip(finished.label_offsets());
+    let mut bound: Vec<(usize, Label)> = labels
         .filter(|(_, offset)| **offset != UNBOUND)
-        .map(|(label, offset)| (*offset as usize, label))
+        .map(|(label, offset)| (*offset as usize, Label::from_id(label)))
         .collect();
     bound.sort_unstable();
     bound
@@ -203,11 +378,12 @@ fn bound_labels(finished: &CodeBufferFinalized) -> Vec<(usize, usize)> {
 
 struct Writer<'a> {
     data: &'a [u8],
-    labels: Vec<(usize, usize)>,
+    names: &'a LabelNames,
+    labels: Vec<(usize, Label)>,
     next_label: usize,
     /// All bytes before it are listed.
     cursor: usize,
-    extent: Extent,
+    style: Style,
     out: String,
 }
 
@@ -255,7 +431,8 @@ impl Writer<'_> {
         while let Some(&(at, label)) = self.labels.get(self.next_label)
             && at <= offset
         {
-            self.line(&at.to_string(), "", &format!("label {label}"));
+            let label = self.names.text(label);
+            self.line(Some(at), "", &label);
             self.next_label += 1;
         }
     }
@@ -263,25 +440,28 @@ impl Writer<'_> {
     fn run(&mut self, range: Range<usize>, line: usize, what: &str) {
         let bytes = &self.data[range.clone()];
         if bytes.is_empty() {
-            self.line(&range.start.to_string(), "", what);
+            self.line(Some(range.start), "", what);
             return;
         }
         let lines = bytes.len().div_ceil(line);
-        let shown = match self.extent {
+        let shown = match self.style.extent {
             Extent::Brief if lines > MOST_LINES => LINES_OF_A_CUT_RUN,
             _ => lines,
         };
         for (i, part) in bytes.chunks(line).take(shown).enumerate() {
-            let offset = (range.start + i * line).to_string();
-            self.line(&offset, &hex(part), if i == 0 { what } else { "" });
+            let what = if i == 0 { what } else { "" };
+            self.line(Some(range.start + i * line), &hex(part), what);
         }
         if shown < lines {
             let left = bytes.len() - shown * line;
-            self.line("", &format!("... {}", counted(left, "more byte")), "");
+            self.line(None, &format!("... {}", counted(left, "more byte")), "");
         }
     }
 
-    fn line(&mut self, offset: &str, bytes: &str, what: &str) {
+    fn line(&mut self, offset: Option<usize>, bytes: &str, what: &str) {
+        let offset = offset.map_or(String::new(), |at| {
+            self.style.offsets.text(at as CodeOffset)
+        });
         let line = format!("{offset:>8}  {bytes:<26}  {what}");
         self.out.push_str(line.trim_end());
         self.out.push('\n');

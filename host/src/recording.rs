@@ -1,5 +1,9 @@
 //! A recording as typed entries, to be shown and explained. Types after asmkit's core/buffer.rs and core/relax.rs (see NOTICE).
 
+use std::collections::BTreeMap;
+
+use sheet_text::shown;
+
 use crate::{Arch, Call, CodeOffset, Condition, LabelUse, Reloc, UNBOUND};
 
 /// What is added to a label's number where a relocation's target is one word.
@@ -20,6 +24,35 @@ impl Label {
     #[must_use]
     pub const fn id(self) -> u32 {
         self.0
+    }
+}
+
+/// The names of labels, for messages and listings.
+#[derive(Clone, Debug, Default, PartialEq, Eq)]
+pub struct LabelNames(BTreeMap<Label, String>);
+
+impl LabelNames {
+    /// Gives a label a name, or another one.
+    pub fn insert(&mut self, label: Label, name: &str) {
+        self.0.insert(label, name.into());
+    }
+
+    /// The name of a label, if it has one.
+    pub fn get(&self, label: Label) -> Option<&str> {
+        self.0.get(&label).map(String::as_str)
+    }
+
+    /// A label as messages have it: `label end`, or `label 0` where it has no name.
+    pub fn text(&self, label: Label) -> String {
+        match self.get(label) {
+            Some(name) => format!("label {}", shown(name)),
+            None => format!("label {}", label.id()),
+        }
+    }
+
+    /// Whether no label has a name.
+    pub fn is_empty(&self) -> bool {
+        self.0.is_empty()
     }
 }
 
@@ -167,6 +200,24 @@ impl LayoutEvent {
             Self::Align { start, len, .. } => *start + *len,
         }
     }
+
+    /// As a message names it: `the jump`, `the alignment to 16`.
+    #[must_use]
+    pub fn name(&self) -> String {
+        match self {
+            Self::Jump(_) => "the jump".into(),
+            Self::Align { align, .. } => format!("the alignment to {align}"),
+        }
+    }
+
+    /// As an assembler writes it: `jne`, `align 16`.
+    #[must_use]
+    pub fn mnemonic(&self) -> String {
+        match self {
+            Self::Jump(jump) => jump.mnemonic(),
+            Self::Align { align, .. } => format!("align {align}"),
+        }
+    }
 }
 
 /// A use of a label: patched by a finish without a jump, dropped by one with.
@@ -250,6 +301,8 @@ pub struct Recording {
     pub asked: Vec<Constant>,
     /// Relocations.
     pub relocs: Vec<AsmReloc>,
+    /// The labels that have names.
+    pub names: LabelNames,
 }
 
 impl Recording {
@@ -404,6 +457,7 @@ mod tests {
             constants: vec![constant(4, 1), constant(9, 0)],
             asked: vec![Constant::from_id(1), Constant::from_id(0)],
             relocs: Vec::new(),
+            names: LabelNames::default(),
         };
         let pooled = recording.pooled();
         assert_eq!(pooled.labels, [16, 32]);

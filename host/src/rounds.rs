@@ -2,14 +2,16 @@
 //! were and where they settled; [`Rounds::check`] compares.
 
 use std::fmt;
+use std::ops::Range;
 
+use crate::error::counted;
 use crate::ffi::Segment;
 use crate::recording::{LayoutEvent, Pooled, Recording, RelaxableJump};
 use crate::relax::{deciding, layout, map, moved};
 use crate::{CodeBufferFinalized, CodeOffset};
 
 /// A jump that a round made long, and why.
-#[derive(Clone, Copy, Debug, PartialEq, Eq)]
+#[derive(Clone, Debug, PartialEq, Eq)]
 pub struct Lengthened {
     /// The jump's index among the events.
     pub event: usize,
@@ -19,12 +21,34 @@ pub struct Lengthened {
     pub target: CodeOffset,
     /// The end of the jump, still short, in this round.
     pub end: CodeOffset,
+    /// What the distance was in the first round.
+    pub first_distance: i64,
+    /// What changed since then between the jump and its label, by events and, of each, by rounds.
+    pub crossed: Vec<Change>,
+}
+
+/// An event that has another length in a round than in the one before.
+#[derive(Clone, Copy, Debug, PartialEq, Eq)]
+pub struct Change {
+    /// The event's index, those of the pool last.
+    pub event: usize,
+    /// The round, from 1, in whose layout it first has the new length.
+    pub round: u32,
+    /// How much longer it is, or shorter.
+    pub by: i32,
 }
 
 impl Lengthened {
     /// What the short form could not hold: the label's offset less the jump's end.
     pub fn distance(&self) -> i64 {
-        i64::from(self.target) - i64::from(self.end)
+        distance(self.target, self.end)
+    }
+
+    /// What the changes that are kept leave unexplained of the distance's growth since the first round: 0, unless there were too many to keep.
+    pub fn unexplained(&self) -> i64 {
+        let grown = self.distance().abs() - self.first_distance.abs();
+        let explained: i64 = self.crossed.iter().map(|change| i64::from(change.by)).sum();
+        grown - explained
     }
 }
 
@@ -58,9 +82,11 @@ impl Rounds {
         let mut long = vec![false; pooled.events.len()];
         let mut short = short_jumps(&pooled);
         let mut rounds = Vec::new();
+        let mut changes = Changes::new(pooled.events.len());
         let settled = loop {
             let segments = layout(&pooled.events, &long);
-            let lengthened = take_out_of_reach(&mut short, &segments);
+            changes.note(&segments);
+            let lengthened = take_out_of_reach(&mut short, &segments, &changes);
             for step in &lengthened {
                 long[step.event] = true;
             }
@@ -88,10 +114,11 @@ impl Rounds {
     /// Says where the two part.
     pub fn check(&self, finished: &CodeBufferFinalized) -> Result<(), Mismatch> {
         if self.rounds.len() != finished.layouts() as usize {
+            let is = if self.rounds.len() == 1 { "is" } else { "are" };
             return Err(Mismatch(format!(
-                "finish reports {} layouts, and {} rounds are reckoned",
-                finished.layouts(),
-                self.rounds.len()
+                "finish reports {}, and {} {is} reckoned",
+                counted(finished.layouts() as usize, "layout"),
+                counted(self.rounds.len(), "round")
             )));
         }
         if self.settled != finished.segments() {
@@ -114,11 +141,56 @@ impl Rounds {
                 format!("finish places event {event} as {reported:?}, and {reckoned:?} is reckoned")
             }
             None => format!(
-                "finish places {} events, and {} are reckoned",
-                reported.len(),
-                self.settled.len()
+                "finish places {}, and {} reckoned",
+                counted(reported.len(), "event"),
+                match self.settled.len() {
+                    1 => "1 is".into(),
+                    many => format!("{many} are"),
+                }
             ),
         }
+    }
+}
+
+/// How the lengths of events changed from round to round.
+struct Changes {
+    round: u32,
+    lengths: Vec<u32>,
+    of_event: Vec<Vec<Change>>,
+    kept: usize,
+}
+
+impl Changes {
+    /// Beyond so many, changes are no longer kept: padding may change in every one of many rounds.
+    const MOST_KEPT: usize = 1 << 22;
+
+    fn new(events: usize) -> Self {
+        Self {
+            round: 0,
+            lengths: Vec::new(),
+            of_event: vec![Vec::new(); events],
+            kept: 0,
+        }
+    }
+
+    /// Compares a round's layout with that of the round before.
+    fn note(&mut self, segments: &[Segment]) {
+        self.round += 1;
+        let lengths: Vec<u32> = segments
+            .iter()
+            .map(|segment| segment.new_end - segment.new_start)
+            .collect();
+        for (event, (old, new)) in self.lengths.iter().zip(&lengths).enumerate() {
+            if old != new && self.kept < Self::MOST_KEPT {
+                self.kept += 1;
+                self.of_event[event].push(Change {
+                    event,
+                    round: self.round,
+                    by: new.cast_signed() - old.cast_signed(),
+                });
+            }
+        }
+        self.lengths = lengths;
     }
 }
 
@@ -128,21 +200,72 @@ struct ShortJump {
     jump: RelaxableJump,
     recorded_target: CodeOffset,
     decided_by: Option<usize>,
+    first_distance: i64,
+    /// The events between the jump and its label.
+    crossed: Range<usize>,
 }
 
 impl ShortJump {
-    /// What making it long would rest on in a layout.
-    fn placed(&self, segments: &[Segment]) -> Lengthened {
+    fn new(event: usize, jump: RelaxableJump, pooled: &Pooled, first: &[Segment]) -> Self {
+        let recorded_target = pooled.labels[jump.label.id() as usize];
+        let decided_by = deciding(first, recorded_target);
+        let mut short = Self {
+            event,
+            jump,
+            recorded_target,
+            decided_by,
+            first_distance: 0,
+            crossed: crossed(event, recorded_target, decided_by, first),
+        };
+        let (target, end) = short.placed(first);
+        short.first_distance = distance(target, end);
+        short
+    }
+
+    /// Where its label and its own end stand in a layout.
+    fn placed(&self, segments: &[Segment]) -> (CodeOffset, CodeOffset) {
         let target = self.recorded_target;
+        let target = self
+            .decided_by
+            .map_or(target, |i| moved(&segments[i], target));
+        (target, segments[self.event].new_end)
+    }
+
+    /// What making it long rests on.
+    fn lengthened(&self, target: CodeOffset, end: CodeOffset, changes: &Changes) -> Lengthened {
+        let crossed = changes.of_event[self.crossed.clone()].iter();
         Lengthened {
             event: self.event,
             jump: self.jump,
-            target: self
-                .decided_by
-                .map_or(target, |i| moved(&segments[i], target)),
-            end: segments[self.event].new_end,
+            target,
+            end,
+            first_distance: self.first_distance,
+            crossed: crossed.flatten().copied().collect(),
         }
     }
+}
+
+/// The events between a jump and its label.
+fn crossed(
+    jump: usize,
+    target: CodeOffset,
+    decided_by: Option<usize>,
+    segments: &[Segment],
+) -> Range<usize> {
+    let first_behind_label = match decided_by {
+        None => 0,
+        Some(event) if target < segments[event].old_end => event,
+        Some(event) => event + 1,
+    };
+    if first_behind_label > jump {
+        jump + 1..first_behind_label
+    } else {
+        first_behind_label..jump
+    }
+}
+
+fn distance(target: CodeOffset, end: CodeOffset) -> i64 {
+    i64::from(target) - i64::from(end)
 }
 
 /// Every jump. Which event decides on a label's offset depends on recorded offsets alone, so it is looked for once.
@@ -154,26 +277,22 @@ fn short_jumps(pooled: &Pooled) -> Vec<ShortJump> {
             LayoutEvent::Jump(jump) => Some((event, *jump)),
             LayoutEvent::Align { .. } => None,
         })
-        .map(|(event, jump)| {
-            let recorded_target = pooled.labels[jump.label.id() as usize];
-            ShortJump {
-                event,
-                jump,
-                recorded_target,
-                decided_by: deciding(&segments, recorded_target),
-            }
-        })
+        .map(|(event, jump)| ShortJump::new(event, jump, pooled, &segments))
         .collect()
 }
 
 /// Takes out the short jumps that do not reach in a layout.
-fn take_out_of_reach(short: &mut Vec<ShortJump>, segments: &[Segment]) -> Vec<Lengthened> {
+fn take_out_of_reach(
+    short: &mut Vec<ShortJump>,
+    segments: &[Segment],
+    changes: &Changes,
+) -> Vec<Lengthened> {
     let mut out_of_reach = Vec::new();
     short.retain(|jump| {
-        let step = jump.placed(segments);
-        let reaches = i8::try_from(step.distance()).is_ok();
+        let (target, end) = jump.placed(segments);
+        let reaches = i8::try_from(distance(target, end)).is_ok();
         if !reaches {
-            out_of_reach.push(step);
+            out_of_reach.push(jump.lengthened(target, end, changes));
         }
         reaches
     });
@@ -191,3 +310,64 @@ impl fmt::Display for Mismatch {
 }
 
 impl std::error::Error for Mismatch {}
+
+#[cfg(test)]
+mod tests {
+    use super::*;
+    use crate::{Arch, CodeBuffer, read_text};
+
+    fn steps(text: &str) -> Vec<Vec<Lengthened>> {
+        let mut buffer = CodeBuffer::new(Arch::X64);
+        for call in &read_text(text).unwrap().calls {
+            buffer.call(call).unwrap();
+        }
+        let rounds = Rounds::new(&buffer.recording());
+        let steps = rounds.rounds().iter();
+        steps.map(|round| round.lengthened.clone()).collect()
+    }
+
+    fn change(event: usize, round: u32, by: i32) -> Change {
+        Change { event, round, by }
+    }
+
+    #[test]
+    fn what_grew_between_a_jump_and_its_label_is_named() {
+        let text = "jmp a; jmp b; zeros 125; a: zeros 3; b:";
+        let steps = steps(text);
+        assert_eq!(steps[0][0].crossed, []);
+        assert_eq!(steps[0][0].first_distance, 128);
+        assert_eq!(steps[1][0].crossed, [change(1, 2, 3)]);
+        assert_eq!(
+            (steps[1][0].first_distance, steps[1][0].distance()),
+            (127, 130)
+        );
+        assert_eq!(steps[1][0].unexplained(), 0);
+    }
+
+    #[test]
+    fn padding_that_changes_is_named_too() {
+        // The first jump grows by 4. Padding takes that up in the one, and gains 4 as well in the other.
+        let text = "start: jne far; align 8; zeros 118; jmp start; zeros 130; far:";
+        assert_eq!(steps(text).len(), 2);
+        let text = "zeros 4; start: jne far; align 8; zeros 120; jmp start; zeros 130; far:";
+        let steps = steps(text);
+        assert_eq!(steps[1][0].crossed, [change(0, 2, 4), change(1, 2, 4)]);
+        assert_eq!(
+            (steps[1][0].first_distance, steps[1][0].distance()),
+            (-126, -134)
+        );
+        assert_eq!(steps[1][0].unexplained(), 0);
+    }
+
+    #[test]
+    fn changes_of_several_rounds_add_up() {
+        let jumps: String = (0..6).map(|i| format!("jmp t{i}; ")).collect();
+        let labels: String = (0..6).map(|i| format!("t{i}: zeros 5; ")).collect();
+        let steps = steps(&format!("{jumps} zeros 103; {labels}"));
+        assert_eq!(steps.len(), 7);
+        let last = &steps[5][0];
+        let expected: Vec<Change> = (1..6).map(|i| change(i, 7 - i as u32, 3)).collect();
+        assert_eq!(last.crossed, expected);
+        assert_eq!((last.first_distance, last.distance()), (113, 128));
+    }
+}

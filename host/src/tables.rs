@@ -2,7 +2,7 @@
 //! and never beyond. include/wargnifla.h says what their entries hold; here they are read.
 
 use crate::recording::{
-    AsmConstant, AsmFixup, AsmReloc, Constant, Label, LabelRef, LayoutEvent, Recording,
+    AsmConstant, AsmFixup, AsmReloc, Constant, Label, LabelNames, LabelRef, LayoutEvent, Recording,
     RelaxableJump, RelocTarget,
 };
 use crate::{Arch, Condition, LabelUse, MOST_CODE, MOST_ENTRIES, Reloc};
@@ -92,6 +92,8 @@ pub(crate) struct Tables {
     pub constants: Table,
     pub asked: Table,
     pub relocs: Table,
+    /// The host's own: no C function is lent them.
+    pub names: LabelNames,
 }
 
 impl Tables {
@@ -107,6 +109,7 @@ impl Tables {
             constants: Table::new(72, MOST_ENTRIES),
             asked: Table::new(4, MOST_ENTRIES),
             relocs: Table::new(24, MOST_ENTRIES),
+            names: LabelNames::default(),
         }
     }
 
@@ -134,6 +137,7 @@ impl Tables {
             constants: self.constants().collect(),
             asked: self.asked().map(Constant::from_id).collect(),
             relocs: self.relocs().collect(),
+            names: self.names.clone(),
         }
     }
 

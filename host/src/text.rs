@@ -4,9 +4,9 @@ use std::sync::Arc;
 
 use sheet_text::TextCall;
 
-use crate::Call;
+use crate::{Arch, Call};
 
-pub use sheet_text::TextError;
+pub use sheet_text::{Note, Span, TextError};
 
 /// What a text says.
 pub type Script = sheet_text::Script<Call>;
@@ -18,9 +18,18 @@ const ZEROS: usize = 65_536;
 ///
 /// # Errors
 ///
-/// Says what is wrong with the first line that is malformed.
+/// Says what is wrong: with the first statement that is malformed, else with the first that makes no call.
 pub fn read_text(text: &str) -> Result<Script, TextError> {
-    sheet_text::read_text(text, append)
+    read_text_for(None, text)
+}
+
+/// Reads a text for an architecture, whatever the text says, if one is given.
+///
+/// # Errors
+///
+/// As [`read_text`].
+pub fn read_text_for(arch: Option<Arch>, text: &str) -> Result<Script, TextError> {
+    sheet_text::read_text(text, arch, append)
 }
 
 fn append(call: TextCall, calls: &mut Vec<Call>) -> Result<(), String> {
@@ -71,13 +80,14 @@ mod tests {
     #[test]
     fn every_call_has_the_line_it_stands_in() {
         let script = read_text("n\nz 65537; l 0\n2 ( z 65537 )").unwrap();
-        assert_eq!(script.lines, [1, 2, 2, 2, 3, 3, 3, 3]);
+        let lines = (0..script.calls.len()).map(|call| script.place(call).line);
+        assert_eq!(lines.collect::<Vec<_>>(), [1, 2, 2, 2, 3, 3, 3, 3]);
     }
 
     #[test]
     fn finish_is_no_call() {
-        let error = read_text("n\nf\nx").unwrap_err();
+        let error = read_text("n\nf\nn").unwrap_err();
         assert!(error.sentence.contains("finish is no call"), "{error}");
-        assert_eq!(error.line, 2);
+        assert_eq!(error.place.line, 2);
     }
 }

@@ -8,7 +8,7 @@ use std::process::{Command, Output, Stdio};
 use wargnifla::{read_text, write_sheet};
 
 const CASE_C: &str =
-    "label; label; zeros 5; jump 0 5 0; zeros 5; jump 5 5 1\nzeros 125\nbind 0; zeros 3; bind 1\n";
+    "label; label; zeros 5; jump 0 5 0\nzeros 5; jump 5 5 1\nzeros 125\nbind 0; zeros 3; bind 1\n";
 
 fn command(arguments: &[&str]) -> Command {
     let mut command = Command::new(env!("CARGO_BIN_EXE_wargnifla"));
@@ -72,9 +72,11 @@ labels
 
 rounds
        1  132 bytes; 1 jump becomes long
-          jmp recorded at 5: label 1 at 132 less its own end at 4 is 128, outside -128..127
+          jmp recorded at 5 (line 2): label 1 at 132 less its own end at 4 is 128, outside -128..127
        2  135 bytes; 1 jump becomes long
-          jmp recorded at 0: label 0 at 132 less its own end at 2 is 130, outside -128..127
+          jmp recorded at 0 (line 1): label 0 at 132 less its own end at 2 is 130, outside -128..127
+            127 in round 1; since then, between the jump and its label,
+              jmp recorded at 5 (line 2) grew by 3 after round 1
        3  138 bytes; every short jump reaches: settled
 
 finished for X64: 138 bytes, alignment 32, layouts 3, long jumps 2 of 2
@@ -146,7 +148,9 @@ fn says_which_call_fits_no_binary_sheet() {
         "-",
     ];
     let output = run(&arguments, b"n\nc 000102030405060708090A0B0C\n");
-    let sentence = "standard input:2: a constant of 13 bytes fits no binary sheet, whose calls carry at most 12";
+    let sentence = "standard input:2: a constant of 13 bytes fits no binary sheet, whose calls carry at most 12
+    c 000102030405060708090A0B0C
+      ^^^^^^^^^^^^^^^^^^^^^^^^^^";
     fails(&output, 2, sentence);
     assert!(!sheet.exists() && !code.exists());
 }
@@ -159,7 +163,9 @@ fn a_refused_call_names_its_line_and_leaves_no_file() {
         b"label\nzeros 12\njump 4 5 0\n",
     );
     let sentence = "standard input:3: jump: number 10, InvalidArgument: \
-                    the jump at 4 is 5 bytes long and ends at 9, but the current offset is 12";
+                    the jump at 4 is 5 bytes long and ends at 9, but the current offset is 12
+    jump 4 5 0
+         ^";
     fails(&output, 1, sentence);
     assert!(!file.exists());
 }
@@ -168,7 +174,12 @@ fn a_refused_call_names_its_line_and_leaves_no_file() {
 fn a_refused_finish_names_the_line_that_it_goes_back_to() {
     let output = run(&["-"], b"n\nn; l 0\nz 5\nj 0 5 1 # never bound\n");
     let sentence = "standard input:4: finish: number 15, UnboundLabel: \
-                    label 1 is not bound, and the jump at 0 names it";
+                    label 1 is not bound, and the jump at 0 names it
+    j 0 5 1 # never bound
+          ^
+standard input:2: note: label 1 is made here, and nothing binds it
+    n; l 0
+    ^";
     fails(&output, 1, sentence);
     let output = run(&["-"], b"z 16777216; c 00; k 0");
     assert!(err(&output).starts_with("standard input: finish: number 14, OutOfMemory"));
@@ -184,13 +195,14 @@ fn a_refused_call_of_a_binary_sheet_names_its_index() {
     let calls = read_text("n; z 13; u 0 0 0").unwrap().calls;
     let output = run(&["-"], &write_sheet(&calls).unwrap());
     let sentence = "standard input: call 3: finish: number 15, UnboundLabel: \
-                    label 0 is not bound, and the use at 0 names it";
+                    label 0 is not bound, and the use at 0 names it
+standard input: call 0: note: label 0 is made here, and nothing binds it";
     fails(&output, 1, sentence);
 }
 
 #[test]
 fn a_broken_binary_sheet_is_refused() {
-    let output = run(&["-"], &[2, 0, 0, 0, 1]);
+    let output = run(&["--binary", "-"], &[2, 0, 0, 0, 1]);
     fails(
         &output,
         1,
@@ -199,16 +211,408 @@ fn a_broken_binary_sheet_is_refused() {
 }
 
 #[test]
-fn malformed_text_names_its_line() {
-    let output = run(&["-"], b"label\n\nhop 3\n");
-    fails(&output, 2, "standard input:3: 'hop' is no call");
-    let output = run(&["--text", "-"], b"n \xFF");
+fn malformed_text_shows_its_line_and_marks_the_word() {
+    let output = run(&["-"], b"label\n\n  labl 3 # one\n");
+    let message = "standard input:3: 'labl' is no call; did you mean 'label'?
+    labl 3 # one
+    ^^^^
+note: the calls are label, bind (or NAME:), bytes, zeros, align, use, ref, jump, jmp, je and the other conditions, \
+constant, constant-label, relocation";
+    fails(&output, 2, message);
+    let output = run(&["-"], b"label end\nbind end; label end\n");
+    let message = "standard input:2: the label 'end' is made already
+    bind end; label end
+                    ^^^
+standard input:1: note: it is made where it is first named, here
+    label end
+          ^^^";
+    fails(&output, 2, message);
+}
+
+#[test]
+fn words_are_cut_and_escaped() {
+    let text = format!("{}\x1b[2J", "x".repeat(5000));
+    let output = run(&["-"], text.as_bytes());
+    assert!(err(&output).len() < 500, "{}", err(&output));
+    let output = run(&["-"], b"b \x1b[31m\n");
+    let message =
+        "standard input:1: '\\u{1b}' is no hexadecimal digit; bytes are written like 0F 1F 00
+    b \\u{1b}[31m
+      ^^^^^^^^^^";
+    fails(&output, 2, message);
+    let output = run(&["--\x1b[31m"], b"");
+    fails(
+        &output,
+        2,
+        "there is no option --\\u{1b}[31m; see wargnifla --help",
+    );
+    let output = run(&["no/\x1bfile"], b"");
+    assert!(err(&output).starts_with("no/\\u{1b}file: can't be read"));
+}
+
+#[test]
+fn a_byte_that_is_no_text_is_named_by_line_and_taken_for_no_sheet() {
+    let output = run(&["-"], b"label\nbind 0 # caf\xE9\n");
+    fails(
+        &output,
+        2,
+        "standard input:2: the byte E9 is no UTF-8: save the text as UTF-8",
+    );
+    let output = run(&["-"], &[2, 0, 0, 0, 1]);
     assert_eq!(output.status.code(), Some(2));
+    assert!(err(&output).starts_with("standard input:1: a zero byte stands in no text"));
+    assert!(err(&output).contains("--binary"));
+}
+
+#[test]
+fn a_foreign_kind_hints_at_the_architecture() {
+    let text = "n; l 0; z 4; u 0 0 A64Branch26";
+    let sheet = write_sheet(&read_text(text).unwrap().calls).unwrap();
+    let output = run(&["-"], &sheet);
+    let message = "standard input: call 3 (use): number 7, InvalidArch: code 11 (A64Branch26) is foreign to X64
+note: a binary sheet does not say its architecture: X64 is taken where --arch names none; try another --arch";
+    fails(&output, 1, message);
+    assert_eq!(
+        run(&["--arch", "aarch64", "-"], &sheet).status.code(),
+        Some(0)
+    );
+    let output = run(&["-"], text.as_bytes());
+    assert!(err(&output).contains("the text names no architecture, so X64 is taken"));
+    let output = run(&["--arch", "x86", "-"], text.as_bytes());
+    assert!(!err(&output).contains("note"), "{}", err(&output));
+}
+
+/// What is said on standard error of a sheet that finishes.
+fn notes(arch: &str, text: &str) -> String {
+    let output = run(&["--arch", arch, "-"], text.as_bytes());
+    assert_eq!(output.status.code(), Some(0), "{}", err(&output));
+    err(&output).into()
+}
+
+#[test]
+fn what_is_not_in_the_code_is_said_with_its_lines() {
+    let jumps = "n; l 0\nz 5\nj 0 5 0\nz 5\nj 5 5 0\n";
+    assert_eq!(
+        notes("x86", jumps),
+        "note: 2 jumps are not kept on X86 (lines 3, 5)\n"
+    );
+    assert_eq!(
+        notes("aarch64", jumps),
+        "note: 2 jumps are not kept on AArch64 (lines 3, 5)\n"
+    );
+    assert_eq!(notes("x64", jumps), "");
+    let refs = "n; l 0; z 8\nr 0 0 0\nr 4 0 0\nu 4 0 0\n";
+    assert_eq!(
+        notes("x64", refs),
+        "note: 1 ref is not patched, since no jump stands (line 2)\n\
+         note: 1 ref is not patched, since no jump stands, but a use fills its field (line 3)\n"
+    );
+    assert_eq!(
+        notes("x86", refs),
+        "note: 1 ref is not kept on X86 (line 2)\n\
+         note: 1 ref is not kept on X86, but a use fills its field (line 3)\n"
+    );
+    let uses = "n; l 0; z 9; j 4 5 0\n2 ( u 0 0 0\n)";
+    assert_eq!(
+        notes("x64", uses),
+        "note: 2 uses are dropped, since a jump stands (line 2)\n"
+    );
+    let sheet = write_sheet(&read_text(jumps).unwrap().calls).unwrap();
+    let output = run(&["--arch", "x86", "-"], &sheet);
+    assert_eq!(
+        err(&output),
+        "note: 2 jumps are not kept on X86 (calls 3, 5)\n\
+         note: a binary sheet does not say its architecture: X86 was asked for; try another --arch\n"
+    );
+    assert!(out(&output).contains("jump to label 0: not kept on X86"));
+}
+
+#[test]
+fn many_lines_are_cut_in_a_note() {
+    let text: String = (0..40).map(|i| format!("z 5\nj {} 5 0\n", 5 * i)).collect();
+    let said = notes("x86", &format!("n; l 0\n{text}"));
     assert!(
-        err(&output).starts_with("standard input: no UTF-8 text"),
+        said.starts_with("note: 40 jumps are not kept on X86 (lines 3, 5, 7,"),
+        "{said}"
+    );
+    assert!(said.ends_with(", 33 and 24 more)\n"), "{said}");
+}
+
+#[test]
+fn an_output_that_is_the_sheet_or_another_output_is_refused() {
+    let sheet = path("same.txt");
+    fs::write(&sheet, "b 90").unwrap();
+    let name = sheet.to_str().unwrap();
+    let output = run(&["-o", name, name], b"");
+    fails(
+        &output,
+        2,
+        &format!("-o names {name}, which is the sheet itself; nothing is written"),
+    );
+    let folder = sheet.parent().unwrap().to_str().unwrap();
+    let other = format!("{folder}/./same.txt");
+    assert_eq!(
+        run(&["--write-sheet", &other, name], b"").status.code(),
+        Some(2)
+    );
+    let link = path("same-link.txt");
+    fs::hard_link(&sheet, &link).unwrap();
+    assert_eq!(
+        run(&["-o", link.to_str().unwrap(), name], b"")
+            .status
+            .code(),
+        Some(2)
+    );
+    assert_eq!(fs::read(&sheet).unwrap(), b"b 90");
+    let out = path("twice.bin");
+    let both = out.to_str().unwrap();
+    let output = run(
+        &[
+            "-o",
+            both,
+            "--write-sheet",
+            &format!(
+                "{folder}/../{}/twice.bin",
+                folder.rsplit('/').next().unwrap()
+            ),
+            name,
+        ],
+        b"",
+    );
+    assert_eq!(output.status.code(), Some(2), "{}", err(&output));
+    assert!(
+        err(&output).contains("-o and --write-sheet both name"),
         "{}",
         err(&output)
     );
+    assert!(!out.exists());
+}
+
+#[test]
+fn files_are_replaced_whole_or_not_at_all() {
+    let (code, folder) = (path("whole.bin"), path("whole-folder"));
+    fs::write(&code, "before").unwrap();
+    let _ = fs::create_dir(&folder);
+    let arguments = [
+        "-o",
+        code.to_str().unwrap(),
+        "--write-sheet",
+        folder.to_str().unwrap(),
+        "-",
+    ];
+    let output = run(&arguments, b"b 90");
+    assert_eq!(output.status.code(), Some(2));
+    assert!(
+        err(&output).contains("whole-folder: can't be written"),
+        "{}",
+        err(&output)
+    );
+    assert_eq!(fs::read(&code).unwrap(), b"before");
+    let beside = fs::read_dir(code.parent().unwrap()).unwrap();
+    let drafts = beside.filter(|entry| {
+        let name = entry.as_ref().unwrap().file_name();
+        name.to_string_lossy().starts_with(".whole.bin")
+    });
+    assert_eq!(drafts.count(), 0);
+    assert_eq!(
+        run(&["-o", code.to_str().unwrap(), "-"], b"b 90")
+            .status
+            .code(),
+        Some(0)
+    );
+    assert_eq!(fs::read(&code).unwrap(), [0x90]);
+}
+
+#[cfg(unix)]
+#[test]
+fn a_link_is_followed_and_a_device_is_written_in_place() {
+    let (code, link) = (path("linked.bin"), path("link.bin"));
+    fs::write(&code, "before").unwrap();
+    std::os::unix::fs::symlink(&code, &link).unwrap();
+    assert_eq!(
+        run(&["-o", link.to_str().unwrap(), "-"], b"b 90")
+            .status
+            .code(),
+        Some(0)
+    );
+    assert_eq!(fs::read(&code).unwrap(), [0x90]);
+    assert!(fs::symlink_metadata(&link).unwrap().is_symlink());
+    assert_eq!(
+        run(&["-o", "/dev/null", "-"], b"b 90").status.code(),
+        Some(0)
+    );
+    assert!(!fs::metadata("/dev/null").unwrap().is_file());
+}
+
+#[test]
+fn a_dash_is_standard_output() {
+    let output = run(&["-o", "-", "-"], b"n; l 0; b 90 C3; r 0 0 1");
+    assert_eq!(output.stdout, [0x90, 0xC3]);
+    assert!(err(&output).starts_with("note: 1 ref is not patched"));
+    let output = run(&["--write-sheet", "-", "-"], b"n");
+    assert_eq!(
+        output.stdout,
+        write_sheet(&read_text("n").unwrap().calls).unwrap()
+    );
+    let output = run(&["-o", "-", "--write-sheet", "-", "-"], b"n");
+    fails(
+        &output,
+        2,
+        "-o and --write-sheet both name -; nothing is written",
+    );
+}
+
+#[test]
+fn a_bound_constant_is_shown_where_it_is_bound() {
+    let output = run(
+        &["-"],
+        b"constant 01\nconstant-label 0 pi\nzeros 3\nbind pi\n",
+    );
+    let message = "standard input:4: finish: number 13, InvalidState: \
+                   label pi belongs to constant 0, whose place finish decides, but a call bound it to 3
+    bind pi
+         ^^
+standard input:2: note: finish binds the label that is asked for here
+    constant-label 0 pi
+    ^^^^^^^^^^^^^^";
+    fails(&output, 1, message);
+}
+
+#[test]
+fn zeros_are_refused_as_they_are_written() {
+    let output = run(&["-"], b"bytes 90\nzeros 99999999\n");
+    let message = "standard input:2: zeros: number 12, OutOfMemory: \
+                   99999999 zeros at 1 pass the end of the code, which has at most 16,777,216 bytes
+    zeros 99999999
+          ^^^^^^^^";
+    fails(&output, 1, message);
+    let output = run(&["-"], b"3 ( z 0x900000 )");
+    assert!(
+        err(&output).contains("0x900000 zeros at 9437184 pass"),
+        "{}",
+        err(&output)
+    );
+    let output = run(&["-"], b"z 16777216; b 90");
+    assert!(
+        err(&output).contains("1 more byte at 16777216 passes"),
+        "{}",
+        err(&output)
+    );
+}
+
+#[test]
+fn refusals_show_the_second_place_that_they_speak_of() {
+    let note = |text: &str, expected: &str| {
+        let output = run(&["-"], text.as_bytes());
+        assert_eq!(output.status.code(), Some(1));
+        assert!(
+            err(&output).ends_with(&format!("{expected}\n")),
+            "{}",
+            err(&output)
+        );
+    };
+    note(
+        "end:\nbytes 90\nend:",
+        "standard input:1: note: label end is bound here\n    end:\n    ^^^^",
+    );
+    note("2 ( end: b 90 )", "note: a group repeats this call");
+    note(
+        "label\nzeros 3; bind 0\nzeros 2\njump 0 5 0",
+        "standard input:2: note: label 0 is bound here\n    zeros 3; bind 0\n             ^^^^",
+    );
+    note(
+        "label; zeros 1\nalign 2\njump 0 2 0",
+        "standard input:2: note: the alignment to 2 stands here\n    align 2\n    ^^^^^",
+    );
+    note(
+        "a: jmp a\nzeros 3\nref 4 a X86JmpRel32",
+        "standard input:1: note: the jump comes from here\n    a: jmp a\n       ^^^",
+    );
+    note(
+        "a:\njmp a\nbytes AA\nref 5 a X86BranchRel8 1000",
+        "standard input:1: note: label a is bound here\n    a:\n    ^^",
+    );
+    note(
+        "jmp ende\nend:",
+        "names it\n    jmp ende\n        ^^^^\nnote: did you mean 'end'?",
+    );
+}
+
+#[test]
+fn names_and_jumps_need_no_numbers() {
+    let text = "start:\n  bytes 48 85 C0\n  je end\n  bytes 48 FF C8\n  jmp start\nend: bytes C3\n";
+    let output = run(&["--hex", "-"], text.as_bytes());
+    let expected = "  offset  bytes                       what
+     0x0                              label start
+     0x0  48 85 C0                    3 bytes
+     0x3  74 05                       je short to label end at 0xA, distance 5
+     0x5  48 FF C8                    3 bytes
+     0x8  EB F6                       jmp short to label start at 0x0, distance -10
+     0xA                              label end
+     0xA  C3                          1 byte
+
+labels
+   label  recorded     final  name
+       0       0x0       0x0  start
+       1      0x11       0xA  end
+
+finished for X64: 11 bytes, alignment 32, layouts 1, long jumps 0 of 2
+";
+    assert_eq!(out(&output), expected);
+    let output = run(&["--arch", "x86", "-o", "-", "-"], text.as_bytes());
+    let code = [
+        0x48, 0x85, 0xC0, 0x0F, 0x84, 8, 0, 0, 0, 0x48, 0xFF, 0xC8, 0xE9, 0xEF, 0xFF, 0xFF, 0xFF,
+        0xC3,
+    ];
+    assert_eq!(output.stdout, code);
+    assert_eq!(err(&output), "");
+}
+
+/// Jumps of which each, once it is long, pushes the one before it out of reach.
+fn chain(jumps: usize) -> String {
+    let all: String = (0..jumps).map(|i| format!("jmp t{i}\n")).collect();
+    let labels: String = (0..jumps).map(|i| format!("t{i}: zeros 5\n")).collect();
+    format!("{all}zeros {}\n{labels}", 133 - 5 * jumps)
+}
+
+#[test]
+fn rounds_say_what_grew_and_are_cut() {
+    let output = run(&["--rounds", "-"], chain(4).as_bytes());
+    let expected = "          jmp recorded at 0 (line 1): label t0 at 130 less its own end at 2 is 128, outside -128..127
+            119 in round 1; since then, between the jump and its label,
+              jmp recorded at 5 (line 2) grew by 3 after round 3
+              jmp recorded at 10 (line 3) grew by 3 after round 2
+              jmp recorded at 15 (line 4) grew by 3 after round 1
+       5  ";
+    assert!(out(&output).contains(expected), "{}", out(&output));
+    let long = "label far\n".to_owned() + &"jmp far\n".repeat(40) + "zeros 200\nbind far\n";
+    let brief = run(&["--rounds", "-"], long.as_bytes());
+    assert!(
+        out(&brief).contains("          ... 24 more jumps\n"),
+        "{}",
+        out(&brief)
+    );
+    let full = run(&["--rounds", "--full", "-"], long.as_bytes());
+    assert!(!out(&full).contains("more jump"), "{}", out(&full));
+}
+
+#[test]
+fn many_rounds_are_cut_unless_all_are_asked_for() {
+    // Each jump crosses the next alone, so that one grows in every round, from the last to the first.
+    let mut text = String::from("jmp t1\nzeros 70\n");
+    for i in 2..=40 {
+        text += &format!("jmp t{i}\nzeros 55\nt{}: zeros 15\n", i - 1);
+    }
+    text += "zeros 58\nt40:\n";
+    let brief = run(&["--rounds", "-"], text.as_bytes());
+    let full = run(&["--rounds", "--full", "-"], text.as_bytes());
+    let rounds = |output: &Output| {
+        out(output).matches("become long").count() + out(output).matches("becomes long").count()
+    };
+    assert_eq!(rounds(&full), 40, "{}", out(&full));
+    assert_eq!(rounds(&brief), 16, "{}", out(&brief));
+    assert!(out(&brief).contains("          ... 24 more rounds\n      41  "));
+    assert!(out(&brief).contains("settled"), "{}", out(&brief));
 }
 
 #[test]

@@ -87,17 +87,46 @@ fn sheets_of_fields_and_constants() {
 }
 
 #[test]
-fn the_readme_shows_what_the_command_prints() {
-    let readme = include_str!("../README.md");
-    let (_, after) = readme
-        .split_once("    $ wargnifla --rounds sheets/case-b.txt\n")
-        .unwrap();
-    let (block, _) = after.split_once("\n## ").unwrap();
+fn a_sheet_with_names() {
+    shows(
+        "loop.txt",
+        "X64: 11 bytes, alignment 32, layouts 1, long jumps 0 of 2",
+        &[
+            "je short to label end at 10, distance 5",
+            "jmp short to label start at 0, distance -10",
+            "       1        17        10  end",
+        ],
+    );
+}
+
+/// The text between two lines of the README, without what its blocks are indented by.
+fn readme_between(start: &str, end: &str) -> String {
+    let (_, after) = include_str!("../README.md").split_once(start).unwrap();
+    let (block, _) = after.split_once(end).unwrap();
     let lines = block
         .lines()
         .map(|line| line.strip_prefix("    ").unwrap_or(line));
-    let expected: Vec<&str> = lines.collect();
-    assert_eq!(shown("case-b.txt").lines().collect::<Vec<_>>(), expected);
+    lines.collect::<Vec<_>>().join("\n")
+}
+
+#[test]
+fn the_text_of_the_readme_assembles() {
+    let text = readme_between("## Sheets as text", "- LABEL is");
+    let (_, text) = text.split_once("# A loop with a way out.").unwrap();
+    let script = wargnifla::read_text(&format!("#{text}")).unwrap();
+    let mut buffer = wargnifla::CodeBuffer::new(wargnifla::Arch::X64);
+    for call in &script.calls {
+        buffer.call(call).unwrap();
+    }
+    let code = buffer.finish().unwrap();
+    assert_eq!(code.data()[3..5], [0x74, 5]);
+    assert_eq!(code.unpatched(), []);
+}
+
+#[test]
+fn the_readme_shows_what_the_command_prints() {
+    let expected = readme_between("    $ wargnifla --rounds sheets/case-c.txt\n", "\n## ");
+    assert_eq!(shown("case-c.txt").trim_end(), expected.trim_end());
 }
 
 /// What an example program prints. Cargo builds the examples with the tests, into a folder beside the command.
@@ -113,8 +142,8 @@ fn printed(example: &str) -> String {
 fn forward_jump() {
     assert_eq!(
         printed("forward_jump"),
-        "a run of 127: 129 bytes, 1 layouts, first byte EB\n\
-         a run of 128: 133 bytes, 2 layouts, first byte E9\n"
+        "a run of 127: 129 bytes, layouts 1, first byte EB\n\
+         a run of 128: 133 bytes, layouts 2, first byte E9\n"
     );
 }
 

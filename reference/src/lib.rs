@@ -34,7 +34,8 @@ pub use run::{Answer, quietly, run_calls, run_sheet};
 pub use samples::samples;
 pub use screen::added_refusal;
 pub use sheet::{Call, Sheet, write_sheet};
-pub use text::{Script, TextError, read_text, write_text};
+pub use sheet_text::Arch as TextArch;
+pub use text::{Script, TextError, read_text, read_text_for, write_text};
 
 /// `Arch::X86`.
 pub const X86: u32 = 1;

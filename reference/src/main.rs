@@ -5,8 +5,8 @@ use std::io::{Read, Write};
 use std::process::ExitCode;
 
 use reference::{
-    Answer, DEPARTURES, Difference, Script, Sheet, X64, check_cases, read_differences, read_list,
-    read_text, run_calls, run_sheet, samples, write_list, write_sheet, write_text,
+    Answer, DEPARTURES, Difference, Script, Sheet, TextArch, X64, check_cases, read_differences,
+    read_list, read_text_for, run_calls, run_sheet, samples, write_list, write_sheet, write_text,
 };
 
 const USAGE: &str = "\
@@ -94,8 +94,9 @@ fn read_string(file: &str) -> Result<String, String> {
     String::from_utf8(read(file)?).map_err(|_| format!("{file}: not text"))
 }
 
-fn read_script(file: &str) -> Result<Script, String> {
-    read_text(&read_string(file)?).map_err(|error| format!("{file}: {error}"))
+fn read_script(file: &str, arch: Option<u32>) -> Result<Script, String> {
+    let arch = arch.and_then(TextArch::from_number);
+    read_text_for(arch, &read_string(file)?).map_err(|error| format!("{file}: {error}"))
 }
 
 fn print_bytes(bytes: &[u8]) -> Done {
@@ -119,7 +120,7 @@ fn run(words: &[&str]) -> Done {
 
 fn text(words: &[&str]) -> Done {
     let options = options(words)?;
-    let script = read_script(options.file)?;
+    let script = read_script(options.file, options.arch)?;
     let named = script.arch.map(|arch| arch.number());
     let arch = options.arch.or(named).unwrap_or(X64);
     let symbols = options.symbols.or(script.symbols).unwrap_or(0);
@@ -127,7 +128,8 @@ fn text(words: &[&str]) -> Done {
 }
 
 fn sheet(file: &str) -> Done {
-    let sheet = write_sheet(&read_script(file)?.calls).ok_or("a call does not fit a sheet")?;
+    let sheet =
+        write_sheet(&read_script(file, None)?.calls).ok_or("a call does not fit a sheet")?;
     print_bytes(&sheet)
 }
 

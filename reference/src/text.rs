@@ -5,7 +5,7 @@
 use std::borrow::Cow;
 use std::fmt::Write;
 
-use sheet_text::{Call as Read, TextCall};
+use sheet_text::{Arch, Call as Read, TextCall};
 
 use crate::sheet::SHEET_BYTES;
 use crate::{Call, LABEL_TARGET};
@@ -17,7 +17,12 @@ pub type Script = sheet_text::Script<Call<'static>>;
 
 /// Reads a text, or says what is wrong with it.
 pub fn read_text(text: &str) -> Result<Script, TextError> {
-    sheet_text::read_text(text, |call, calls| {
+    read_text_for(None, text)
+}
+
+/// Reads a text for an architecture, whatever the text says, if one is given.
+pub fn read_text_for(arch: Option<Arch>, text: &str) -> Result<Script, TextError> {
+    sheet_text::read_text(text, arch, |call, calls| {
         match call {
             TextCall::Call(call) => append_call(call, calls),
             TextCall::Zeros(count) => append_zeros(count as usize, calls),

@@ -1,15 +1,18 @@
 //! The sheet that the command line is given: which form it has, its calls, and where each stands in the file.
 
-use std::collections::HashSet;
 use std::fs;
 use std::io::{self, Read};
 
+use sheet_text::nearest;
 use wargnifla::{
-    Arch, Call, CodeBuffer, Entry, Error, Sheet, Unwritable, read_text, symbols_named,
+    Arch, Call, CodeBuffer, Entry, Error, Recording, Sheet, UNBOUND, Unwritable, read_text_for,
+    symbols_named,
 };
 
 use super::Failure;
+use super::calls::{binding, call_of_entry, second_place, wrong_word};
 use super::options::{Form, Options};
+use super::source::{Source, TextSource, form_of, malformed, placed, text_of};
 
 /// A sheet, and how to record it.
 pub struct Input {
@@ -18,14 +21,11 @@ pub struct Input {
     pub symbols: u32,
     /// The calls; of a binary sheet, up to the first that breaks its form.
     pub calls: Vec<Call>,
+    /// The labels that have names, by number.
+    pub names: Vec<(u32, String)>,
     source: Source,
-}
-
-enum Source {
-    /// A text, with the line of each call.
-    Text(Vec<u32>),
-    /// A binary sheet.
-    Binary(Vec<u8>),
+    /// Whether option or sheet says the architecture.
+    names_arch: bool,
 }
 
 impl Input {
@@ -40,20 +40,26 @@ impl Input {
     }
 
     fn from_text(file: String, options: &Options, bytes: &[u8]) -> Result<Self, Failure> {
-        let text = str::from_utf8(bytes)
-            .map_err(|error| Failure::unusable(format!("{file}: no UTF-8 text: {error}")))?;
-        let script = read_text(text).map_err(|error| {
-            Failure::unusable(format!("{file}:{}: {}", error.line, error.sentence))
-        })?;
+        let text = text_of(bytes)
+            .map_err(|(line, sentence)| Failure::unusable(format!("{file}:{line}: {sentence}")))?;
+        let script = read_text_for(options.arch, &text)
+            .map_err(|error| Failure::unusable(malformed(&file, &text, &error)))?;
+        let named = options.arch.or(script.arch);
         Ok(Self {
             file,
-            arch: options.arch.or(script.arch).unwrap_or(Arch::X64),
+            arch: named.unwrap_or(Arch::X64),
             symbols: options
                 .symbols
                 .or(script.symbols)
                 .unwrap_or_else(|| symbols_named(&script.calls)),
             calls: script.calls,
-            source: Source::Text(script.lines),
+            names: script.names,
+            source: Source::Text(TextSource {
+                text,
+                sources: script.sources,
+                statements: script.statements,
+            }),
+            names_arch: named.is_some(),
         })
     }
 
@@ -65,43 +71,215 @@ impl Input {
             arch: options.arch.unwrap_or(Arch::X64),
             symbols: options.symbols.unwrap_or_else(|| symbols_named(&calls)),
             calls,
+            names: Vec::new(),
             source: Source::Binary(bytes),
+            names_arch: options.arch.is_some(),
         }
     }
 
     /// Records the sheet, up to the first call that is refused.
     pub fn record(&self, buffer: &mut CodeBuffer) -> Result<(), Failure> {
-        match &self.source {
-            Source::Text(lines) => self.calls.iter().zip(lines).try_for_each(|(call, line)| {
-                buffer
-                    .call(call)
-                    .map_err(|error| Failure::refused(format!("{}:{line}: {error}", self.file)))
-            }),
-            Source::Binary(sheet) => buffer
-                .run_sheet(sheet)
-                .map_err(|error| Failure::refused(format!("{}: {error}", self.file))),
+        let Source::Binary(sheet) = &self.source else {
+            for (index, call) in self.calls.iter().enumerate() {
+                if let Err(error) = buffer.call(call) {
+                    let sentence = self.as_written(index, &error, buffer.cur_offset());
+                    return Err(self.refused(index, &error, &sentence, &buffer.recording()));
+                }
+            }
+            return Ok(());
+        };
+        buffer.run_sheet(sheet).map_err(|error| {
+            let message = format!("{}: {error}{}", self.file, self.hint(&error));
+            Failure::refused(message)
+        })
+    }
+
+    /// A refused call in the words of its statement: zeros are one call there, and many here.
+    fn as_written(&self, call: usize, error: &Error, offset: u32) -> String {
+        let Source::Text(source) = &self.source else {
+            return error.to_string();
+        };
+        let words = source.words(call);
+        let [name, count] = words[..] else {
+            return error.to_string();
+        };
+        if error.number() != 12 || !matches!(source.word(name), "zeros" | "z") {
+            return error.to_string();
         }
+        let before = self.bytes_of_statement(source, call, source.word(count));
+        format!(
+            "zeros: number 12, {}: {} zeros at {} pass the end of the code, which has at most 16,777,216 bytes",
+            error.name(),
+            source.word(count),
+            offset - before
+        )
+    }
+
+    /// How many bytes the calls before this one added for the same `zeros`.
+    fn bytes_of_statement(&self, source: &TextSource, call: usize, count: &str) -> u32 {
+        let size = |call: usize| match &self.calls[call] {
+            Call::Bytes(bytes) => bytes.len() as u64,
+            _ => 0,
+        };
+        let written = match count.strip_prefix("0x").or(count.strip_prefix("0X")) {
+            Some(digits) => u64::from_str_radix(digits, 16),
+            None => count.parse(),
+        };
+        let same = |other: &usize| source.sources[*other] == source.sources[call];
+        let before: u64 = (0..call).rev().take_while(same).map(size).sum();
+        // In a group, whole statements of the same kind stand before it too.
+        (before % written.unwrap_or(u64::MAX).max(1)) as u32
     }
 
     /// A refused finish, with the place in the file that it goes back to.
-    pub fn refused_finish(&self, error: &Error) -> Failure {
-        let call = error
-            .entry()
-            .and_then(|entry| call_of_entry(&self.calls, self.arch, entry));
-        Failure::refused(format!("{}: {error}", self.place(call)))
+    pub fn refused_finish(&self, error: &Error, recording: &Recording) -> Failure {
+        let entry = error.entry();
+        let call = match (error.number(), entry) {
+            (13, Some(Entry::Asked(asked))) => self.bound_constant(asked, recording),
+            _ => entry.and_then(|entry| call_of_entry(&self.calls, self.arch, entry)),
+        };
+        match call {
+            Some(call) => self.refused(call, error, &error.to_string(), recording),
+            None => Failure::refused(format!("{}: {error}", self.file)),
+        }
+    }
+
+    /// The call that binds the label of a constant, which is for finish to bind.
+    fn bound_constant(&self, asked: usize, recording: &Recording) -> Option<usize> {
+        let constant = recording.asked.get(asked)?.id() as usize;
+        binding(&self.calls, recording.constants[constant].label?.id())
+    }
+
+    /// A refusal with the line of its call, a note of a second one where there is one, and what may help.
+    fn refused(
+        &self,
+        call: usize,
+        error: &Error,
+        sentence: &str,
+        recording: &Recording,
+    ) -> Failure {
+        let word = wrong_word(&self.calls[call], error);
+        let mut message = self.said_of(call, word, sentence);
+        if let Some((other, note)) = second_place(&self.calls, call, error, recording) {
+            message += &self.second(call, word, other, &note);
+        }
+        message += &self.hint(error);
+        message += &self.meant_label(call, error, recording);
+        Failure::refused(message)
+    }
+
+    /// A note about a second call, unless it stands where the first does.
+    fn second(&self, call: usize, word: usize, other: usize, note: &str) -> String {
+        if let Source::Text(source) = &self.source {
+            let place = |call: usize, word| source.place(call, &self.calls[call], word);
+            if source.statement(call) == source.statement(other) {
+                return "\nnote: a group repeats this call".into();
+            }
+            if place(call, word) == place(other, 0) {
+                return String::new();
+            }
+        }
+        format!("\n{}", self.said_of(other, 0, &format!("note: {note}")))
+    }
+
+    /// What may help where a kind is foreign to the architecture.
+    fn hint(&self, error: &Error) -> String {
+        match &self.source {
+            _ if error.number() != 7 => String::new(),
+            Source::Binary(_) => format!("\n{}", self.unsaid_arch().unwrap_or_default()),
+            Source::Text(_) if self.names_arch => String::new(),
+            Source::Text(_) => "\nnote: the text names no architecture, so X64 is taken; \
+                                'arch aarch64' in front of it, or --arch, names another"
+                .into(),
+        }
+    }
+
+    /// That a binary sheet may have been made for another architecture than it is read for.
+    pub fn unsaid_arch(&self) -> Option<String> {
+        let Source::Binary(_) = self.source else {
+            return None;
+        };
+        let taken = if self.names_arch {
+            "was asked for"
+        } else {
+            "is taken where --arch names none"
+        };
+        let arch = self.arch;
+        Some(format!(
+            "note: a binary sheet does not say its architecture: {arch} {taken}; try another --arch"
+        ))
+    }
+
+    /// A bound label with nearly the name of one that is not.
+    fn meant_label(&self, call: usize, error: &Error, recording: &Recording) -> String {
+        let (15, Source::Text(source)) = (error.number(), &self.source) else {
+            return String::new();
+        };
+        let made = &self.calls[call];
+        let place = source.place(call, made, wrong_word(made, error));
+        let bound = self.names.iter().filter(|(label, _)| {
+            let offset = recording.labels.get(*label as usize);
+            offset.is_some_and(|offset| *offset != UNBOUND)
+        });
+        let word = source.word(place);
+        let is_name = self.names.iter().any(|(_, name)| name == word);
+        match nearest(word, bound.map(|(_, name)| name.as_str())) {
+            Some(near) if is_name => format!("\nnote: did you mean '{near}'?"),
+            _ => String::new(),
+        }
     }
 
     pub fn unwritable(&self, error: &Unwritable) -> Failure {
-        Failure::unusable(format!("{}: {error}", self.place(Some(error.index))))
+        Failure::unusable(self.said_of(error.index, 1, &error.to_string()))
     }
 
-    fn place(&self, call: Option<usize>) -> String {
+    /// A sentence about a word of a call, after the place where the call stands; of a text, with its line.
+    fn said_of(&self, call: usize, word: usize, sentence: &str) -> String {
         let file = &self.file;
-        match (&self.source, call) {
-            (Source::Text(lines), Some(call)) => format!("{file}:{}", lines[call]),
-            (Source::Binary(_), Some(call)) => format!("{file}: call {call}"),
-            (_, None) => file.clone(),
+        match &self.source {
+            Source::Text(source) => {
+                let place = source.place(call, &self.calls[call], word);
+                placed(file, &source.text, place, sentence)
+            }
+            Source::Binary(_) => format!("{file}: call {call}: {sentence}"),
         }
+    }
+
+    /// `line 6`, or `call 3` of a binary sheet.
+    pub fn where_is(&self, call: usize) -> String {
+        self.where_are(&[call])
+    }
+
+    /// `lines 9, 11`, or `calls 3, 5` of a binary sheet.
+    pub fn where_are(&self, calls: &[usize]) -> String {
+        const MOST: usize = 16;
+        let (noun, mut numbers): (&str, Vec<usize>) = match &self.source {
+            Source::Text(source) => {
+                let line = |call: &usize| source.statement(*call).line as usize;
+                ("line", calls.iter().map(line).collect())
+            }
+            Source::Binary(_) => ("call", calls.to_vec()),
+        };
+        numbers.dedup();
+        let shown: Vec<String> = numbers.iter().take(MOST).map(usize::to_string).collect();
+        let plural = if numbers.len() == 1 { "" } else { "s" };
+        let more = match numbers.len().saturating_sub(MOST) {
+            0 => String::new(),
+            more => format!(" and {more} more"),
+        };
+        format!("{noun}{plural} {}{more}", shown.join(", "))
+    }
+
+    /// The indices of some calls.
+    pub fn calls_where(&self, wanted: impl Fn(&Call) -> bool) -> impl Iterator<Item = usize> {
+        let calls = self.calls.iter().enumerate();
+        calls.filter(move |(_, call)| wanted(call)).map(|(i, _)| i)
+    }
+
+    /// The call that made each event of a recording that keeps events.
+    pub fn event_calls(&self) -> Vec<usize> {
+        let makes_event = |call: &Call| matches!(call, Call::Jump { .. } | Call::Align(_));
+        self.calls_where(makes_event).collect()
     }
 }
 
@@ -112,65 +290,4 @@ fn bytes_of(options: &Options) -> io::Result<Vec<u8>> {
     let mut bytes = Vec::new();
     io::stdin().lock().read_to_end(&mut bytes)?;
     Ok(bytes)
-}
-
-/// Binary if it is a sheet by length and kinds, or holds what no text does: a zero byte, or bytes that are no UTF-8.
-fn form_of(bytes: &[u8]) -> Form {
-    let is_sheet = Sheet::read(bytes).is_ok_and(|sheet| sheet.has_known_kinds());
-    let is_text = str::from_utf8(bytes).is_ok_and(|text| !text.contains('\0'));
-    if is_sheet || !is_text {
-        Form::Binary
-    } else {
-        Form::Text
-    }
-}
-
-/// The call, by index, that made an entry of a recording that accepted all calls.
-fn call_of_entry(calls: &[Call], arch: Arch, entry: Entry) -> Option<usize> {
-    let mut asked = HashSet::new();
-    let mut makes_entry = |call: &Call| match (entry, call) {
-        (Entry::Event(_), Call::Jump { .. } | Call::Align(_)) => arch.tracks_layout(),
-        (Entry::Ref(_), Call::Ref { .. }) => arch.tracks_layout(),
-        (Entry::Use(_), Call::Use { .. }) => true,
-        (Entry::Reloc(_), Call::Relocation { .. }) => true,
-        (Entry::Asked(_), Call::ConstantLabel(constant)) => asked.insert(*constant),
-        _ => false,
-    };
-    let (Entry::Event(nth)
-    | Entry::Ref(nth)
-    | Entry::Use(nth)
-    | Entry::Reloc(nth)
-    | Entry::Asked(nth)) = entry;
-    let mut made = calls
-        .iter()
-        .enumerate()
-        .filter(|(_, call)| makes_entry(call));
-    made.nth(nth).map(|(index, _)| index)
-}
-
-#[cfg(test)]
-mod tests {
-    use super::*;
-
-    #[test]
-    fn forms_are_told_apart() {
-        assert_eq!(form_of(b""), Form::Text);
-        assert_eq!(form_of(b"n; l 0\r\n\tb 00"), Form::Text);
-        assert_eq!(form_of("n # \u{e9}".as_bytes()), Form::Text);
-        assert_eq!(form_of(&[0; 4]), Form::Binary);
-        assert_eq!(form_of(b"n\0"), Form::Binary);
-        assert_eq!(form_of(b"n \xFF"), Form::Binary);
-    }
-
-    #[test]
-    fn entries_go_back_to_their_calls() {
-        let text = "n; c 01; k 0; k 0; c 02; k 1; b 0000; a 2; j 0 2 0; u 0 0 0; u 1 0 0";
-        let calls = read_text(text).unwrap().calls;
-        let index = |entry| call_of_entry(&calls, Arch::X64, entry);
-        assert_eq!(index(Entry::Asked(0)), Some(2));
-        assert_eq!(index(Entry::Asked(1)), Some(5));
-        assert_eq!(index(Entry::Event(1)), Some(8));
-        assert_eq!(index(Entry::Use(1)), Some(10));
-        assert_eq!(index(Entry::Ref(0)), None);
-    }
 }

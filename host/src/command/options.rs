@@ -3,25 +3,27 @@
 use std::ffi::{OsStr, OsString};
 use std::path::PathBuf;
 
-use wargnifla::Arch;
+use sheet_text::{escaped, shown};
+use wargnifla::{Arch, Extent, Radix, Style};
 
 pub const HELP: &str = "\
 usage: wargnifla [OPTIONS] FILE
 
 Records a sheet of calls, finishes it, and shows the code. FILE is a sheet in text or binary form; - is standard input.
 
-  -o FILE                  write the finished code
-  --write-sheet FILE       write the calls as a binary sheet
+  -o FILE                  write the finished code; to - it goes to standard output, in the place of the listing
+  --write-sheet FILE       write the calls as a binary sheet, or to -
   --arch x86|x64|aarch64   the architecture, whatever the sheet says (x64 if neither says)
   --symbols N              how many symbols there are, whatever the sheet says (as many as it names if neither says)
   --rounds                 show what each round of relaxation lengthened, and why
-  --full                   show long runs of bytes and long tables whole
+  --full                   show long runs of bytes, long tables and all rounds whole
+  --hex                    show offsets in hexadecimal
   --text, --binary         take FILE for text, or for a binary sheet
   -h, --help               this text
   -V, --version            the version
 
 Exit status: 0 finished; 1 refused; 2 bad usage, an unreadable file or malformed text; 3 an error of this program itself.
-Files are written only where the code is finished.
+Files are written only where the code is finished. What was recorded and is not in the code is said on standard error.
 ";
 
 /// What the command is asked to do.
@@ -47,6 +49,7 @@ pub struct Options {
     pub symbols: Option<u32>,
     pub rounds: bool,
     pub full: bool,
+    pub hex: bool,
     pub form: Option<Form>,
 }
 
@@ -56,13 +59,45 @@ impl Options {
         if self.is_standard_input() {
             "standard input".into()
         } else {
-            self.file.to_string_lossy().into_owned()
+            file_text(&self.file)
         }
     }
 
     pub fn is_standard_input(&self) -> bool {
-        self.file == "-"
+        is_dash(&self.file)
     }
+
+    pub fn style(&self) -> Style {
+        Style {
+            extent: match self.full {
+                true => Extent::Full,
+                false => Extent::Brief,
+            },
+            offsets: match self.hex {
+                true => Radix::Hexadecimal,
+                false => Radix::Decimal,
+            },
+        }
+    }
+
+    /// Whether an output takes the listing's place on standard output.
+    pub fn writes_standard_output(&self) -> bool {
+        let outputs = [&self.output, &self.write_sheet];
+        outputs
+            .into_iter()
+            .flatten()
+            .any(|path| is_dash(path.as_os_str()))
+    }
+}
+
+/// Whether a name stands for standard input or output.
+pub fn is_dash(name: &OsStr) -> bool {
+    name == "-"
+}
+
+/// A file's name as messages have it.
+pub fn file_text(name: &OsStr) -> String {
+    name.to_string_lossy().chars().map(escaped).collect()
 }
 
 /// Reads the arguments; what is wrong with them otherwise.
@@ -89,11 +124,12 @@ pub fn parse(arguments: impl IntoIterator<Item = OsString>) -> Result<Request, S
             }
             "--rounds" => options.rounds = true,
             "--full" => options.full = true,
+            "--hex" => options.hex = true,
             "--text" => options.form = Some(Form::Text),
             "--binary" => options.form = Some(Form::Binary),
             "--" => only_files = true,
             unknown if unknown.len() > 1 && unknown.starts_with('-') => {
-                return Err(format!("there is no option {unknown}"));
+                return Err(format!("there is no option {}", shown(unknown)));
             }
             _ => files.push(argument),
         }
@@ -108,13 +144,18 @@ fn value(option: &str, argument: Option<OsString>) -> Result<OsString, String> {
 
 fn arch(word: &OsStr) -> Result<Arch, String> {
     let word = word.to_string_lossy();
-    Arch::from_name(&word).ok_or_else(|| format!("--arch takes x86, x64 or aarch64, not '{word}'"))
+    Arch::from_name(&word)
+        .ok_or_else(|| format!("--arch takes x86, x64 or aarch64, not '{}'", shown(&word)))
 }
 
 fn symbols(word: &OsStr) -> Result<u32, String> {
     let word = word.to_string_lossy();
-    word.parse()
-        .map_err(|_| format!("--symbols takes a number up to 4294967295, not '{word}'"))
+    word.parse().map_err(|_| {
+        format!(
+            "--symbols takes a number up to 4294967295, not '{}'",
+            shown(&word)
+        )
+    })
 }
 
 fn one_file(files: Vec<OsString>) -> Result<OsString, String> {
@@ -135,7 +176,8 @@ mod tests {
 
     #[test]
     fn reads_every_option() {
-        let all = "--arch X86 --symbols 3 --rounds --full --text -o out --write-sheet sheet in";
+        let all =
+            "--arch X86 --symbols 3 --rounds --full --hex --text -o out --write-sheet sheet in";
         let expected = Options {
             file: "in".into(),
             output: Some("out".into()),
@@ -144,6 +186,7 @@ mod tests {
             symbols: Some(3),
             rounds: true,
             full: true,
+            hex: true,
             form: Some(Form::Text),
         };
         assert_eq!(parsed(all), Ok(Request::Run(expected)));

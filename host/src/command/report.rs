@@ -1,13 +1,15 @@
-//! What is printed beside the listing: labels, relocations, rounds, the record.
+//! What is printed beside the listing: labels, relocations, the record.
 
 use std::fmt::Write;
 
+use sheet_text::{counted, shown};
 use wargnifla::{
-    CodeBufferFinalized, Extent, LayoutEvent, Lengthened, Recording, RelaxableJump, Round, UNBOUND,
+    CodeBufferFinalized, Extent, Label, LayoutEvent, Recording, RelaxableJump, RelocTarget, Style,
+    UNBOUND,
 };
 
 /// Lines that a table may have before it is cut.
-const MOST_LINES: usize = 32;
+pub const MOST_LINES: usize = 32;
 
 /// A table under its title; nothing if it is empty.
 fn table(title: &str, head: &str, lines: &[String], extent: Extent) -> String {
@@ -29,69 +31,51 @@ fn table(title: &str, head: &str, lines: &[String], extent: Extent) -> String {
 }
 
 /// Where each label was recorded and where it came to stand.
-pub fn labels(recording: &Recording, finished: &CodeBufferFinalized, extent: Extent) -> String {
+pub fn labels(recording: &Recording, finished: &CodeBufferFinalized, style: Style) -> String {
     let pairs = recording.labels.iter().zip(finished.label_offsets());
-    let lines: Vec<String> = pairs
-        .enumerate()
-        .map(|(label, offsets)| match offsets {
-            (&UNBOUND, &UNBOUND) => format!("{label:>8}   unbound   unbound"),
-            // The label of a pooled constant: finish has bound it.
-            (&UNBOUND, settled) => format!("{label:>8}    pooled  {settled:>8}"),
-            (recorded, settled) => format!("{label:>8}  {recorded:>8}  {settled:>8}"),
+    let offset = |offset: u32| style.offsets.text(offset);
+    let lines: Vec<String> = (0..)
+        .zip(pairs)
+        .map(|(label, offsets)| {
+            let (before, after) = match offsets {
+                (&UNBOUND, &UNBOUND) => ("unbound".into(), "unbound".into()),
+                // The label of a pooled constant: finish has bound it.
+                (&UNBOUND, settled) => ("pooled".into(), offset(*settled)),
+                (recorded, settled) => (offset(*recorded), offset(*settled)),
+            };
+            let name = recording.names.get(Label::from_id(label));
+            let name = name.map_or(String::new(), |name| format!("  {}", shown(name)));
+            format!("{label:>8}  {before:>8}  {after:>8}{name}")
         })
         .collect();
-    table("labels", "   label  recorded     final", &lines, extent)
+    let name = match recording.names.is_empty() {
+        true => "",
+        false => "  name",
+    };
+    let head = format!("   label  recorded     final{name}");
+    table("labels", &head, &lines, style.extent)
 }
 
 /// Where each relocation was recorded and where it came to stand.
-pub fn relocations(
-    recording: &Recording,
-    finished: &CodeBufferFinalized,
-    extent: Extent,
-) -> String {
+pub fn relocations(recording: &Recording, finished: &CodeBufferFinalized, style: Style) -> String {
     let pairs = recording.relocs.iter().zip(finished.relocs());
     let lines: Vec<String> = pairs
         .map(|(recorded, settled)| {
+            let target = match settled.target {
+                RelocTarget::Label(label) => recording.names.text(label),
+                RelocTarget::Sym(_) => settled.target.to_string(),
+            };
             format!(
-                "{:>8}  {:>8}  {}: {}, addend {}",
-                recorded.offset, settled.offset, settled.kind, settled.target, settled.addend
+                "{:>8}  {:>8}  {}: {target}, addend {}",
+                style.offsets.text(recorded.offset),
+                style.offsets.text(settled.offset),
+                settled.kind,
+                settled.addend
             )
         })
         .collect();
     let head = "recorded     final  what";
-    table("relocations", head, &lines, extent)
-}
-
-/// What each round lengthened, and why.
-pub fn rounds(rounds: &[Round]) -> String {
-    if rounds.is_empty() {
-        return "\nrounds\n          none: there is no jump to relax\n".into();
-    }
-    let mut out = String::from("\nrounds\n");
-    for (number, round) in (1..).zip(rounds) {
-        let outcome = match round.lengthened.len() {
-            0 => "every short jump reaches: settled".into(),
-            1 => "1 jump becomes long".into(),
-            many => format!("{many} jumps become long"),
-        };
-        let _ = writeln!(out, "{number:>8}  {} bytes; {outcome}", round.len);
-        for step in &round.lengthened {
-            let _ = writeln!(out, "          {}", reason(step));
-        }
-    }
-    out
-}
-
-fn reason(step: &Lengthened) -> String {
-    format!(
-        "{} recorded at {}: label {} at {} less its own end at {} is {}, outside -128..127",
-        step.jump.mnemonic(),
-        step.jump.start,
-        step.jump.label.id(),
-        step.target,
-        step.end,
-        step.distance()
-    )
+    table("relocations", head, &lines, style.extent)
 }
 
 /// What finish reports, in one line.
@@ -104,9 +88,9 @@ pub fn record(recording: &Recording, finished: &CodeBufferFinalized) -> String {
         .filter(|(segment, _)| segment.new_end - segment.new_start > RelaxableJump::SHORT_LEN)
         .count();
     format!(
-        "\nfinished for {}: {} bytes, alignment {}, layouts {}, long jumps {long} of {}\n",
+        "\nfinished for {}: {}, alignment {}, layouts {}, long jumps {long} of {}\n",
         finished.arch(),
-        finished.total_size(),
+        counted(finished.total_size(), "byte"),
         finished.alignment(),
         finished.layouts(),
         recording.jumps().count()

@@ -52,7 +52,8 @@ fn foreign_kind(tables: &Tables, call: &Call) -> Option<String> {
 fn unknown_number(tables: &Tables, call: &Call) -> Option<String> {
     let unknown_label = |label: u32| {
         let labels = counted(tables.label_count(), "label");
-        format!("label {label} is unknown: the recording has {labels}")
+        let label = tables.names.text(Label::from_id(label));
+        format!("{label} is unknown: the recording has {labels}")
     };
     match call {
         Call::Bind(label)
@@ -79,8 +80,10 @@ fn bound_label(tables: &Tables, call: &Call) -> Option<String> {
     let Call::Bind(label) = call else {
         return None;
     };
-    let offset = tables.label_offset(Label::from_id(*label))?;
-    Some(format!("label {label} is bound already, to {offset}"))
+    let label = Label::from_id(*label);
+    let offset = tables.label_offset(label)?;
+    let label = tables.names.text(label);
+    Some(format!("{label} is bound already, to {offset}"))
 }
 
 fn out_of_range(tables: &Tables, call: &Call) -> Option<String> {
@@ -130,12 +133,12 @@ fn unfit_jump(tables: &Tables, start: u32, length: u32, condition: u32) -> Optio
             named_event(&event)
         ));
     }
-    let (label, offset) = tables
-        .labels()
-        .enumerate()
+    let (label, offset) = (0..)
+        .zip(tables.labels())
         .find(|(_, offset)| start < *offset && u64::from(*offset) < end)?;
+    let label = tables.names.text(Label::from_id(label));
     Some(format!(
-        "label {label}, bound to {offset}, lies inside the jump from {start} to {end}"
+        "{label}, bound to {offset}, lies inside the jump from {start} to {end}"
     ))
 }
 
@@ -157,7 +160,8 @@ fn full_table(tables: &Tables, call: &Call) -> String {
 fn past_the_end(tables: &Tables, call: &Call) -> Option<String> {
     let offset = tables.code().len();
     let what = match call {
-        Call::Bytes(bytes) => format!("{} at {offset} pass", counted(bytes.len(), "more byte")),
+        Call::Bytes(bytes) if bytes.len() == 1 => format!("1 more byte at {offset} passes"),
+        Call::Bytes(bytes) => format!("{} more bytes at {offset} pass", bytes.len()),
         Call::Align(multiple) => format!("padding at {offset} to a multiple of {multiple} passes"),
         _ => return None,
     };

@@ -3,7 +3,9 @@
 use super::{NO_REASON, named_event};
 use crate::error::counted;
 use crate::ffi::Segment;
-use crate::recording::{AsmFixup, Label, LabelRef, LayoutEvent, Pooled, Recording, RelocTarget};
+use crate::recording::{
+    AsmFixup, Label, LabelNames, LabelRef, LayoutEvent, Pooled, Recording, RelocTarget,
+};
 use crate::relax::map;
 use crate::{CodeOffset, Entry, LabelUse, Reach, UNBOUND};
 
@@ -36,8 +38,8 @@ fn bound_constant(recording: &Recording) -> Found {
         let offset = recording.labels[label.id() as usize];
         (offset != UNBOUND).then(|| {
             let sentence = format!(
-                "label {} belongs to constant {}, whose place finish decides, but a call bound it to {offset}",
-                label.id(),
+                "{} belongs to constant {}, whose place finish decides, but a call bound it to {offset}",
+                recording.names.text(label),
                 number.id()
             );
             (sentence, Some(Entry::Asked(i)))
@@ -56,8 +58,8 @@ fn unbound_label(recording: &Recording, pooled: &Pooled) -> Found {
     let (label, what, offset, entry) = naming_labels(recording)
         .find(|(label, ..)| pooled.labels[label.id() as usize] == UNBOUND)?;
     let sentence = format!(
-        "label {} is not bound, and the {what} at {offset} names it",
-        label.id()
+        "{} is not bound, and the {what} at {offset} names it",
+        recording.names.text(label)
     );
     Some((sentence, Some(entry)))
 }
@@ -142,9 +144,9 @@ fn far_ref(recording: &Recording, pooled: &Pooled, segments: &[Segment]) -> Foun
         let distance = target - i64::from(offset);
         (!reach.holds(distance)).then(|| {
             let sentence = format!(
-                "the ref recorded at {}, moved to {offset}, can't reach label {} at {label} plus {}: {}",
+                "the ref recorded at {}, moved to {offset}, can't reach {} at {label} plus {}: {}",
                 field.offset,
-                field.label.id(),
+                recording.names.text(field.label),
                 field.addend,
                 beyond(field.kind, reach, distance)
             );
@@ -164,7 +166,8 @@ fn beyond(kind: LabelUse, reach: Reach, from_start: i64) -> String {
 /// The first use that finish turns down: uses are tried in order, each for its field and its reach.
 fn unfit_use(recording: &Recording, pooled: &Pooled) -> Found {
     recording.uses.iter().enumerate().find_map(|(i, field)| {
-        let sentence = past_end_use(field, pooled).or_else(|| far_use(field, pooled))?;
+        let sentence =
+            past_end_use(field, pooled).or_else(|| far_use(field, pooled, &recording.names))?;
         Some((sentence, Some(Entry::Use(i))))
     })
 }
@@ -175,15 +178,15 @@ fn past_end_use(field: &AsmFixup, pooled: &Pooled) -> Option<String> {
     (end > pooled.len.into()).then(|| past_code("use", start, size, pooled.len))
 }
 
-fn far_use(field: &AsmFixup, pooled: &Pooled) -> Option<String> {
+fn far_use(field: &AsmFixup, pooled: &Pooled, names: &LabelNames) -> Option<String> {
     let label = pooled.labels[field.label.id() as usize];
     let reach = field.kind.reach()?;
     let distance = i64::from(label) - i64::from(field.offset);
     (!reach.holds(distance)).then(|| {
         format!(
-            "the use at {} can't reach label {} at {label}: {}",
+            "the use at {} can't reach {} at {label}: {}",
             field.offset,
-            field.label.id(),
+            names.text(field.label),
             beyond(field.kind, reach, distance)
         )
     })

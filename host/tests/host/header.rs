@@ -94,7 +94,7 @@ fn architectures() {
 
 #[test]
 fn calls() {
-    let calls = [
+    let calls: [(&str, Call); 10] = [
         ("BYTES", Call::Bytes([].into())),
         ("NEW_LABEL", Call::NewLabel),
         ("BIND", Call::Bind(0)),

@@ -1,13 +1,17 @@
 //! Listings: every byte once, and what it is.
 
-use wargnifla::{Arch, Extent, listing, read_text};
+use wargnifla::{Arch, Extent, Label, Radix, Style, listing, read_text};
 
-fn listed(arch: Arch, text: &str, extent: Extent) -> Vec<String> {
+fn listed(arch: Arch, text: &str, style: impl Into<Style>) -> Vec<String> {
     let mut buffer = crate::recorded(arch, text).unwrap();
+    let script = read_text(text).unwrap();
+    for (label, name) in &script.names {
+        buffer.name_label(Label::from_id(*label), name);
+    }
     let mut recording = buffer.recording();
     let finished = buffer.finish().unwrap();
-    recording.note_alignments(&read_text(text).unwrap().calls);
-    let lines = listing(&recording, &finished, extent);
+    recording.note_alignments(&script.calls);
+    let lines = listing(&recording, &finished, style);
     lines.lines().skip(1).map(String::from).collect()
 }
 
@@ -17,7 +21,7 @@ fn jumps_padding_fields_and_constants_are_named() {
     let expected = [
         "       0  75 0E                       jne short to label 0 at 16, distance 14",
         "       2  48 8D 05                    3 bytes",
-        "       5  11 00 00 00                 X86JmpRel32: label 1 at 24, addend 2",
+        "       5  11 00 00 00                 X86JmpRel32: label 1 at 24, addend 2, distance 17",
         "       9  0F 1F 80 00 00 00 00        align 16: 7 bytes of padding, 3 recorded",
         "      16                              label 0",
         "      16  C3                          1 byte",
@@ -59,7 +63,9 @@ fn labels_cut_runs_and_empty_alignments_are_shown() {
 fn fields_that_overlap_say_so() {
     let text = "n; l 0; z 5; u 0 0 0; u 2 0 1";
     let lines = listed(Arch::X86, text, Extent::Brief);
-    assert!(lines[2].ends_with("X86BranchRel8: label 0 at 0 (overlaps the row above)"));
+    assert!(
+        lines[2].ends_with("X86BranchRel8: label 0 at 0, distance -3 (overlaps the row above)")
+    );
     assert_eq!(lines[3], "       4  00                          1 byte");
 }
 
@@ -82,11 +88,110 @@ fn aarch64_fields_show_their_word() {
     );
     assert_eq!(
         lines[0],
-        "       0  02 00 00 14                 A64Branch26 in 14000002: label 0 at 8"
+        "       0  02 00 00 14                 A64Branch26 in 14000002: label 0 at 8, distance 8"
     );
 }
 
 #[test]
 fn nothing_is_listed_of_nothing() {
     assert_eq!(listed(Arch::X64, "", Extent::Brief), [""; 0]);
+}
+
+#[test]
+fn relocations_stand_in_their_place() {
+    let text = "n; l 0; b E8; z 4; o 1 X86CallPLTRel4 s0 -4; z 8; o 5 Abs8 l0; o 10 Abs8 l0";
+    let expected = [
+        "       0                              label 0",
+        "       0  E8                          1 byte",
+        "       1  00 00 00 00                 relocation X86CallPLTRel4: symbol 0, addend -4",
+        "       5  00 00 00 00 00 00 00 00     relocation Abs8: label 0",
+        "      10                              relocation Abs8: label 0 (overlaps the row above)",
+    ];
+    assert_eq!(listed(Arch::X64, text, Extent::Brief), expected);
+}
+
+#[test]
+fn what_was_not_patched_has_a_row() {
+    let lines = listed(
+        Arch::X86,
+        "n; l 0; b 90; z 5; j 1 5 0; r 2 0 0; j 9 9 0",
+        Extent::Brief,
+    );
+    let expected = [
+        "       0                              label 0",
+        "       0  90                          1 byte",
+        "       1  00 00 00 00 00              jump to label 0: not kept on X86; the bytes stay as recorded",
+        "       2  00 00 00 00                 ref X86JmpRel32 to label 0: not kept on X86; the bytes stay as recorded (overlaps the row above)",
+        "       6                              at 9, past the end: jump to label 0: not kept on X86; the bytes stay as recorded",
+    ];
+    assert_eq!(lines, expected);
+    let lines = listed(
+        Arch::X64,
+        "n; l 0; z 9; r 0 0 0; r 5 0 0; u 5 0 0",
+        Extent::Brief,
+    );
+    let expected = [
+        "       0                              label 0",
+        "       0  00 00 00 00                 ref X86JmpRel32 to label 0: not patched, since no jump stands; the bytes stay as recorded",
+        "       4  00                          1 byte",
+        "       5                              ref X86JmpRel32 to label 0: not patched, since no jump stands; a use fills the field",
+        "       5  F7 FF FF FF                 X86JmpRel32: label 0 at 0, distance -9",
+    ];
+    assert_eq!(lines, expected);
+    let lines = listed(
+        Arch::X64,
+        "n; l 0; z 5; j 0 5 0; z 8; u 6 0 0; r 9 0 0; u 9 0 0",
+        Extent::Brief,
+    );
+    let expected = [
+        "       0                              label 0",
+        "       0  EB FE                       jmp short to label 0 at 0, distance -2",
+        "       2  00                          1 byte",
+        "       3  00 00 00 FA                 use X86JmpRel32 of label 0: dropped, since a jump stands; the bytes stay as recorded",
+        "       6                              use X86JmpRel32 of label 0: dropped, since a jump stands; a ref or jump fills the field (overlaps the row above)",
+    ];
+    assert_eq!(lines[..3], expected[..3]);
+    assert!(lines[3].ends_with(
+        "use X86JmpRel32 of label 0: dropped, since a jump stands; the bytes stay as recorded"
+    ));
+    assert!(lines[4].contains("a ref or jump fills the field"));
+}
+
+#[test]
+fn names_and_hexadecimal_offsets() {
+    let style = Style {
+        extent: Extent::Full,
+        offsets: Radix::Hexadecimal,
+    };
+    let lines = listed(
+        Arch::X64,
+        "jmp end; align 16; end: b 90; start: jne start",
+        style,
+    );
+    let expected = [
+        "     0x0  EB 0E                       jmp short to label end at 0x10, distance 14",
+        "     0x2  66 0F 1F 84 00 00 00 00 00  align 16: 14 bytes of padding, 11 recorded",
+        "     0xB  0F 1F 44 00 00",
+        "    0x10                              label end",
+        "    0x10  90                          1 byte",
+        "    0x11                              label start",
+        "    0x11  75 FE                       jne short to label start at 0x11, distance -2",
+    ];
+    assert_eq!(lines, expected);
+}
+
+#[test]
+fn page_fields_show_what_they_hold() {
+    let text = "n; b 00000090; u 0 0 14; b 00000091; u 4 0 16; z 4379; l 0";
+    let lines = listed(Arch::AArch64, text, Extent::Brief);
+    assert!(
+        lines[0].ends_with("A64Adrp21 in B0000000: label 0 at 4387, distance 1 page"),
+        "{}",
+        lines[0]
+    );
+    assert!(
+        lines[1].ends_with("A64AddAbsLo12 in 91048C00: label 0 at 4387, low 12 bits 291"),
+        "{}",
+        lines[1]
+    );
 }

@@ -9,6 +9,7 @@ mod random;
 mod refusals;
 mod sheets;
 mod threads;
+mod unpatched;
 mod wrapper;
 
 use wargnifla::{Arch, CodeBuffer, CodeBufferFinalized, Error, read_text, symbols_named};

@@ -77,7 +77,11 @@ fn a_sheet_does_what_its_calls_do() {
         let recording = whole.recording();
         let finished = whole.finish().unwrap();
         assert_eq!(finished, single.finish().unwrap());
-        Rounds::new(&recording).check(&finished).unwrap();
+        let rounds = Rounds::new(&recording);
+        rounds.check(&finished).unwrap();
+        for step in rounds.rounds().iter().flat_map(|round| &round.lengthened) {
+            assert_eq!(step.unexplained(), 0, "{step:?}");
+        }
         relaxed += u32::from(finished.layouts() > 1);
     }
     assert!(relaxed > 50, "{relaxed} recordings had a jump to lengthen");
@@ -94,7 +98,7 @@ fn rounds_that_do_not_fit_are_not_taken_silently() {
     let text = |zeros| format!("n; z 5; j 0 5 0; z {zeros}; l 0");
     assert_eq!(
         mismatch(&text(127), &text(128)),
-        "finish reports 2 layouts, and 1 rounds are reckoned"
+        "finish reports 2 layouts, and 1 round is reckoned"
     );
     assert_eq!(
         mismatch(&text(128), &text(129)),
@@ -104,7 +108,7 @@ fn rounds_that_do_not_fit_are_not_taken_silently() {
     assert!(moved.contains("event 0 as Segment"), "{moved}");
     assert_eq!(
         mismatch("n; l 0; z 5; j 0 5 0", "n; l 0; z 5; j 0 5 0; a 1"),
-        "finish places 2 events, and 1 are reckoned"
+        "finish places 2 events, and 1 is reckoned"
     );
 }
 

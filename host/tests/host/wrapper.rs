@@ -146,3 +146,14 @@ fn padding_is_nops_on_x86_and_zeros_on_aarch64() {
     assert_eq!(padded(Arch::X64), [0xC3, 0x0F, 0x1F, 0x00]);
     assert_eq!(padded(Arch::AArch64), [0xC3, 0, 0, 0]);
 }
+
+#[test]
+fn names_of_labels_stand_in_refusals() {
+    let mut buffer = CodeBuffer::new(Arch::X64);
+    let end = buffer.get_label().unwrap();
+    buffer.name_label(end, "end");
+    buffer.try_bind_label(end).unwrap();
+    let error = buffer.try_bind_label(end).unwrap_err();
+    assert_eq!(error.sentence(), "label end is bound already, to 0");
+    assert_eq!(buffer.recording().names.get(end), Some("end"));
+}

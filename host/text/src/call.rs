@@ -2,11 +2,11 @@
 
 use std::sync::Arc;
 
-/// A call on a recording, its numbers as they stand in a sheet.
+/// A call on a recording, its numbers as they stand in a sheet. `B` is how it holds bytes.
 #[derive(Clone, Debug, PartialEq, Eq)]
-pub enum Call {
+pub enum Call<B = Arc<[u8]>> {
     /// Appends bytes, any number of them.
-    Bytes(Arc<[u8]>),
+    Bytes(B),
     /// Makes a label.
     NewLabel,
     /// Binds a label to the current offset.
@@ -45,7 +45,7 @@ pub enum Call {
         condition: u32,
     },
     /// Adds a constant, of at most 64 bytes.
-    Constant(Arc<[u8]>),
+    Constant(B),
     /// Asks for the label of a constant.
     ConstantLabel(u32),
     /// Records a relocation.
@@ -75,7 +75,7 @@ pub const CALL_NAMES: [&str; 10] = [
     "relocation",
 ];
 
-impl Call {
+impl<B> Call<B> {
     /// The kind of the call in a sheet.
     pub const fn kind(&self) -> u8 {
         match self {

@@ -100,9 +100,31 @@ impl Condition {
         find_by_number(&Self::ALL, number)
     }
 
-    /// The condition of a name, in capitals or not.
+    /// Intel's second names.
+    const OTHER_NAMES: [(&'static str, Self); 14] = [
+        ("c", Self::B),
+        ("nae", Self::B),
+        ("nb", Self::Ae),
+        ("nc", Self::Ae),
+        ("z", Self::E),
+        ("nz", Self::Ne),
+        ("na", Self::Be),
+        ("nbe", Self::A),
+        ("pe", Self::P),
+        ("po", Self::Np),
+        ("nge", Self::L),
+        ("nl", Self::Ge),
+        ("ng", Self::Le),
+        ("nle", Self::G),
+    ];
+
+    /// The condition of a name, in capitals or not: one of Intel's, `nz` as well as `ne`.
     pub fn from_name(name: &str) -> Option<Self> {
-        find_by_name(&Self::ALL, name)
+        find_by_name(&Self::ALL, name).or_else(|| {
+            let mut others = Self::OTHER_NAMES.into_iter();
+            let other = others.find(|(other, _)| other.eq_ignore_ascii_case(name));
+            other.map(|(_, condition)| condition)
+        })
     }
 }
 
@@ -351,6 +373,14 @@ impl Reloc {
     pub fn from_name(name: &str) -> Option<Self> {
         find_by_name(&Self::ALL, name)
     }
+
+    /// The bytes that it applies to.
+    pub const fn field_size(self) -> u32 {
+        match self {
+            Self::Abs8 | Self::RiscvAbs8 => 8,
+            _ => 4,
+        }
+    }
 }
 
 impl fmt::Display for Reloc {
@@ -403,6 +433,8 @@ mod tests {
         assert_eq!(LabelUse::from_name("a64adr21"), Some(LabelUse::A64Adr21));
         assert_eq!(Reloc::from_name("X86PCRel4"), Some(Reloc::X86PCRel4));
         assert_eq!(Condition::from_name("nE"), Some(Condition::Ne));
+        assert_eq!(Condition::from_name("NZ"), Some(Condition::Ne));
+        assert_eq!(Condition::from_name("nle"), Some(Condition::G));
         assert_eq!(Condition::from_name("xyz"), None);
     }
 

@@ -1,4 +1,4 @@
-//! Sheets as text: read into calls, each with its line, and the names that stand there for document 01's numbers.
+//! Sheets as text: read into calls, each with its place, and the names that stand there for document 01's numbers.
 //!
 //! Calls are separated by `;` or a line's end, and `#` starts a comment. host/README.md has the table of calls; every long word has a one-letter
 //! abbreviation.
@@ -11,22 +11,27 @@
 
 mod call;
 mod kinds;
+mod labels;
+mod place;
+mod placing;
+mod reader;
+mod shown;
+mod suggest;
 mod text_call;
+mod tokens;
 mod words;
 
-use std::fmt;
+use std::borrow::Cow;
 
 pub use call::{CALL_NAMES, Call};
 pub use kinds::{Arch, Condition, LabelUse, Reach, Reloc};
+pub use place::{Note, Span, TextError};
+use placing::Placing;
+use reader::{check_count, read_steps};
+pub use shown::{counted, escaped, shown};
+pub use suggest::nearest;
 pub use text_call::TextCall;
-use text_call::read_text_call;
-use words::{architecture, number, starts_number};
-
-/// The most calls of a text, its groups written out: far beyond what tables hold, and little enough to keep in memory.
-const MOST_CALLS: usize = 1 << 22;
-
-/// How deep groups may be nested.
-const MOST_NESTING: usize = 16;
+pub use tokens::words_in;
 
 /// What a text says.
 #[derive(Clone, Debug, PartialEq, Eq)]
@@ -37,234 +42,59 @@ pub struct Script<C> {
     pub symbols: Option<u32>,
     /// The calls, groups written out.
     pub calls: Vec<C>,
-    /// The line of each call, from 1.
-    pub lines: Vec<u32>,
+    /// For each call, the index of the statement that makes it.
+    pub sources: Vec<u32>,
+    /// Where each statement stands.
+    pub statements: Vec<Span>,
+    /// The labels that have names, by number.
+    pub names: Vec<(u32, String)>,
 }
 
-impl<C> Default for Script<C> {
-    fn default() -> Self {
-        Self {
-            arch: None,
-            symbols: None,
-            calls: Vec::new(),
-            lines: Vec::new(),
-        }
+impl<C> Script<C> {
+    /// Where the statement stands that makes a call.
+    pub fn place(&self, call: usize) -> Span {
+        self.statements[self.sources[call] as usize]
     }
 }
 
-/// What is wrong with a text, and in which line.
-#[derive(Clone, Debug, PartialEq, Eq)]
-pub struct TextError {
-    /// The line, from 1.
-    pub line: u32,
-    /// What is wrong.
-    pub sentence: String,
-}
-
-impl fmt::Display for TextError {
-    fn fmt(&self, f: &mut fmt::Formatter<'_>) -> fmt::Result {
-        write!(f, "line {}: {}", self.line, self.sentence)
+/// A text without its byte order mark, every line ended by a line feed; places are those of this text.
+pub fn plain_lines(text: &str) -> Cow<'_, str> {
+    let text = text.trim_start_matches('\u{FEFF}');
+    if text.contains('\r') {
+        return text.replace("\r\n", "\n").replace('\r', "\n").into();
     }
+    text.into()
 }
 
-impl std::error::Error for TextError {}
-
-/// Reads a text. `append` appends what a text's call becomes, or says why it can't be made.
+/// Reads a text. `arch` goes before the architecture that the text names; X64 is taken if neither says. `append` appends what a text's call becomes,
+/// or says why it can't be made.
 ///
 /// # Errors
 ///
-/// Says what is wrong with the first line that is malformed.
-pub fn read_text<C: Clone>(
+/// Says what is wrong: with the first statement that is malformed, else with the first that makes no call.
+pub fn read_text<C>(
     text: &str,
+    arch: Option<Arch>,
     append: impl Fn(TextCall, &mut Vec<C>) -> Result<(), String>,
 ) -> Result<Script<C>, TextError> {
-    let mut reader = Reader {
-        append,
-        tokens: tokens(text.trim_start_matches('\u{FEFF}')),
-        at: 0,
-        script: Script::default(),
-    };
-    reader.calls(0)?;
-    match reader.peek() {
-        None => Ok(reader.script),
-        Some(token) => Err(error(token.line, "')' closes no group".into())),
+    let read = read_steps(&plain_lines(text))?;
+    let mut placing = Placing::new(arch.or(read.arch).unwrap_or(Arch::X64), append);
+    let mut sources = Vec::new();
+    for (step, statement) in read.steps {
+        let place = read.statements[statement as usize];
+        let placed = placing.step(step);
+        placed.map_err(|sentence| TextError::new(place, sentence))?;
+        check_count(placing.calls.len(), place)?;
+        sources.resize(placing.calls.len(), statement);
     }
-}
-
-fn error(line: u32, sentence: String) -> TextError {
-    TextError { line, sentence }
-}
-
-/// A word, or one of `;`, `(` and `)`.
-#[derive(Clone, Copy)]
-struct Token<'a> {
-    text: &'a str,
-    line: u32,
-}
-
-impl Token<'_> {
-    fn is_word(&self) -> bool {
-        !matches!(self.text, ";" | "(" | ")")
-    }
-}
-
-fn tokens(text: &str) -> Vec<Token<'_>> {
-    let mut tokens = Vec::new();
-    for (line, content) in (1..).zip(text.lines()) {
-        let content = content.split('#').next().unwrap_or_default();
-        let words = content
-            .split_inclusive([';', '(', ')', ' ', '\t', '\r'])
-            .flat_map(|piece| match piece.find([';', '(', ')']) {
-                Some(at) => [&piece[..at], &piece[at..]],
-                None => [piece, ""],
-            });
-        for word in words.map(str::trim).filter(|word| !word.is_empty()) {
-            tokens.push(Token { text: word, line });
-        }
-        tokens.push(Token { text: ";", line });
-    }
-    tokens
-}
-
-struct Reader<'a, C, A> {
-    append: A,
-    tokens: Vec<Token<'a>>,
-    at: usize,
-    script: Script<C>,
-}
-
-impl<'a, C, A> Reader<'a, C, A>
-where
-    C: Clone,
-    A: Fn(TextCall, &mut Vec<C>) -> Result<(), String>,
-{
-    fn peek(&self) -> Option<Token<'a>> {
-        self.tokens.get(self.at).copied()
-    }
-
-    fn take(&mut self, text: &str) -> bool {
-        let found = self.peek().is_some_and(|token| token.text == text);
-        self.at += usize::from(found);
-        found
-    }
-
-    /// Calls up to the end of the text or of a group.
-    fn calls(&mut self, nesting: usize) -> Result<(), TextError> {
-        while let Some(token) = self.peek() {
-            match token.text {
-                ")" => return Ok(()),
-                ";" => self.at += 1,
-                text if starts_number(text) => {
-                    self.group(token, nesting)?;
-                }
-                "(" => {
-                    return Err(error(
-                        token.line,
-                        "a group is written COUNT ( CALLS ), and the count is missing".into(),
-                    ));
-                }
-                _ => self.statement(token)?,
-            }
-        }
-        Ok(())
-    }
-
-    fn group(&mut self, count: Token<'a>, nesting: usize) -> Result<(), TextError> {
-        let times = number(count.text).map_err(|sentence| error(count.line, sentence))?;
-        self.at += 1;
-        if !self.take("(") {
-            return Err(error(
-                count.line,
-                format!(
-                    "'{}' starts no call; a group is written COUNT ( CALLS )",
-                    count.text
-                ),
-            ));
-        }
-        if nesting == MOST_NESTING {
-            let sentence = format!("groups are nested deeper than {MOST_NESTING}");
-            return Err(error(count.line, sentence));
-        }
-        let start = self.script.calls.len();
-        self.calls(nesting + 1)?;
-        if !self.take(")") {
-            return Err(error(count.line, "this group is not closed by ')'".into()));
-        }
-        self.repeat(start, times as usize, count.line)
-    }
-
-    /// Writes out the calls from `start` on, so that they stand there `times` times.
-    fn repeat(&mut self, start: usize, times: usize, line: u32) -> Result<(), TextError> {
-        let Script { calls, lines, .. } = &mut self.script;
-        let end = calls.len();
-        if times == 0 {
-            calls.truncate(start);
-            lines.truncate(start);
-        }
-        if start == calls.len() {
-            return Ok(());
-        }
-        let total = (end - start).saturating_mul(times).saturating_add(start);
-        check_count(total, line)?;
-        for _ in 1..times {
-            calls.extend_from_within(start..end);
-            lines.extend_from_within(start..end);
-        }
-        Ok(())
-    }
-
-    /// A directive or a call, up to what separates it from the next.
-    fn statement(&mut self, name: Token<'a>) -> Result<(), TextError> {
-        self.at += 1;
-        let start = self.at;
-        while self.peek().is_some_and(|token| token.is_word()) {
-            self.at += 1;
-        }
-        let words: Vec<&str> = self.tokens[start..self.at]
-            .iter()
-            .map(|token| token.text)
-            .collect();
-        let read = match name.text {
-            "arch" | "symbols" => self.directive(name.text, &words),
-            _ => self.call(name, &words),
-        };
-        read.map_err(|sentence| error(name.line, sentence))?;
-        match self.peek() {
-            Some(token) if token.text == "(" => Err(error(
-                token.line,
-                "'(' follows a call; a group is written COUNT ( CALLS )".into(),
-            )),
-            _ => check_count(self.script.calls.len(), name.line),
-        }
-    }
-
-    fn directive(&mut self, name: &str, words: &[&str]) -> Result<(), String> {
-        if !self.script.calls.is_empty() {
-            return Err(format!("'{name}' stands before the first call only"));
-        }
-        match (name, words) {
-            ("arch", [arch]) => self.script.arch = Some(architecture(arch)?),
-            ("symbols", [count]) => self.script.symbols = Some(number(count)?),
-            ("arch", _) => return Err("arch takes one of x86, x64, aarch64".into()),
-            _ => return Err("symbols takes COUNT".into()),
-        }
-        Ok(())
-    }
-
-    fn call(&mut self, name: Token<'a>, words: &[&str]) -> Result<(), String> {
-        let Script { calls, lines, .. } = &mut self.script;
-        (self.append)(read_text_call(name.text, words)?, calls)?;
-        lines.resize(calls.len(), name.line);
-        Ok(())
-    }
-}
-
-fn check_count(calls: usize, line: u32) -> Result<(), TextError> {
-    if calls > MOST_CALLS {
-        let sentence = format!("there are more than {MOST_CALLS} calls by here");
-        return Err(error(line, sentence));
-    }
-    Ok(())
+    Ok(Script {
+        arch: read.arch,
+        symbols: read.symbols,
+        calls: placing.calls,
+        sources,
+        statements: read.statements,
+        names: read.names,
+    })
 }
 
 #[cfg(test)]
@@ -272,7 +102,7 @@ mod tests {
     use super::*;
 
     fn read(text: &str) -> Result<Script<TextCall>, TextError> {
-        read_text(text, |call, calls| {
+        read_text(text, None, |call, calls| {
             calls.push(call);
             Ok(())
         })
@@ -282,10 +112,15 @@ mod tests {
         read(text).unwrap().calls
     }
 
+    fn lines(script: &Script<TextCall>) -> Vec<u32> {
+        let calls = 0..script.calls.len();
+        calls.map(|call| script.place(call).line).collect()
+    }
+
     fn fails(text: &str, line: u32, expected: &str) {
         let error = read(text).unwrap_err();
         assert!(error.sentence.contains(expected), "{error}");
-        assert_eq!(error.line, line, "{error}");
+        assert_eq!(error.place.line, line, "{error}");
     }
 
     #[test]
@@ -319,10 +154,18 @@ mod tests {
     fn groups_are_written_out_with_their_lines() {
         let script = read("n\n2 ( b 01\n 3 ( b 02 ) ; )\nl 0").unwrap();
         assert_eq!(script.calls.len(), 1 + 2 * 4 + 1);
-        assert_eq!(script.lines, [1, 2, 3, 3, 3, 2, 3, 3, 3, 4]);
+        assert_eq!(lines(&script), [1, 2, 3, 3, 3, 2, 3, 3, 3, 4]);
         assert_eq!(calls("0 ( n )"), []);
         assert_eq!(calls("4294967295 ( )"), []);
         assert_eq!(calls("2(n)").len(), 2);
+    }
+
+    #[test]
+    fn lines_may_end_as_on_any_system() {
+        for end in ["\n", "\r\n", "\r"] {
+            let script = read(&format!("\u{FEFF}# comment{end}n{end}{end}l 0")).unwrap();
+            assert_eq!(lines(&script), [2, 4], "{end:?}");
+        }
     }
 
     #[test]
@@ -330,7 +173,7 @@ mod tests {
         let script = read("# comment\narch aarch64; symbols 3\nn").unwrap();
         assert_eq!(script.arch, Some(Arch::AArch64));
         assert_eq!(script.symbols, Some(3));
-        assert_eq!(script.lines, [3]);
+        assert_eq!(lines(&script), [3]);
         fails("n\narch x64", 2, "before the first call");
         fails("arch mips", 1, "'mips'");
         fails("symbols", 1, "COUNT");
@@ -340,12 +183,17 @@ mod tests {
     fn malformed_lines_are_named() {
         fails("n\n\nx 1", 3, "'x' is no call");
         fails("f 0", 1, "finish takes no arguments");
-        fails("# c\nl", 2, "bind takes LABEL");
-        fails("l 1 2", 1, "2 stand here");
-        fails("n 3", 1, "takes no arguments");
+        fails("# c\nl", 2, "bind takes LABEL, and nothing stands here");
+        fails("l 1 2", 1, "bind takes LABEL, and 2 words stand here");
+        fails("n 3", 1, "'3' is no name");
+        fails(
+            "n a b",
+            1,
+            "label takes a NAME or nothing, and 2 words stand here",
+        );
         fails("l 12x", 1, "'12x' is no number");
         fails("l 0x", 1, "'0x' is no number");
-        fails("l -1", 1, "'-1' is no number");
+        fails("l -1", 1, "'-1' is no label");
         fails("l 4294967296", 1, "above 4294967295");
         fails("a 99999999999999999999", 1, "too large");
         fails("b 0", 1, "whole number of bytes");
@@ -387,5 +235,143 @@ mod tests {
                 ..
             })]
         ));
+    }
+
+    #[test]
+    fn the_wrong_word_is_marked() {
+        let marked = |text: &str| {
+            let error = read(text).unwrap_err();
+            let line = text.lines().nth(error.place.line as usize - 1).unwrap();
+            line[error.place.columns()].to_owned()
+        };
+        assert_eq!(marked("n\n  jump 0 5x 0 # c"), "5x");
+        assert_eq!(marked("n; labl; n"), "labl");
+        assert_eq!(marked("n; l 0 1 2"), "1");
+        assert_eq!(marked("u 0 0"), "u");
+        assert_eq!(marked("b 00 1 00"), "1");
+        assert_eq!(marked("jmp a b"), "b");
+        assert_eq!(marked("2 ( n ) )"), ")");
+    }
+
+    #[test]
+    fn what_is_no_call_is_told_what_is() {
+        let error = read("labl").unwrap_err();
+        assert_eq!(error.sentence, "'labl' is no call; did you mean 'label'?");
+        assert!(
+            error.notes[0]
+                .sentence
+                .starts_with("the calls are label, bind")
+        );
+        fails("jmpp end", 1, "did you mean 'jmp'?");
+        fails("hop 3", 1, "'hop' is no call");
+        let error = read(&"x".repeat(1000)).unwrap_err();
+        assert!(error.sentence.len() < 60, "{error}");
+        fails("\u{1b}[31m", 1, "'\\u{1b}[31m' is no call");
+    }
+
+    #[test]
+    fn labels_may_have_names() {
+        let named = "label end; label other; zeros 5; jump 0 5 end; use 1 other 0; ref 1 end 0; \
+                     relocation 0 Abs8 other; bind end; other:";
+        let numbered = "n; n; z 5; j 0 5 0; u 1 1 0; r 1 0 0; o 0 1 l1; l 0; l 1";
+        assert_eq!(calls(named), calls(numbered));
+        let names = read(named).unwrap().names;
+        assert_eq!(names, [(0, "end".into()), (1, "other".into())]);
+        assert_eq!(calls("label end; bind 0"), calls("n; l 0"));
+        assert_eq!(
+            calls("c 01; n; k 0 pi; jump 0 2 pi"),
+            calls("c 01; n; k 0; j 0 2 1")
+        );
+        assert_eq!(
+            calls("c 01; k 0; n; k 0 pi; l pi"),
+            calls("c 01; k 0; n; k 0; l 0")
+        );
+        assert_eq!(calls("n; 0: b 00"), calls("n; l 0; b 00"));
+    }
+
+    #[test]
+    fn a_name_makes_its_label_where_it_stands_first() {
+        assert_eq!(calls("label; bind end; bind 0"), calls("n; n; l 1; l 0"));
+        assert_eq!(calls("l1: l1b: bind l1"), calls("n; l 0; n; l 1; l 0"));
+        let error = read("end:\nlabel\nbind 0").unwrap_err();
+        assert!(error.sentence.contains("label 0 is 'end'"), "{error}");
+        assert_eq!(
+            (error.place.line, error.notes[0].place.unwrap().line),
+            (3, 1)
+        );
+        fails("end: ; o 0 0 l0", 1, "label 0 is 'end'");
+    }
+
+    #[test]
+    fn names_are_given_once() {
+        let error = read("label end\nlabel end").unwrap_err();
+        assert!(error.sentence.contains("'end' is made already"), "{error}");
+        assert_eq!(
+            (error.place.line, error.notes[0].place.unwrap().line),
+            (2, 1)
+        );
+        fails("jmp end; label end", 1, "'end' is made already");
+        fails("2 ( label end )", 1, "as often as it is repeated");
+        fails("label 9x", 1, "'9x' is no name");
+        fails("a!: ", 1, "'a!' is no name");
+        fails(":", 1, "'' is no name");
+        fails("bind a!", 1, "'a!' is no label");
+        fails("l1: ; o 0 0 l1", 1, "and a label's name");
+        fails("n; n; o 0 0 l1; l1:", 1, "and a label's name");
+    }
+
+    #[test]
+    fn jumps_by_name_make_room_and_record_themselves() {
+        let expected = "n; b E900000000; j 0 5 0; b 90; b 0F8400000000; j 6 6 0 e; l 0";
+        assert_eq!(calls("jmp end; b 90; je end; end:"), calls(expected));
+        let conditions = "o no b ae e ne be a s ns p np l ge le g z nz c nc";
+        for condition in conditions.split(' ') {
+            let short = calls(&format!("n; j{condition} 0"));
+            let [
+                _,
+                _,
+                TextCall::Call(Call::Jump {
+                    condition: number, ..
+                }),
+            ] = short[..]
+            else {
+                panic!("{short:?}");
+            };
+            let code = 0x80 + number as u8;
+            let room = TextCall::Call(Call::Bytes([0x0F, code, 0, 0, 0, 0].into()));
+            assert_eq!(short[1], room, "{condition}");
+            assert_eq!(Condition::from_name(condition).unwrap().number(), number);
+        }
+        assert_eq!(calls("n; z 3; a 8; JMP 0")[4], calls("n; j 8 5 0")[1]);
+        fails("jmp", 1, "jmp takes LABEL, and nothing stands here");
+        fails("arch aarch64\njmp end", 2, "a jump of x86");
+    }
+
+    #[test]
+    fn jumps_in_groups_start_where_they_stand() {
+        let expected = "n; b E900000000; j 0 5 0; b 90; b E900000000; j 6 5 0; b 90; l 0";
+        assert_eq!(calls("2 ( jmp end; b 90 ) end:"), calls(expected));
+        assert_eq!(calls("2 ( 1 ( jmp end ; b 90 ) ) end:"), calls(expected));
+        assert_eq!(
+            calls("0 ( n; jmp end ) label x; bind x"),
+            calls("n; n; l 1")
+        );
+        assert_eq!(
+            calls("3 ( n; c; k 0 ) bind x; bind 3")[9..],
+            calls("n; l 4; l 3")
+        );
+    }
+
+    #[test]
+    fn jumps_on_x86_are_long_with_a_use() {
+        let read = |text| {
+            let push = |call, calls: &mut Vec<TextCall>| {
+                calls.push(call);
+                Ok(())
+            };
+            read_text(text, Some(Arch::X86), push).unwrap().calls
+        };
+        let expected = "n; b E900000000; u 1 0 0; b 0F8500000000; u 7 0 0; l 0";
+        assert_eq!(read("jmp end; jne end; end:"), read(expected));
     }
 }

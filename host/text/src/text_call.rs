@@ -1,9 +1,13 @@
 //! Calls, from a name and its arguments.
 
+use crate::labels::Labels;
+use crate::suggest::nearest;
+use crate::tokens::Token;
 use crate::words::{
-    bytes, condition, field_code, number, relocation_kind, relocation_target, signed,
+    LABEL_TARGET, bytes, condition, field_code, mnemonic, number, numbered_target, relocation_kind,
+    signed,
 };
-use crate::{Call, Condition};
+use crate::{Call, Condition, TextError, counted};
 
 /// What a text may say in the place of a call.
 #[derive(Clone, Debug, PartialEq, Eq)]
@@ -16,110 +20,292 @@ pub enum TextCall {
     Finish,
 }
 
+/// What a statement makes, wherever it comes to stand.
+#[derive(Clone)]
+pub(crate) enum Step {
+    /// The same call everywhere.
+    Call(TextCall),
+    /// A jump from wherever it stands, with the room that it needs.
+    Branch { label: u32, condition: u32 },
+}
+
+/// A word that may start a statement.
+struct Word {
+    long: &'static str,
+    short: &'static str,
+    /// Its arguments, and the most words that they are.
+    arguments: &'static str,
+    most: usize,
+}
+
+const fn word(
+    long: &'static str,
+    short: &'static str,
+    arguments: &'static str,
+    most: usize,
+) -> Word {
+    Word {
+        long,
+        short,
+        arguments,
+        most,
+    }
+}
+
+const WORDS: [Word; 15] = [
+    word("label", "n", "a NAME or nothing", 1),
+    word("bind", "l", "LABEL", 1),
+    word("bytes", "b", "HEX ..", usize::MAX),
+    word("zeros", "z", "COUNT", 1),
+    word("align", "a", "MULTIPLE", 1),
+    word("use", "u", "OFFSET LABEL CODE", 3),
+    word("ref", "r", "OFFSET LABEL CODE and perhaps ADDEND", 4),
+    word("jump", "j", "START LENGTH LABEL and perhaps CONDITION", 4),
+    word("jmp", "jmp", "LABEL", 1),
+    word("constant", "c", "HEX ..", usize::MAX),
+    word("constant-label", "k", "CONSTANT and perhaps NAME", 2),
+    word(
+        "relocation",
+        "o",
+        "OFFSET KIND TARGET and perhaps ADDEND",
+        4,
+    ),
+    word("finish", "f", "no arguments", 0),
+    word("arch", "arch", "one of x86, x64, aarch64", 1),
+    word("symbols", "symbols", "COUNT", 1),
+];
+
+/// The conditional jumps that stand for all others in what is suggested.
+const CONDITIONAL: [&str; 4] = ["je", "jne", "jl", "jge"];
+
+/// The calls, for whoever wrote one that is none.
+const ALL_CALLS: &str = "the calls are label, bind (or NAME:), bytes, zeros, align, use, ref, jump, jmp, je and the other conditions, \
+     constant, constant-label, relocation";
+
+/// The word that starts a statement, `jmp` for every jump's name.
+fn known_word(name: &str) -> Option<&'static Word> {
+    let name = if mnemonic(name).is_some() {
+        "jmp"
+    } else {
+        name
+    };
+    WORDS
+        .iter()
+        .find(|word| name == word.long || name == word.short)
+}
+
+/// Its long form.
+pub(crate) fn long_word(name: &str) -> Option<&'static str> {
+    known_word(name).map(|word| word.long)
+}
+
+/// The label that a statement mentions, by number or name; nothing for a relocation's target that is spelled as a number.
+pub(crate) fn mentioned_label<'a>(name: Token<'a>, words: &[Token<'a>]) -> Option<Token<'a>> {
+    if name.text.ends_with(':') {
+        return Some(name.without_colon());
+    }
+    match long_word(name.text)? {
+        "bind" | "jmp" => words.first().copied(),
+        "use" | "ref" => words.get(1).copied(),
+        "jump" => words.get(2).copied(),
+        "relocation" => words.get(2).copied().filter(|word| !is_numbered(*word)),
+        _ => None,
+    }
+}
+
+fn is_numbered(target: Token<'_>) -> bool {
+    !matches!(numbered_target(target), Ok(None))
+}
+
+/// A relocation's target that is spelled as a number.
+pub(crate) fn numbered_argument<'a>(name: Token<'a>, words: &[Token<'a>]) -> Option<Token<'a>> {
+    let is_relocation = long_word(name.text) == Some("relocation");
+    let target = words.get(2).copied().filter(|word| is_numbered(*word));
+    target.filter(|_| is_relocation)
+}
+
 /// What a name and its arguments say, or what is wrong with them.
-pub(crate) fn read_text_call(name: &str, words: &[&str]) -> Result<TextCall, String> {
-    match name {
-        "zeros" | "z" => one_number("zeros", "COUNT", words).map(TextCall::Zeros),
-        "finish" | "f" => match words {
-            [] => Ok(TextCall::Finish),
-            _ => Err("finish takes no arguments".into()),
-        },
-        _ => read_call(name, words).map(TextCall::Call),
+pub(crate) fn read_step(
+    name: Token<'_>,
+    words: &[Token<'_>],
+    labels: &Labels<'_>,
+) -> Result<Step, TextError> {
+    let arguments = Arguments {
+        name,
+        words,
+        labels,
+    };
+    let call = match long_word(name.text) {
+        Some("jmp") => return arguments.branch(),
+        Some("zeros") => TextCall::Zeros(number(arguments.one()?)?),
+        Some("finish") => {
+            arguments.none()?;
+            TextCall::Finish
+        }
+        Some(known) => TextCall::Call(arguments.call(known)?),
+        None => return Err(no_call(name)),
+    };
+    Ok(Step::Call(call))
+}
+
+pub(crate) fn no_call(name: Token<'_>) -> TextError {
+    let known = WORDS.iter().map(|word| word.long).chain(CONDITIONAL);
+    let meant =
+        nearest(name.text, known).map_or(String::new(), |near| format!("; did you mean '{near}'?"));
+    name.error(format!("{} is no call{meant}", name.quoted()))
+        .with_note(None, ALL_CALLS)
+}
+
+/// The arguments of a statement.
+pub(crate) struct Arguments<'t, 'a> {
+    pub name: Token<'a>,
+    pub words: &'t [Token<'a>],
+    pub labels: &'t Labels<'a>,
+}
+
+impl<'a> Arguments<'_, 'a> {
+    fn call(&self, name: &str) -> Result<Call, TextError> {
+        match name {
+            "label" => self.perhaps_one().map(|_| Call::NewLabel),
+            "bind" => self.label(self.one()?).map(Call::Bind),
+            "bytes" => bytes(self.words).map(Call::Bytes),
+            "align" => number(self.one()?).map(Call::Align),
+            "use" => self.read_use(),
+            "ref" => self.read_ref(),
+            "jump" => self.jump(),
+            "constant" => bytes(self.words).map(Call::Constant),
+            "constant-label" => {
+                let (constant, _) = self.one_and_perhaps_one()?;
+                number(constant).map(Call::ConstantLabel)
+            }
+            "relocation" => self.relocation(),
+            _ => Err(no_call(self.name)),
+        }
+    }
+
+    fn label(&self, word: Token<'_>) -> Result<u32, TextError> {
+        self.labels.number_of(word)
+    }
+
+    fn none(&self) -> Result<(), TextError> {
+        match self.words {
+            [] => Ok(()),
+            _ => Err(self.wrong()),
+        }
+    }
+
+    pub fn one(&self) -> Result<Token<'a>, TextError> {
+        match *self.words {
+            [word] => Ok(word),
+            _ => Err(self.wrong()),
+        }
+    }
+
+    pub fn perhaps_one(&self) -> Result<Option<Token<'a>>, TextError> {
+        match *self.words {
+            [] => Ok(None),
+            [word] => Ok(Some(word)),
+            _ => Err(self.wrong()),
+        }
+    }
+
+    pub fn one_and_perhaps_one(&self) -> Result<(Token<'a>, Option<Token<'a>>), TextError> {
+        match *self.words {
+            [first] => Ok((first, None)),
+            [first, second] => Ok((first, Some(second))),
+            _ => Err(self.wrong()),
+        }
+    }
+
+    fn three_and_perhaps_one(&self) -> Result<([Token<'a>; 3], Option<Token<'a>>), TextError> {
+        match *self.words {
+            [a, b, c] => Ok(([a, b, c], None)),
+            [a, b, c, d] => Ok(([a, b, c], Some(d))),
+            _ => Err(self.wrong()),
+        }
+    }
+
+    /// A wrong number of arguments: the first one too many is marked, or the name where one is missing.
+    fn wrong(&self) -> TextError {
+        let Some(known) = known_word(self.name.text) else {
+            return no_call(self.name);
+        };
+        let standing = match self.words.len() {
+            0 => "nothing stands here".into(),
+            1 => "1 word stands here".into(),
+            many => format!("{} stand here", counted(many, "word")),
+        };
+        let name = match known.long {
+            "jmp" => self.name.text,
+            long => long,
+        };
+        let at = self.words.get(known.most).unwrap_or(&self.name);
+        at.error(format!("{name} takes {}, and {standing}", known.arguments))
+    }
+
+    fn read_use(&self) -> Result<Call, TextError> {
+        let [offset, label, code] = *self.words else {
+            return Err(self.wrong());
+        };
+        Ok(Call::Use {
+            offset: number(offset)?,
+            label: self.label(label)?,
+            code: field_code(code)?,
+        })
+    }
+
+    fn read_ref(&self) -> Result<Call, TextError> {
+        let ([offset, label, code], addend) = self.three_and_perhaps_one()?;
+        Ok(Call::Ref {
+            offset: number(offset)?,
+            label: self.label(label)?,
+            code: field_code(code)?,
+            addend: addend.map_or(Ok(0), ref_addend)?,
+        })
+    }
+
+    fn jump(&self) -> Result<Call, TextError> {
+        let ([start, length, label], word) = self.three_and_perhaps_one()?;
+        Ok(Call::Jump {
+            start: number(start)?,
+            length: number(length)?,
+            label: self.label(label)?,
+            condition: word.map_or(Ok(Condition::NONE), condition)?,
+        })
+    }
+
+    fn branch(&self) -> Result<Step, TextError> {
+        Ok(Step::Branch {
+            label: self.label(self.one()?)?,
+            condition: mnemonic(self.name.text).unwrap_or(Condition::NONE),
+        })
+    }
+
+    fn relocation(&self) -> Result<Call, TextError> {
+        let ([offset, kind, target], addend) = self.three_and_perhaps_one()?;
+        Ok(Call::Relocation {
+            offset: number(offset)?,
+            kind: relocation_kind(kind)?,
+            target: self.target(target)?,
+            addend: addend.map_or(Ok(0), signed)?,
+        })
+    }
+
+    fn target(&self, word: Token<'_>) -> Result<u32, TextError> {
+        match numbered_target(word)? {
+            Some((0, symbol)) => Ok(symbol),
+            Some((first, label)) => Ok(first + self.labels.written(word, label)?),
+            None if self.labels.knows(word.text) => Ok(LABEL_TARGET + self.label(word)?),
+            None => Err(word.error(format!(
+                "{} is no target: write s and a symbol's number, l and a label's, or a label's name",
+                word.quoted()
+            ))),
+        }
     }
 }
 
-fn read_call(name: &str, words: &[&str]) -> Result<Call, String> {
-    match name {
-        "label" | "n" => match words {
-            [] => Ok(Call::NewLabel),
-            _ => Err("label takes no arguments; 'bind LABEL' binds one".into()),
-        },
-        "bind" | "l" => one_number("bind", "LABEL", words).map(Call::Bind),
-        "bytes" | "b" => bytes(words).map(Call::Bytes),
-        "align" | "a" => one_number("align", "MULTIPLE", words).map(Call::Align),
-        "use" | "u" => read_use(words),
-        "ref" | "r" => read_ref(words),
-        "jump" | "j" => read_jump(words),
-        "constant" | "c" => bytes(words).map(Call::Constant),
-        "constant-label" | "k" => {
-            one_number("constant-label", "CONSTANT", words).map(Call::ConstantLabel)
-        }
-        "relocation" | "o" => read_relocation(words),
-        _ => Err(format!("'{name}' is no call")),
-    }
-}
-
-fn one_number(name: &str, argument: &str, words: &[&str]) -> Result<u32, String> {
-    match words {
-        [word] => number(word),
-        _ => Err(wrong_arguments(name, argument, words)),
-    }
-}
-
-fn wrong_arguments(name: &str, arguments: &str, words: &[&str]) -> String {
-    format!("{name} takes {arguments}, and {} stand here", words.len())
-}
-
-fn read_use(words: &[&str]) -> Result<Call, String> {
-    let [offset, label, code] = words else {
-        return Err(wrong_arguments("use", "OFFSET LABEL CODE", words));
-    };
-    Ok(Call::Use {
-        offset: number(offset)?,
-        label: number(label)?,
-        code: field_code(code)?,
-    })
-}
-
-fn read_ref(words: &[&str]) -> Result<Call, String> {
-    let (offset, label, code, addend) = match words {
-        [offset, label, code] => (offset, label, code, "0"),
-        [offset, label, code, addend] => (offset, label, code, *addend),
-        _ => {
-            let arguments = "OFFSET LABEL CODE and perhaps ADDEND";
-            return Err(wrong_arguments("ref", arguments, words));
-        }
-    };
-    let addend = signed(addend)?;
-    Ok(Call::Ref {
-        offset: number(offset)?,
-        label: number(label)?,
-        code: field_code(code)?,
-        addend: i32::try_from(addend)
-            .map_err(|_| format!("a ref's addend has 32 bits, and {addend} has more"))?,
-    })
-}
-
-fn read_jump(words: &[&str]) -> Result<Call, String> {
-    let (start, length, label, jump_condition) = match words {
-        [start, length, label] => (start, length, label, Condition::NONE),
-        [start, length, label, word] => (start, length, label, condition(word)?),
-        _ => {
-            let arguments = "START LENGTH LABEL and perhaps CONDITION";
-            return Err(wrong_arguments("jump", arguments, words));
-        }
-    };
-    Ok(Call::Jump {
-        start: number(start)?,
-        length: number(length)?,
-        label: number(label)?,
-        condition: jump_condition,
-    })
-}
-
-fn read_relocation(words: &[&str]) -> Result<Call, String> {
-    let (offset, kind, target, addend) = match words {
-        [offset, kind, target] => (offset, kind, target, "0"),
-        [offset, kind, target, addend] => (offset, kind, target, *addend),
-        _ => {
-            let arguments = "OFFSET KIND TARGET and perhaps ADDEND";
-            return Err(wrong_arguments("relocation", arguments, words));
-        }
-    };
-    Ok(Call::Relocation {
-        offset: number(offset)?,
-        kind: relocation_kind(kind)?,
-        target: relocation_target(target)?,
-        addend: signed(addend)?,
-    })
+fn ref_addend(word: Token<'_>) -> Result<i32, TextError> {
+    let addend = signed(word)?;
+    i32::try_from(addend)
+        .map_err(|_| word.error(format!("a ref's addend has 32 bits, and {addend} has more")))
 }

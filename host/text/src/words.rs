@@ -1,110 +1,148 @@
-//! Arguments: numbers, names and bytes.
+//! Arguments: numbers, kinds and bytes.
 
 use std::sync::Arc;
 
-use crate::{Arch, Condition, LabelUse, Reloc};
+use crate::tokens::Token;
+use crate::{Arch, Condition, LabelUse, Reloc, TextError, counted, escaped};
 
 /// What is added to a label's number where it is the target of a relocation. Symbols and labels have numbers below it.
-const LABEL_TARGET: u32 = 1 << 31;
+pub(crate) const LABEL_TARGET: u32 = 1 << 31;
 
-pub(crate) fn architecture(word: &str) -> Result<Arch, String> {
-    Arch::from_name(word).ok_or_else(|| format!("'{word}' is none of x86, x64, aarch64"))
+pub(crate) fn architecture(word: Token<'_>) -> Result<Arch, TextError> {
+    Arch::from_name(word.text)
+        .ok_or_else(|| word.error(format!("{} is none of x86, x64, aarch64", word.quoted())))
 }
 
 pub(crate) fn starts_number(word: &str) -> bool {
     word.starts_with(|c: char| c.is_ascii_digit())
 }
 
-pub(crate) fn number(word: &str) -> Result<u32, String> {
-    let wide = unsigned(word)?;
-    u32::try_from(wide).map_err(|_| format!("{word} is above 4294967295"))
+pub(crate) fn number(word: Token<'_>) -> Result<u32, TextError> {
+    let wide = unsigned(word, word.text)?;
+    u32::try_from(wide).map_err(|_| word.error(format!("{} is above 4294967295", word.quoted())))
 }
 
-fn unsigned(word: &str) -> Result<u64, String> {
-    let hex = word.strip_prefix("0x").or_else(|| word.strip_prefix("0X"));
-    let (digits, radix) = hex.map_or((word, 10), |digits| (digits, 16));
+/// The number that some digits of a word spell.
+fn unsigned(word: Token<'_>, spelled: &str) -> Result<u64, TextError> {
+    let hex = spelled
+        .strip_prefix("0x")
+        .or_else(|| spelled.strip_prefix("0X"));
+    let (digits, radix) = hex.map_or((spelled, 10), |digits| (digits, 16));
     if digits.is_empty() || !digits.chars().all(|c| c.is_digit(radix)) {
-        return Err(format!(
-            "'{word}' is no number; one is decimal, or hexadecimal after 0x"
-        ));
+        return Err(word.error(format!(
+            "{} is no number; one is decimal, or hexadecimal after 0x",
+            word.quoted()
+        )));
     }
-    u64::from_str_radix(digits, radix).map_err(|_| format!("{word} is too large"))
+    u64::from_str_radix(digits, radix)
+        .map_err(|_| word.error(format!("{} is too large", word.quoted())))
 }
 
-pub(crate) fn signed(word: &str) -> Result<i64, String> {
-    let too_large = || format!("{word} passes 64 bits");
-    match word.strip_prefix('-') {
+pub(crate) fn signed(word: Token<'_>) -> Result<i64, TextError> {
+    let too_large = || word.error(format!("{} passes 64 bits", word.quoted()));
+    match word.text.strip_prefix('-') {
         Some(rest) => 0i64
-            .checked_sub_unsigned(unsigned(rest)?)
+            .checked_sub_unsigned(unsigned(word, rest)?)
             .ok_or_else(too_large),
-        None => i64::try_from(unsigned(word)?).map_err(|_| too_large()),
+        None => i64::try_from(unsigned(word, word.text)?).map_err(|_| too_large()),
     }
 }
 
 /// A number passes as it stands: whether there is such a code is for the verified library to say.
-pub(crate) fn field_code(word: &str) -> Result<u32, String> {
-    if starts_number(word) {
+pub(crate) fn field_code(word: Token<'_>) -> Result<u32, TextError> {
+    if starts_number(word.text) {
         return number(word);
     }
-    LabelUse::from_name(word)
+    LabelUse::from_name(word.text)
         .map(LabelUse::code)
-        .ok_or_else(|| format!("'{word}' is no code: write 0 to 16, or a name such as X86JmpRel32"))
-}
-
-pub(crate) fn relocation_kind(word: &str) -> Result<u32, String> {
-    if starts_number(word) {
-        return number(word);
-    }
-    Reloc::from_name(word)
-        .map(Reloc::number)
-        .ok_or_else(|| format!("'{word}' is no kind: write 0 to 27, or a name such as X86PCRel4"))
-}
-
-pub(crate) fn condition(word: &str) -> Result<u32, String> {
-    if starts_number(word) {
-        return number(word);
-    }
-    if let "always" | "none" | "jmp" = word {
-        return Ok(Condition::NONE);
-    }
-    Condition::from_name(word)
-        .or_else(|| Condition::from_name(word.strip_prefix('j')?))
-        .map(Condition::number)
         .ok_or_else(|| {
-            format!("'{word}' is no condition: write 0 to 16, or a name such as e, ne, l or always")
+            word.error(format!(
+                "{} is no code: write 0 to 16, or a name such as X86JmpRel32",
+                word.quoted()
+            ))
         })
 }
 
-pub(crate) fn relocation_target(word: &str) -> Result<u32, String> {
-    let (first, id) = match word.split_at_checked(1) {
-        Some(("s", id)) => (0, number(id)?),
-        Some(("l", id)) => (LABEL_TARGET, number(id)?),
-        _ => {
-            return Err(format!(
-                "'{word}' is no target: write s and a symbol's number, or l and a label's"
-            ));
-        }
-    };
-    if id >= LABEL_TARGET {
-        return Err(format!(
-            "'{word}' can't be named: targets have numbers below {LABEL_TARGET}"
-        ));
+pub(crate) fn relocation_kind(word: Token<'_>) -> Result<u32, TextError> {
+    if starts_number(word.text) {
+        return number(word);
     }
-    Ok(first + id)
+    Reloc::from_name(word.text)
+        .map(Reloc::number)
+        .ok_or_else(|| {
+            word.error(format!(
+                "{} is no kind: write 0 to 27, or a name such as X86PCRel4",
+                word.quoted()
+            ))
+        })
 }
 
-pub(crate) fn bytes(words: &[&str]) -> Result<Arc<[u8]>, String> {
-    let digits = words.concat();
-    if let Some(c) = digits.chars().find(|c| !c.is_ascii_hexdigit()) {
-        return Err(format!(
-            "'{c}' is no hexadecimal digit; bytes are written like 0F 1F 00"
-        ));
+/// The condition of a jump's name: `jmp`, or `j` and a condition.
+pub(crate) fn mnemonic(word: &str) -> Option<u32> {
+    if word.eq_ignore_ascii_case("jmp") {
+        return Some(Condition::NONE);
     }
-    if digits.len() % 2 != 0 {
-        return Err(format!(
-            "{} hexadecimal digits are no whole number of bytes",
-            digits.len()
-        ));
+    let condition = word.strip_prefix(['j', 'J'])?;
+    Condition::from_name(condition).map(Condition::number)
+}
+
+pub(crate) fn condition(word: Token<'_>) -> Result<u32, TextError> {
+    if starts_number(word.text) {
+        return number(word);
+    }
+    if let "always" | "none" = word.text {
+        return Ok(Condition::NONE);
+    }
+    Condition::from_name(word.text)
+        .map(Condition::number)
+        .or_else(|| mnemonic(word.text))
+        .ok_or_else(|| {
+            word.error(format!(
+                "{} is no condition: write 0 to 16, or a name such as e, ne, l or always",
+                word.quoted()
+            ))
+        })
+}
+
+/// The number in a relocation's target such as `s0` or `l0`, with what its letter adds; nothing if the word is not spelled so.
+pub(crate) fn numbered_target(word: Token<'_>) -> Result<Option<(u32, u32)>, TextError> {
+    let (first, digits) = match word.text.split_at_checked(1) {
+        Some(("s", digits)) => (0, digits),
+        Some(("l", digits)) => (LABEL_TARGET, digits),
+        _ => return Ok(None),
+    };
+    if !starts_number(digits) {
+        return Ok(None);
+    }
+    let id = unsigned(word, digits)?;
+    match u32::try_from(id) {
+        Ok(id) if id < LABEL_TARGET => Ok(Some((first, id))),
+        _ => Err(word.error(format!(
+            "{} can't be named: targets have numbers below {LABEL_TARGET}",
+            word.quoted()
+        ))),
+    }
+}
+
+pub(crate) fn bytes(words: &[Token<'_>]) -> Result<Arc<[u8]>, TextError> {
+    for word in words {
+        if let Some(c) = word.text.chars().find(|c| !c.is_ascii_hexdigit()) {
+            let c = escaped(c);
+            return Err(word.error(format!(
+                "'{c}' is no hexadecimal digit; bytes are written like 0F 1F 00"
+            )));
+        }
+    }
+    let digits: String = words.iter().map(|word| word.text).collect();
+    if !digits.len().is_multiple_of(2) {
+        let mut odd = words
+            .iter()
+            .filter(|word| !word.text.len().is_multiple_of(2));
+        let odd = odd.next().expect("an odd sum has an odd part");
+        let count = counted(digits.len(), "hexadecimal digit");
+        let is = if digits.len() == 1 { "is" } else { "are" };
+        let sentence = format!("{count} {is} no whole number of bytes");
+        return Err(odd.error(sentence));
     }
     let byte = |at| u8::from_str_radix(&digits[at..at + 2], 16).expect("two digits");
     Ok((0..digits.len()).step_by(2).map(byte).collect())

@@ -13,37 +13,7 @@ pub const JUMP: u32 = 1;
 pub const ALIGNMENT: u32 = 2;
 
 /// One call on a recording.
-pub enum Call<'a> {
-    Bytes(&'a [u8]),
-    NewLabel,
-    Bind(u32),
-    Align(u32),
-    Use {
-        offset: u32,
-        label: u32,
-        code: u32,
-    },
-    Ref {
-        offset: u32,
-        label: u32,
-        code: u32,
-        addend: i32,
-    },
-    Jump {
-        start: u32,
-        length: u32,
-        label: u32,
-        condition: u32,
-    },
-    Constant(&'a [u8]),
-    ConstantLabel(u32),
-    Relocation {
-        offset: u32,
-        kind: u32,
-        target: u32,
-        addend: i64,
-    },
-}
+pub type Call<'a> = wargnifla::Call<&'a [u8]>;
 
 /// A recording that calls are made on, once 1 to 4 are past.
 pub struct Recording<'a> {

@@ -1,0 +1,133 @@
+//! The rounds of relaxation: what each lengthened, and why.
+
+use std::fmt::Write;
+
+use sheet_text::counted;
+use wargnifla::{Change, Extent, Lengthened, Pooled, Recording, Round, Style};
+
+use super::input::Input;
+use super::report::MOST_LINES;
+
+/// Rounds, told with the lines that their jumps and alignments come from.
+pub struct RoundsReport<'a> {
+    input: &'a Input,
+    recording: &'a Recording,
+    pooled: Pooled,
+    /// The call that made each event of the recording.
+    calls: Vec<usize>,
+    style: Style,
+}
+
+impl<'a> RoundsReport<'a> {
+    pub fn new(input: &'a Input, recording: &'a Recording, style: Style) -> Self {
+        Self {
+            input,
+            recording,
+            pooled: recording.pooled(),
+            calls: input.event_calls(),
+            style,
+        }
+    }
+
+    pub fn text(&self, rounds: &[Round]) -> String {
+        let Some((last, others)) = rounds.split_last() else {
+            return "\nrounds\n          none: there is no jump to relax\n".into();
+        };
+        let mut out = String::from("\nrounds\n");
+        let shown = self.shown(others.len());
+        for (number, round) in (1..).zip(&others[..shown]) {
+            self.round(&mut out, number, round);
+        }
+        if shown < others.len() {
+            let left = counted(others.len() - shown, "more round");
+            let _ = writeln!(out, "          ... {left}");
+        }
+        self.round(&mut out, rounds.len(), last);
+        out
+    }
+
+    /// How many of some lines are shown.
+    fn shown(&self, lines: usize) -> usize {
+        match self.style.extent {
+            Extent::Brief if lines > MOST_LINES => MOST_LINES / 2,
+            _ => lines,
+        }
+    }
+
+    fn round(&self, out: &mut String, number: usize, round: &Round) {
+        let outcome = match round.lengthened.len() {
+            0 => "every short jump reaches: settled".into(),
+            1 => "1 jump becomes long".into(),
+            many => format!("{many} jumps become long"),
+        };
+        let len = counted(round.len as usize, "byte");
+        let _ = writeln!(out, "{number:>8}  {len}; {outcome}");
+        let shown = self.shown(round.lengthened.len());
+        for step in &round.lengthened[..shown] {
+            self.step(out, step);
+        }
+        if shown < round.lengthened.len() {
+            let left = counted(round.lengthened.len() - shown, "more jump");
+            let _ = writeln!(out, "          ... {left}");
+        }
+    }
+
+    fn step(&self, out: &mut String, step: &Lengthened) {
+        let offset = |at| self.style.offsets.text(at);
+        let _ = writeln!(
+            out,
+            "          {}: {} at {} less its own end at {} is {}, outside -128..127",
+            self.event(step.event),
+            self.recording.names.text(step.jump.label),
+            offset(step.target),
+            offset(step.end),
+            step.distance()
+        );
+        if step.crossed.is_empty() {
+            return;
+        }
+        let _ = writeln!(
+            out,
+            "            {} in round 1; since then, between the jump and its label,",
+            step.first_distance
+        );
+        let shown = self.shown(step.crossed.len());
+        for change in &step.crossed[..shown] {
+            let _ = writeln!(out, "              {}", self.change(change));
+        }
+        if shown < step.crossed.len() {
+            let left = counted(step.crossed.len() - shown, "more change");
+            let _ = writeln!(out, "              ... {left}");
+        }
+        if step.unexplained() != 0 {
+            let _ = writeln!(
+                out,
+                "              and padding by {} in all, in too many rounds to tell",
+                step.unexplained()
+            );
+        }
+    }
+
+    /// `jmp recorded at 5 (line 6) grew by 3 after round 1`: the round that made it long, or moved what it pads.
+    fn change(&self, change: &Change) -> String {
+        let verb = if change.by < 0 { "shrank" } else { "grew" };
+        format!(
+            "{} {verb} by {} after round {}",
+            self.event(change.event),
+            change.by.unsigned_abs(),
+            change.round - 1
+        )
+    }
+
+    /// An event with where it was recorded and the line that it comes from.
+    fn event(&self, index: usize) -> String {
+        let event = &self.pooled.events[index];
+        let start = self.style.offsets.text(event.start());
+        let what = event.mnemonic();
+        let Some(&call) = self.calls.get(index) else {
+            let constant = self.pooled.constants[index - self.recording.events.len()].constant;
+            return format!("{what} for constant {}", constant.id());
+        };
+        format!("{what} recorded at {start} ({})", self.input.where_is(call))
+    }
+}

@@ -1,0 +1,86 @@
+//! Notes of what was recorded and is not in the finished code.
+
+use std::fmt::Write;
+
+use sheet_text::counted;
+use wargnifla::{Arch, Call, CodeBufferFinalized, Unpatched, WhyUnpatched};
+
+use super::input::Input;
+
+/// A line for each kind of what finish did not write, with the lines of the sheet that it comes from.
+pub fn notes(input: &Input, finished: &CodeBufferFinalized) -> String {
+    let mut groups: Vec<Group> = Vec::new();
+    let mut jumps = input.calls_where(|call| matches!(call, Call::Jump { .. }));
+    let mut refs = input.calls_where(|call| matches!(call, Call::Ref { .. }));
+    let mut uses = input.calls_where(|call| matches!(call, Call::Use { .. }));
+    for entry in finished.unpatched() {
+        // Whatever is not patched, all calls of its kind are not: the nth entry of a kind is the nth call.
+        let call = match entry.call {
+            Call::Jump { .. } => jumps.next(),
+            Call::Ref { .. } => refs.next(),
+            _ => uses.next(),
+        };
+        match groups.iter_mut().find(|group| group.holds(entry)) {
+            Some(group) => group.calls.extend(call),
+            None => groups.push(Group::new(entry, call)),
+        }
+    }
+    let mut out = String::new();
+    for group in &groups {
+        let places = input.where_are(&group.calls);
+        let _ = writeln!(out, "note: {} ({places})", group.text(finished.arch()));
+    }
+    let is_not_kept = |group: &Group| group.why == WhyUnpatched::NotKept;
+    if let Some(note) = input
+        .unsaid_arch()
+        .filter(|_| groups.iter().any(is_not_kept))
+    {
+        let _ = writeln!(out, "{note}");
+    }
+    out
+}
+
+/// Entries of one kind.
+struct Group {
+    noun: &'static str,
+    why: WhyUnpatched,
+    filled: bool,
+    calls: Vec<usize>,
+}
+
+impl Group {
+    fn new(entry: &Unpatched, call: Option<usize>) -> Self {
+        Self {
+            noun: entry.call.name(),
+            why: entry.why,
+            filled: entry.filled,
+            calls: call.into_iter().collect(),
+        }
+    }
+
+    fn holds(&self, entry: &Unpatched) -> bool {
+        let key = (entry.call.name(), entry.why, entry.filled);
+        key == (self.noun, self.why, self.filled)
+    }
+
+    fn text(&self, arch: Arch) -> String {
+        let one = self.calls.len() == 1;
+        let is = if one { "is" } else { "are" };
+        let why = match self.why {
+            WhyUnpatched::NotKept => format!("not kept on {arch}"),
+            WhyUnpatched::NoJump => "not patched, since no jump stands".into(),
+            WhyUnpatched::BesideJump => "dropped, since a jump stands".into(),
+        };
+        let filled = match (self.filled, self.why, one) {
+            (false, ..) => "",
+            (true, WhyUnpatched::BesideJump, true) => ", but a ref or jump fills its field",
+            (true, WhyUnpatched::BesideJump, false) => ", but refs or jumps fill their fields",
+            (true, _, true) => ", but a use fills its field",
+            (true, _, false) => ", but uses fill their fields",
+        };
+        format!(
+            "{} {is} {why}{filled}",
+            counted(self.calls.len(), self.noun)
+        )
+    }
+}

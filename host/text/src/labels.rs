@@ -1,0 +1,157 @@
+//! The labels of a text: how many are made by a place in it, and their names.
+
+use std::collections::HashMap;
+
+use crate::tokens::Token;
+use crate::words::{number, starts_number};
+use crate::{Call, Span, TextError};
+
+/// The labels made by a place in a text.
+#[derive(Default)]
+pub(crate) struct Labels<'a> {
+    count: u32,
+    /// The label of each constant that was asked for.
+    asked: HashMap<u32, u32>,
+    named: HashMap<&'a str, Named>,
+    /// The names of labels that no call of the text makes, by number: their first mention does.
+    unwritten: HashMap<u32, &'a str>,
+}
+
+#[derive(Clone, Copy)]
+struct Named {
+    label: u32,
+    place: Span,
+}
+
+/// Whether a word may be a label's name: a letter, `_` or `.`, then letters, digits, `_`, `.` and `$`.
+pub(crate) fn is_name(word: &str) -> bool {
+    let first = |c: char| c.is_alphabetic() || matches!(c, '_' | '.');
+    let other = |c: char| first(c) || c.is_numeric() || c == '$';
+    word.starts_with(first) && word.chars().all(other)
+}
+
+/// A word that is to be a label's name.
+pub(crate) fn name<'a>(word: Token<'a>) -> Result<&'a str, TextError> {
+    if is_name(word.text) {
+        return Ok(word.text);
+    }
+    Err(word.error(format!(
+        "{} is no name: one is a letter, '_' or '.', then letters, digits, '_', '.' and '$'",
+        word.quoted()
+    )))
+}
+
+impl<'a> Labels<'a> {
+    /// Notes what a call makes.
+    pub fn note(&mut self, call: &Call) {
+        match call {
+            Call::NewLabel => self.count = self.count.saturating_add(1),
+            Call::ConstantLabel(constant) => {
+                let (asked, count) = (&mut self.asked, &mut self.count);
+                asked.entry(*constant).or_insert_with(|| {
+                    *count = count.saturating_add(1);
+                    *count - 1
+                });
+            }
+            _ => {}
+        }
+    }
+
+    /// Notes that calls which make so many labels stand there so many times more.
+    pub fn note_repeated(&mut self, new_labels: usize, times: usize) {
+        let more = u32::try_from(new_labels.saturating_mul(times)).unwrap_or(u32::MAX);
+        self.count = self.count.saturating_add(more);
+    }
+
+    /// Counts again, from calls of which some were left out.
+    pub fn recount<'c>(&mut self, calls: impl IntoIterator<Item = &'c Call>) {
+        self.count = 0;
+        self.asked.clear();
+        for call in calls {
+            self.note(call);
+        }
+    }
+
+    pub fn knows(&self, name: &str) -> bool {
+        self.named.contains_key(name)
+    }
+
+    /// Gives a name to the label that the next call makes.
+    pub fn name_next(&mut self, name: Token<'a>) -> Result<(), TextError> {
+        self.insert(name, self.count)
+    }
+
+    /// Gives a name to the label of a constant.
+    pub fn name_of_constant(&mut self, name: Token<'a>, constant: u32) -> Result<(), TextError> {
+        let label = self.asked.get(&constant).copied();
+        self.insert(name, label.unwrap_or(self.count))
+    }
+
+    /// Gives a name to the label that is made because it is first mentioned here.
+    pub fn name_unwritten(&mut self, name: Token<'a>) -> Result<(), TextError> {
+        self.unwritten.insert(self.count, name.text);
+        self.insert(name, self.count)
+    }
+
+    fn insert(&mut self, word: Token<'a>, label: u32) -> Result<(), TextError> {
+        let name = name(word)?;
+        if let Some(known) = self.named.get(name) {
+            let sentence = format!("the label {} is made already", word.quoted());
+            let note = "it is made where it is first named, here";
+            return Err(word.error(sentence).with_note(Some(known.place), note));
+        }
+        let place = word.place;
+        self.named.insert(name, Named { label, place });
+        Ok(())
+    }
+
+    /// The number of a label that is given by number or name.
+    pub fn number_of(&self, word: Token<'_>) -> Result<u32, TextError> {
+        if starts_number(word.text) {
+            return self.written(word, number(word)?);
+        }
+        match self.named.get(word.text) {
+            Some(named) => Ok(named.label),
+            None => Err(word.error(format!(
+                "{} is no label: write its number or its name",
+                word.quoted()
+            ))),
+        }
+    }
+
+    /// A label's number, unless the label was made for a name: whoever counts the calls that make labels does not count it.
+    pub fn written(&self, word: Token<'_>, label: u32) -> Result<u32, TextError> {
+        let Some(name) = self.unwritten.get(&label) else {
+            return Ok(label);
+        };
+        let sentence = format!("label {label} is '{name}', which no call makes: write its name");
+        let note = format!("its first mention, here, makes it; 'label {name}' before would too");
+        let place = self.named.get(name).map(|named| named.place);
+        Err(word.error(sentence).with_note(place, note))
+    }
+
+    /// Whether a word that spells a label's or symbol's number in a relocation is a label's name too.
+    pub fn check_target(&self, word: Token<'_>) -> Result<(), TextError> {
+        let Some(named) = self.named.get(word.text) else {
+            return Ok(());
+        };
+        let sentence = format!(
+            "{} is a number's spelling in a relocation, and a label's name: give the label another",
+            word.quoted()
+        );
+        Err(word
+            .error(sentence)
+            .with_note(Some(named.place), "the name is given here"))
+    }
+
+    /// Every name with its label's number.
+    pub fn names(self) -> Vec<(u32, String)> {
+        let mut names: Vec<(u32, String)> = self
+            .named
+            .into_iter()
+            .map(|(name, named)| (named.label, name.to_owned()))
+            .collect();
+        names.sort_unstable();
+        names
+    }
+}
