@@ -138,3 +138,32 @@ fn an_empty_sheet_changes_nothing() {
     buffer.run_sheet(&sheet).unwrap();
     assert_eq!(buffer.recording(), before);
 }
+
+/// How many bytes of its argument each kind uses, by document 01; those that bytes and constants count apart.
+const USED: [(u8, usize); 10] = [
+    (1, 4),
+    (2, 0),
+    (3, 4),
+    (4, 4),
+    (5, 12),
+    (6, 16),
+    (7, 16),
+    (8, 4),
+    (9, 4),
+    (10, 16),
+];
+
+#[test]
+fn an_unused_byte_of_any_kind_breaks_the_form() {
+    for (kind, used) in USED {
+        for unused in used..16 {
+            let mut sheet = vec![1, 0, 0, 0, kind];
+            sheet.extend([0; 16]);
+            sheet[5 + unused] = 1;
+            let mut buffer = CodeBuffer::new(Arch::X64);
+            let refused = buffer.run_sheet(&sheet).unwrap_err();
+            assert_eq!(refused.number(), 1, "kind {kind}, byte {unused}");
+            assert_eq!(buffer.label_count(), 0);
+        }
+    }
+}
