@@ -6,8 +6,8 @@
 //! Empty lines and lines that start with `#` say nothing.
 
 use crate::{
-    AARCH64, Answer, Call, DEPARTURES, Departure, X64, X86, added_refusal, first_departure,
-    read_text, run_calls,
+    AARCH64, Answer, Call, DEPARTURES, Departure, TextStep, X64, X86, added_refusal_of_text,
+    first_departure, read_text, run_steps,
 };
 
 pub struct Difference {
@@ -18,13 +18,13 @@ pub struct Difference {
     pub sheet: String,
     /// What the Rust is held to answer.
     pub answer: String,
-    calls: Vec<Call<'static>>,
+    steps: Vec<TextStep>,
 }
 
 impl Difference {
     /// What the Rust answers now. One symbol is there to be named.
     pub fn run(&self) -> Answer {
-        run_calls(self.arch_number(), 1, &self.calls)
+        run_steps(self.arch_number(), 1, &self.steps)
     }
 
     /// Whether the screen of the stored recordings turns this one away by
@@ -33,16 +33,22 @@ impl Difference {
     /// the screen does not know is that of a departure.
     pub fn is_screened(&self) -> bool {
         let arch = self.arch_number();
-        match (added_refusal(arch, 1, &self.calls), self.number) {
+        match (added_refusal_of_text(arch, 1, &self.steps), self.number) {
             (Some(4), 0 | 13 | 18) | (None, 0) => true,
-            (None, _) => first_departure(DEPARTURES, arch, &self.calls).is_some(),
+            (None, _) => first_departure(DEPARTURES, arch, &self.calls()).is_some(),
             (number, kept) => number == Some(kept),
         }
     }
 
     /// Whether this is the line that shows a departure.
     pub fn shows(&self, departure: &Departure) -> bool {
-        self.name == departure.name && (departure.is_met)(self.arch_number(), &self.calls)
+        self.name == departure.name && (departure.is_met)(self.arch_number(), &self.calls())
+    }
+
+    /// The calls, without the finishes amid them.
+    fn calls(&self) -> Vec<Call<'static>> {
+        let calls = self.steps.iter().filter_map(TextStep::call);
+        calls.cloned().collect()
     }
 
     fn arch_number(&self) -> u32 {
@@ -72,7 +78,7 @@ fn read_line(line: &str) -> Result<Difference, String> {
         arch: arch.into(),
         sheet: sheet.into(),
         answer: answer.trim().into(),
-        calls: read_text(sheet).map_err(|error| error.sentence)?.calls,
+        steps: read_text(sheet).map_err(|error| error.sentence)?.calls,
     })
 }
 

@@ -30,10 +30,10 @@ pub use differences::{Difference, read_differences};
 pub(crate) use error::AsmError;
 pub use error::Error;
 pub use recording::{Finished, Recording, Relocation};
-pub use run::{Answer, quietly, run_calls, run_sheet};
+pub use run::{Answer, quietly, run_calls, run_sheet, run_steps};
 pub use samples::samples;
-pub use screen::added_refusal;
-pub use sheet::{Call, Sheet, write_sheet};
+pub use screen::{added_refusal, added_refusal_of_text};
+pub use sheet::{Call, Sheet, TextStep, write_sheet};
 pub use sheet_text::Arch as TextArch;
 pub use text::{Script, TextError, read_text, read_text_for, write_text};
 

@@ -6,7 +6,7 @@ use std::process::ExitCode;
 
 use reference::{
     Answer, DEPARTURES, Difference, Script, Sheet, TextArch, X64, check_cases, read_differences,
-    read_list, read_text_for, run_calls, run_sheet, samples, write_list, write_sheet, write_text,
+    read_list, read_text_for, run_sheet, run_steps, samples, write_list, write_sheet, write_text,
 };
 
 const USAGE: &str = "\
@@ -124,12 +124,15 @@ fn text(words: &[&str]) -> Done {
     let named = script.arch.map(|arch| arch.number());
     let arch = options.arch.or(named).unwrap_or(X64);
     let symbols = options.symbols.or(script.symbols).unwrap_or(0);
-    print_answer(&run_calls(arch, symbols, &script.calls))
+    print_answer(&run_steps(arch, symbols, &script.calls))
 }
 
 fn sheet(file: &str) -> Done {
-    let sheet =
-        write_sheet(&read_script(file, None)?.calls).ok_or("a call does not fit a sheet")?;
+    let steps = read_script(file, None)?.calls;
+    let calls: Option<Vec<_>> = steps.iter().map(|step| step.call().cloned()).collect();
+    let sheet = calls
+        .and_then(|calls| write_sheet(&calls))
+        .ok_or("a call does not fit a sheet")?;
     print_bytes(&sheet)
 }
 

@@ -5,7 +5,7 @@ use std::fmt;
 use std::panic::{self, AssertUnwindSafe};
 use std::sync::Once;
 
-use crate::{Call, Error, Finished, LABEL_TARGET, Recording, Relocation, Sheet, UNBOUND};
+use crate::{Call, Error, Finished, LABEL_TARGET, Recording, Relocation, Sheet, TextStep, UNBOUND};
 
 /// What a recording answers: its first refusal, or what it finished to.
 pub struct Answer {
@@ -28,17 +28,23 @@ impl Answer {
 /// Runs a binary sheet and finishes if no call is refused.
 pub fn run_sheet(arch: u32, symbols: u32, bytes: &[u8]) -> Answer {
     match Sheet::read(bytes) {
-        Ok(sheet) => run(arch, symbols, sheet.calls()),
+        Ok(sheet) => run(arch, symbols, sheet.calls().map(Some)),
         Err(index) => Answer::refused(Error::Malformed, index),
     }
 }
 
 /// As [`run_sheet`], of calls at hand.
 pub fn run_calls(arch: u32, symbols: u32, calls: &[Call<'_>]) -> Answer {
-    run(arch, symbols, calls.iter().cloned())
+    run(arch, symbols, calls.iter().map(|call| Some(call.clone())))
 }
 
-fn run<'a>(arch: u32, symbols: u32, calls: impl Iterator<Item = Call<'a>>) -> Answer {
+/// As [`run_calls`], of what a text says.
+pub fn run_steps(arch: u32, symbols: u32, steps: &[TextStep]) -> Answer {
+    run(arch, symbols, steps.iter().map(|step| step.call().cloned()))
+}
+
+/// Runs calls; nothing, in the place of one, is a finish whose answer is dropped.
+fn run<'a>(arch: u32, symbols: u32, calls: impl Iterator<Item = Option<Call<'a>>>) -> Answer {
     // Where a panic happened is known only by the calls counted so far.
     let done = Cell::new(0);
     quietly(|| {
@@ -47,7 +53,11 @@ fn run<'a>(arch: u32, symbols: u32, calls: impl Iterator<Item = Call<'a>>) -> An
             Err(error) => return Answer::refused(error, 0),
         };
         for call in calls {
-            if let Err(error) = recording.call(&call) {
+            let answer = match call {
+                Some(call) => recording.call(&call),
+                None => recording.finish().map(|_| 0).or(Ok(0)),
+            };
+            if let Err(error) = answer {
                 return Answer::refused(error, done.get());
             }
             done.set(done.get() + 1);
@@ -99,10 +109,6 @@ impl Recording {
             } => self
                 .relocation(*offset, *kind, *target, *addend)
                 .map(|()| 0),
-            Call::Finish => {
-                let _dropped = self.finish();
-                Ok(0)
-            }
         }
     }
 }

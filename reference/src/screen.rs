@@ -4,7 +4,7 @@
 //! stored. Where an added refusal and one of the Rust's own meet in one call,
 //! the recording is turned away as well: that is stricter than needed.
 
-use crate::{Call, LABEL_TARGET, UNBOUND, X64};
+use crate::{Call, LABEL_TARGET, TextStep, UNBOUND, X64};
 
 const TABLE: usize = 65_536;
 const CODE: u64 = 16_777_216;
@@ -13,6 +13,21 @@ const CODE: u64 = 16_777_216;
 /// one, or at finish; nothing if there is none. Lent slices are taken to be
 /// as long as the limits allow.
 pub fn added_refusal(arch: u32, symbols: u32, calls: &[Call<'_>]) -> Option<u32> {
+    added(arch, symbols, calls.iter().map(Some))
+}
+
+/// As [`added_refusal`], of what a text says: whatever follows a finish is
+/// refused by 4.
+pub fn added_refusal_of_text(arch: u32, symbols: u32, steps: &[TextStep]) -> Option<u32> {
+    added(arch, symbols, steps.iter().map(TextStep::call))
+}
+
+/// Nothing in the place of a call is a finish.
+fn added<'c, 'b: 'c>(
+    arch: u32,
+    symbols: u32,
+    calls: impl Iterator<Item = Option<&'c Call<'b>>>,
+) -> Option<u32> {
     if ![1, 2, 6].contains(&arch) {
         return Some(2);
     }
@@ -22,7 +37,7 @@ pub fn added_refusal(arch: u32, symbols: u32, calls: &[Call<'_>]) -> Option<u32>
         ..State::default()
     };
     for call in calls {
-        match state.step(call) {
+        match call.map_or(Step::Added(4), |call| state.step(call)) {
             Step::Taken => {}
             Step::Added(number) => return Some(number),
             Step::Refused => return None,
@@ -85,7 +100,6 @@ impl State {
                 target,
                 ..
             } => self.relocation(*offset, *kind, *target),
-            Call::Finish => Step::Added(4),
         }
     }
 

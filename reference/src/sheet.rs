@@ -9,40 +9,25 @@ const LAST_CODE: u32 = 16;
 const LAST_RELOC: u32 = 27;
 
 /// One call on a recording.
+pub type Call<'a> = sheet_text::Call<Cow<'a, [u8]>>;
+
+/// What a text may say here: a call, or a finish whose answer is dropped. No
+/// sheet holds the latter; docs/DIFFERENCES.md needs it to show what the Rust
+/// keeps of one.
 #[derive(Clone, Debug, PartialEq, Eq)]
-pub enum Call<'a> {
-    Bytes(Cow<'a, [u8]>),
-    NewLabel,
-    Bind(u32),
-    Align(u32),
-    Use {
-        offset: u32,
-        label: u32,
-        code: u32,
-    },
-    Ref {
-        offset: u32,
-        label: u32,
-        code: u32,
-        addend: i32,
-    },
-    Jump {
-        start: u32,
-        length: u32,
-        label: u32,
-        condition: u32,
-    },
-    Constant(Cow<'a, [u8]>),
-    ConstantLabel(u32),
-    Relocation {
-        offset: u32,
-        kind: u32,
-        target: u32,
-        addend: i64,
-    },
-    /// A finish whose answer is dropped. No sheet holds it; docs/DIFFERENCES.md
-    /// needs it to show what the Rust keeps of one.
+pub enum TextStep {
+    Call(Call<'static>),
     Finish,
+}
+
+impl TextStep {
+    /// The call, if it is one.
+    pub fn call(&self) -> Option<&Call<'static>> {
+        match self {
+            Self::Call(call) => Some(call),
+            Self::Finish => None,
+        }
+    }
 }
 
 /// A sheet whose form is right.
@@ -162,41 +147,40 @@ pub fn write_sheet(calls: &[Call<'_>]) -> Option<Vec<u8>> {
 }
 
 fn entry(call: &Call<'_>) -> Option<(u8, [u8; 16])> {
-    Some(match call {
-        Call::Bytes(data) => (1, data_argument(data)?),
-        Call::NewLabel => (2, argument([0; 4])),
-        Call::Bind(label) => (3, argument([*label, 0, 0, 0])),
-        Call::Align(multiple) => (4, argument([*multiple, 0, 0, 0])),
+    let argument = match *call {
+        Call::Bytes(ref data) | Call::Constant(ref data) => data_argument(data)?,
+        Call::NewLabel => argument([0; 4]),
+        Call::Bind(number) | Call::Align(number) | Call::ConstantLabel(number) => {
+            argument([number, 0, 0, 0])
+        }
         Call::Use {
             offset,
             label,
             code,
-        } => (5, argument([*offset, *label, *code, 0])),
+        } => argument([offset, label, code, 0]),
         Call::Ref {
             offset,
             label,
             code,
             addend,
-        } => (6, argument([*offset, *label, *code, *addend as u32])),
+        } => argument([offset, label, code, addend as u32]),
         Call::Jump {
             start,
             length,
             label,
             condition,
-        } => (7, argument([*start, *length, *label, *condition])),
-        Call::Constant(data) => (8, data_argument(data)?),
-        Call::ConstantLabel(constant) => (9, argument([*constant, 0, 0, 0])),
+        } => argument([start, length, label, condition]),
         Call::Relocation {
             offset,
             kind,
             target,
             addend,
         } => {
-            let addend = i32::try_from(*addend).ok()?;
-            (10, argument([*offset, *kind, *target, addend as u32]))
+            let addend = i32::try_from(addend).ok()?;
+            argument([offset, kind, target, addend as u32])
         }
-        Call::Finish => return None,
-    })
+    };
+    Some((call.kind(), argument))
 }
 
 fn argument(words: [u32; 4]) -> [u8; 16] {

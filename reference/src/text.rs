@@ -8,12 +8,12 @@ use std::fmt::Write;
 use sheet_text::{Arch, Call as Read, TextCall};
 
 use crate::sheet::SHEET_BYTES;
-use crate::{Call, LABEL_TARGET};
+use crate::{Call, LABEL_TARGET, TextStep};
 
 pub use sheet_text::TextError;
 
 /// What a text says.
-pub type Script = sheet_text::Script<Call<'static>>;
+pub type Script = sheet_text::Script<TextStep>;
 
 /// Reads a text, or says what is wrong with it.
 pub fn read_text(text: &str) -> Result<Script, TextError> {
@@ -22,87 +22,42 @@ pub fn read_text(text: &str) -> Result<Script, TextError> {
 
 /// Reads a text for an architecture, whatever the text says, if one is given.
 pub fn read_text_for(arch: Option<Arch>, text: &str) -> Result<Script, TextError> {
-    sheet_text::read_text(text, arch, |call, calls| {
+    sheet_text::read_text(text, arch, |call, steps| {
         match call {
-            TextCall::Call(call) => append_call(call, calls),
-            TextCall::Zeros(count) => append_zeros(count as usize, calls),
-            TextCall::Finish => calls.push(Call::Finish),
+            TextCall::Call(Read::Bytes(bytes)) => append_bytes(&bytes, steps),
+            TextCall::Call(call) => {
+                let owned = call.map_bytes(|bytes| Cow::Owned(bytes.to_vec()));
+                steps.push(TextStep::Call(owned));
+            }
+            TextCall::Zeros(count) => append_zeros(count as usize, steps),
+            TextCall::Finish => steps.push(TextStep::Finish),
         }
         Ok(())
     })
 }
 
-fn append_call(read: Read, calls: &mut Vec<Call<'static>>) {
-    let call = match read {
-        Read::Bytes(bytes) => return append_bytes(&bytes, calls),
-        Read::NewLabel => Call::NewLabel,
-        Read::Bind(label) => Call::Bind(label),
-        Read::Align(multiple) => Call::Align(multiple),
-        Read::Use {
-            offset,
-            label,
-            code,
-        } => Call::Use {
-            offset,
-            label,
-            code,
-        },
-        Read::Ref {
-            offset,
-            label,
-            code,
-            addend,
-        } => Call::Ref {
-            offset,
-            label,
-            code,
-            addend,
-        },
-        Read::Jump {
-            start,
-            length,
-            label,
-            condition,
-        } => Call::Jump {
-            start,
-            length,
-            label,
-            condition,
-        },
-        Read::Constant(bytes) => Call::Constant(Cow::Owned(bytes.to_vec())),
-        Read::ConstantLabel(constant) => Call::ConstantLabel(constant),
-        Read::Relocation {
-            offset,
-            kind,
-            target,
-            addend,
-        } => Call::Relocation {
-            offset,
-            kind,
-            target,
-            addend,
-        },
-    };
-    calls.push(call);
-}
-
 /// One call at least, so that `b` alone is a call of no bytes.
-fn append_bytes(bytes: &[u8], calls: &mut Vec<Call<'static>>) {
+fn append_bytes(bytes: &[u8], steps: &mut Vec<TextStep>) {
     let (first, rest) = bytes.split_at(bytes.len().min(SHEET_BYTES));
-    calls.push(Call::Bytes(Cow::Owned(first.to_vec())));
-    for part in rest.chunks(SHEET_BYTES) {
-        calls.push(Call::Bytes(Cow::Owned(part.to_vec())));
-    }
+    let mut push = |part: &[u8]| {
+        let call = Call::Bytes(Cow::Owned(part.to_vec()));
+        steps.push(TextStep::Call(call));
+    };
+    push(first);
+    rest.chunks(SHEET_BYTES).for_each(push);
 }
 
-fn append_zeros(count: usize, calls: &mut Vec<Call<'static>>) {
+fn append_zeros(count: usize, steps: &mut Vec<TextStep>) {
     const ZEROS: [u8; SHEET_BYTES] = [0; SHEET_BYTES];
+    let mut push = |length: usize| {
+        let call = Call::Bytes(Cow::Borrowed(&ZEROS[..length]));
+        steps.push(TextStep::Call(call));
+    };
     for _ in 0..count / SHEET_BYTES {
-        calls.push(Call::Bytes(Cow::Borrowed(&ZEROS)));
+        push(SHEET_BYTES);
     }
-    let rest = count % SHEET_BYTES;
-    if rest > 0 {
-        calls.push(Call::Bytes(Cow::Borrowed(&ZEROS[..rest])));
+    if count % SHEET_BYTES > 0 {
+        push(count % SHEET_BYTES);
     }
 }
 
@@ -162,7 +117,6 @@ fn write_call(call: &Call<'_>) -> String {
             Some(label) => format!("o {offset} {kind} l{label} {addend}"),
             None => format!("o {offset} {kind} s{target} {addend}"),
         },
-        Call::Finish => "f".into(),
     }
 }
 

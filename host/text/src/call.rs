@@ -96,4 +96,80 @@ impl<B> Call<B> {
     pub const fn name(&self) -> &'static str {
         CALL_NAMES[self.kind() as usize - 1]
     }
+
+    /// The same call with its bytes held otherwise.
+    pub fn map_bytes<C>(self, map: impl FnOnce(B) -> C) -> Call<C> {
+        match self {
+            Self::Bytes(bytes) => Call::Bytes(map(bytes)),
+            Self::NewLabel => Call::NewLabel,
+            Self::Bind(label) => Call::Bind(label),
+            Self::Align(multiple) => Call::Align(multiple),
+            Self::Use {
+                offset,
+                label,
+                code,
+            } => Call::Use {
+                offset,
+                label,
+                code,
+            },
+            Self::Ref {
+                offset,
+                label,
+                code,
+                addend,
+            } => Call::Ref {
+                offset,
+                label,
+                code,
+                addend,
+            },
+            Self::Jump {
+                start,
+                length,
+                label,
+                condition,
+            } => Call::Jump {
+                start,
+                length,
+                label,
+                condition,
+            },
+            Self::Constant(bytes) => Call::Constant(map(bytes)),
+            Self::ConstantLabel(constant) => Call::ConstantLabel(constant),
+            Self::Relocation {
+                offset,
+                kind,
+                target,
+                addend,
+            } => Call::Relocation {
+                offset,
+                kind,
+                target,
+                addend,
+            },
+        }
+    }
+}
+
+#[cfg(test)]
+mod tests {
+    use crate::{Call, TextCall, read_text};
+
+    #[test]
+    fn a_call_stays_the_same_however_it_holds_its_bytes() {
+        let text = "n; l 0; b 0102; a 4; u 1 0 1; r 1 0 0 -4; j 0 5 0 e; c 07; k 0; o 4 1 l0 -9";
+        let read = read_text(text, None, |call, calls| {
+            calls.push(call);
+            Ok(())
+        });
+        for call in read.unwrap().calls {
+            let TextCall::Call(call) = call else {
+                panic!("{call:?} is no call");
+            };
+            let held: Call<Vec<u8>> = call.clone().map_bytes(|bytes| bytes.to_vec());
+            assert_eq!(held.name(), call.name());
+            assert_eq!(held.map_bytes(Into::into), call);
+        }
+    }
 }

@@ -127,7 +127,7 @@ impl Room {
                 self.add(Part::Output, 16 + 64);
             }
             Call::Relocation { .. } => self.add(Part::Relocations, 1),
-            Call::Bind(_) | Call::Finish => {}
+            Call::Bind(_) => {}
         }
     }
 
