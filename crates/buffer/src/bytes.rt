@@ -126,7 +126,7 @@ impl CodeBuffer {
     }
 
     // Pads the code to a multiple.
-    pub fn try_align_to(self, code: &mut [u8], events: &mut [u8], multiple: u32) -> Recorded
+    pub fn try_align_to(mut self, code: &mut [u8], events: &mut [u8], multiple: u32) -> Recorded
         ensures { λ r. ⌜ (r, (now (code .exit), now (events .exit))) ≡ alignTo self (now (code .entry)) (now (events .entry)) multiple ⌝ }
     {
         let why = self.why_not_align(code.len(), events.len() / relax::EVENT_SIZE, multiple);

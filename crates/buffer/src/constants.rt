@@ -127,7 +127,7 @@ impl CodeBuffer {
 
     // The constant's label, made where this is the first asking.
     pub fn get_label_for_constant(
-        self,
+        mut self,
         constants: &mut [u8],
         asked: &mut [u8],
         labels: &mut [u8],

@@ -60,7 +60,7 @@ impl CodeBuffer {
     }
 
     // Binds a label to the current offset.
-    pub fn try_bind_label(self, labels: &mut [u8], label: u32) -> Recorded
+    pub fn try_bind_label(mut self, labels: &mut [u8], label: u32) -> Recorded
         ensures { λ r. ⌜ (r, now (labels .exit)) ≡ bindLabel self (now (labels .entry)) label ⌝ }
     {
         let why = self.why_not_bind(labels, label);
