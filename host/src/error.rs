@@ -148,14 +148,6 @@ impl fmt::Display for Error {
 
 impl std::error::Error for Error {}
 
-/// A number of things: `0 labels`, `1 label`, `2 labels`.
-pub(crate) fn counted(number: usize, noun: &str) -> String {
-    match number {
-        1 => format!("1 {noun}"),
-        _ => format!("{number} {noun}s"),
-    }
-}
-
 #[cfg(test)]
 mod tests {
     use super::*;

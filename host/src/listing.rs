@@ -3,7 +3,6 @@
 use std::fmt::Write;
 use std::ops::Range;
 
-use crate::error::counted;
 use crate::recording::{
     AsmReloc, Label, LabelNames, LayoutEvent, Pooled, Recording, RelaxableJump, RelocTarget,
 };
@@ -11,6 +10,7 @@ use crate::relax::map;
 use crate::{
     Arch, Call, CodeBufferFinalized, CodeOffset, LabelUse, UNBOUND, Unpatched, WhyUnpatched,
 };
+use sheet_text::counted;
 
 /// Bytes in a line; x86 padding has lines of 9, the longest NOP.
 const LINE: usize = 8;

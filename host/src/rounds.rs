@@ -4,11 +4,11 @@
 use std::fmt;
 use std::ops::Range;
 
-use crate::error::counted;
 use crate::ffi::Segment;
 use crate::recording::{LayoutEvent, Pooled, Recording, RelaxableJump};
 use crate::relax::{deciding, layout, map, moved};
 use crate::{CodeBufferFinalized, CodeOffset};
+use sheet_text::counted;
 
 /// A jump that a round made long, and why.
 #[derive(Clone, Debug, PartialEq, Eq)]

@@ -6,9 +6,9 @@ use std::sync::Arc;
 use sheet_text::CALL_NAMES;
 
 use crate::call::{MOST_BYTES, argument, bytes_argument, known_code, known_kind};
-use crate::error::counted;
 use crate::tables::Room;
 use crate::{Arch, Call, RelocTarget};
+use sheet_text::counted;
 
 /// A call that no sheet can carry.
 #[derive(Clone, Debug, PartialEq, Eq)]

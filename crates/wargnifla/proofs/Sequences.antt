@@ -19,7 +19,7 @@ use Rattle.recording.proofs.Words.{Words, call-words, calls-words, start-words}
 use Rattle.finish.specs.Finish.{bytesOfAll, overWords}
 use Rattle.sheet.specs.Run as sheets
 use Rattle.sheet.proofs.Sheets.{sheet-makes-calls}
-use Rattle.wargnifla.specs.Boundary.{countsSize, countsAt, countsOf, Lent, recordingIn, lentWith, start, putBytes, addConstant, addReloc, runSheet}
+use Rattle.wargnifla.specs.Boundary.{countsSize, countsAt, countsOf, Lent, lentOf, recordingIn, lentWith, start, putBytes, addConstant, addReloc, runSheet}
 use Rattle.wargnifla.specs.Sequences.{afterStart, afterBytes, afterConstant, afterReloc, Recorded, starts, sheet, bytes, constant, relocation, grows}
 use Rattle.wargnifla.proofs.Counts.{counts-read}
 
@@ -52,7 +52,7 @@ begunIn arch symbols m =
 start-left : (arch symbols : Word) (m : Lent) → countsSize ≤ length (m .counts) → afterStart arch symbols m ≡ lentWith (m .counts) (begunIn arch symbols m)
 unfolding start
 start-left arch symbols m room =
-    ap (λ (a : ℕ × List ℕ). record { counts = a .1; code = m .code; labels = m .labels; events = m .events; uses = m .uses; refs = m .refs; constants = m .constants; asked = m .asked; relocs = m .relocs })
+    ap (λ (a : ℕ × List ℕ). lentOf (a .1) (m .code) (m .labels) (m .events) (m .uses) (m .refs) (m .constants) (m .asked) (m .relocs))
     (no-lt {A = ℕ × List ℕ} (length (m .counts)) countsSize _ _ room)
 
 sheet-left : (s : List ℕ) (m : Lent) → countsSize ≤ length (m .counts) → runSheet s m .1 ≡ lentWith (m .counts) (sheets.runSheet s (recordingIn m) .1)
@@ -62,21 +62,21 @@ sheet-left s m room = ap (λ (a : (ℕ × ℕ) × Lent). a .1) (no-lt {A = (ℕ 
 bytes-left : (bs : List ℕ) (m : Lent) → countsSize ≤ length (m .counts) → afterBytes bs m ≡ lentWith (m .counts) (after (call.bytes bs) (recordingIn m))
 unfolding putBytes
 bytes-left bs m room =
-    ap (λ (a : ℕ × (List ℕ × List ℕ)). record { counts = a .1 .0; code = a .1 .1; labels = m .labels; events = m .events; uses = m .uses; refs = m .refs; constants = m .constants; asked = m .asked; relocs = m .relocs })
+    ap (λ (a : ℕ × (List ℕ × List ℕ)). lentOf (a .1 .0) (a .1 .1) (m .labels) (m .events) (m .uses) (m .refs) (m .constants) (m .asked) (m .relocs))
     (no-lt {A = ℕ × (List ℕ × List ℕ)} (length (m .counts)) countsSize _ _ room)
 
 constant-left : (bs : List ℕ) (m : Lent) → countsSize ≤ length (m .counts)
     → afterConstant bs m ≡ lentWith (m .counts) (after (call.constant bs) (recordingIn m))
 unfolding addConstant
 constant-left bs m room =
-    ap (λ (a : ℕ × (List ℕ × (List ℕ × ℕ))). record { counts = a .1 .0; code = m .code; labels = m .labels; events = m .events; uses = m .uses; refs = m .refs; constants = a .1 .1 .0; asked = m .asked; relocs = m .relocs })
+    ap (λ (a : ℕ × (List ℕ × (List ℕ × ℕ))). lentOf (a .1 .0) (m .code) (m .labels) (m .events) (m .uses) (m .refs) (a .1 .1 .0) (m .asked) (m .relocs))
     (no-lt {A = ℕ × (List ℕ × (List ℕ × ℕ))} (length (m .counts)) countsSize _ _ room)
 
 reloc-left : (o k t : Word) (d : Word64) (m : Lent) → countsSize ≤ length (m .counts)
     → afterReloc o k t d m ≡ lentWith (m .counts) (after (call.relocation o k t d) (recordingIn m))
 unfolding addReloc
 reloc-left o k t d m room =
-    ap (λ (a : ℕ × (List ℕ × List ℕ)). record { counts = a .1 .0; code = m .code; labels = m .labels; events = m .events; uses = m .uses; refs = m .refs; constants = m .constants; asked = m .asked; relocs = a .1 .1 })
+    ap (λ (a : ℕ × (List ℕ × List ℕ)). lentOf (a .1 .0) (m .code) (m .labels) (m .events) (m .uses) (m .refs) (m .constants) (m .asked) (a .1 .1))
     (no-lt {A = ℕ × (List ℕ × List ℕ)} (length (m .counts)) countsSize _ _ room)
 
 -- Everything that a C program makes is good.

@@ -6,68 +6,29 @@ use Prim.Native.Nat.{ℕ, _≤_}
 use lib.ListN.{length}
 use Rattle.recording.specs.Calls.{Word, Word64}
 use Rattle.recording.specs.Sequences.{Grown}
-use Rattle.wargnifla.specs.Boundary.{countsSize, Lent, recordingIn, start, putBytes, addConstant, addReloc, runSheet}
+use Rattle.wargnifla.specs.Boundary.{countsSize, Lent, lentOf, recordingIn, start, putBytes, addConstant, addReloc, runSheet}
 
 -- what is lent, after each function
 abbrev pub afterStart : Word → Word → Lent → Lent
 afterStart arch symbols l =
-    record {
-      counts = start (arch .value) (symbols .value) (l .counts) .1;
-      code = l .code;
-      labels = l .labels;
-      events = l .events;
-      uses = l .uses;
-      refs = l .refs;
-      constants = l .constants;
-      asked = l .asked;
-      relocs = l .relocs;
-    }
+    let a = start (arch .value) (symbols .value) (l .counts) in
+    lentOf (a .1) (l .code) (l .labels) (l .events) (l .uses) (l .refs) (l .constants) (l .asked) (l .relocs)
 
 abbrev pub afterBytes : List ℕ → Lent → Lent
 afterBytes bytes l =
     let a = putBytes (l .counts) (l .code) bytes in
-    record {
-      counts = a .1 .0;
-      code = a .1 .1;
-      labels = l .labels;
-      events = l .events;
-      uses = l .uses;
-      refs = l .refs;
-      constants = l .constants;
-      asked = l .asked;
-      relocs = l .relocs;
-    }
+    lentOf (a .1 .0) (a .1 .1) (l .labels) (l .events) (l .uses) (l .refs) (l .constants) (l .asked) (l .relocs)
 
 abbrev pub afterConstant : List ℕ → Lent → Lent
 afterConstant bytes l =
     let a = addConstant (l .counts) (l .constants) bytes in
-    record {
-      counts = a .1 .0;
-      code = l .code;
-      labels = l .labels;
-      events = l .events;
-      uses = l .uses;
-      refs = l .refs;
-      constants = a .1 .1 .0;
-      asked = l .asked;
-      relocs = l .relocs;
-    }
+    lentOf (a .1 .0) (l .code) (l .labels) (l .events) (l .uses) (l .refs) (a .1 .1 .0) (l .asked) (l .relocs)
 
 -- offset, kind, target, addend
 abbrev pub afterReloc : Word → Word → Word → Word64 → Lent → Lent
 afterReloc o k t d l =
     let a = addReloc (l .counts) (l .relocs) (o .value) (k .value) (t .value) (d .value) in
-    record {
-      counts = a .1 .0;
-      code = l .code;
-      labels = l .labels;
-      events = l .events;
-      uses = l .uses;
-      refs = l .refs;
-      constants = l .constants;
-      asked = l .asked;
-      relocs = a .1 .1;
-    }
+    lentOf (a .1 .0) (l .code) (l .labels) (l .events) (l .uses) (l .refs) (l .constants) (l .asked) (a .1 .1)
 
 -- what may be lent once a recording is started in bytes that hold counts
 pub data Recorded : Lent → Type 0 where

@@ -2,10 +2,10 @@
 
 use super::{NO_REASON, named_event};
 use crate::call::broken_form;
-use crate::error::counted;
 use crate::recording::{Label, RelocTarget};
 use crate::tables::Tables;
 use crate::{Call, Condition, LabelUse, MOST_CONSTANT, MOST_ENTRIES, Reloc};
+use sheet_text::counted;
 
 /// Why a recording call was turned down.
 pub(crate) fn explain_call(tables: &Tables, call: &Call, number: u32) -> String {

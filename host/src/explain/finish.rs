@@ -1,13 +1,13 @@
 //! Refused finishes.
 
 use super::{NO_REASON, named_event};
-use crate::error::counted;
 use crate::ffi::Segment;
 use crate::recording::{
     AsmFixup, Label, LabelNames, LabelRef, LayoutEvent, Pooled, Recording, RelocTarget,
 };
 use crate::relax::map;
 use crate::{CodeOffset, Entry, LabelUse, Reach, UNBOUND};
+use sheet_text::counted;
 
 /// Why finish was turned down, and the entry that it was turned down for. `segments` is what finish left there.
 pub(crate) fn explain_finish(
