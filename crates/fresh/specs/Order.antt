@@ -1,4 +1,4 @@
--- Recordings in good order: events that follow one another, and offsets that lie strictly inside none of them. Finish refuses any other.
+-- Recordings in good order: events that follow one another, and offsets that lie strictly inside none of them. With a jump finish refuses any other.
 use mathlib.Core.Path.{_≡_}
 use mathlib.Core.Logic.{_⊎_, _≢_}
 use mathlib.Core.List.{List, [], _∷_}
@@ -41,7 +41,7 @@ unfoldable pub PoolLies : Pooled → List Placed → Type 0
 PoolLies p [] = Unit {0}
 PoolLies p (k ∷ ks) = Lies p (k .offset) × PoolLies p ks
 
--- what holds of a recording that finish does not refuse
+-- what holds of a recording with a jump that finish does not refuse
 pub record WellFormed (p : Pooled) : Type 0 where
   pub ordered : Ordered 0 (length (p .code)) (p .events)
   pub landed : (l : ℕ) → getD (p .labels) l none ≢ none → Lies p (getD (p .labels) l none)

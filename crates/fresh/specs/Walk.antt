@@ -1,5 +1,5 @@
--- Where the walk stands: document 01, "the count of the bytes that the walk has written where it stands on the recorded offset with all events of length 0
--- there passed". `walk-stands` says that `moved` is so.
+-- Where the walk stands: document 01, "takes the new offset at which the walk stands on its recorded one with all events of length 0 there passed".
+-- `walk-stands` says that `moved` is so.
 use mathlib.Core.Path.{_≡_}
 use mathlib.Core.List.{List, [], _∷_}
 use Prim.Native.Nat.{ℕ, suc, _+_, _<_}

@@ -93,6 +93,6 @@ labelTooFarBack = 22
 abbrev pub outputTooSmall : ℕ
 outputTooSmall = 23
 
--- refusals from here on are recorded; `alreadyBound` is not
+-- of what recording calls refuse by, the numbers from here on are recorded, but for a bind's
 abbrev pub firstRecorded : ℕ
 firstRecorded = unsupportedUse

@@ -69,5 +69,5 @@ pub const LABEL_TOO_FAR_BACK: u32 = 22;
 // The finished code exceeds the lent output.
 pub const OUTPUT_TOO_SMALL: u32 = 23;
 
-// Refusals from here on are recorded; `ALREADY_BOUND` is not.
+// Of what recording calls refuse by, the numbers from here on are recorded, but for a bind's.
 pub const FIRST_RECORDED: u32 = UNSUPPORTED_USE;
