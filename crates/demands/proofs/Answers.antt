@@ -1,24 +1,20 @@
 -- What a finish that answers 0 has found and left.
 use mathlib.Core.Path.{_≡_, refl, sym, ap, _∙_, subst}
 use mathlib.Core.Logic.{_≢_}
-use mathlib.Core.Bool.{Bool, true, false, not, _&&_}
+use mathlib.Core.Bool.{Bool, true, false, not}
 use mathlib.Core.List.{List, map}
-use Prim.Native.Nat.{ℕ, _+_, _/_, _≤_}
+use Prim.Native.Nat.{ℕ, _+_, _≤_}
 use native.Mathlib.Omega.{arith}
-use lib.Dec.{eqb, ltb, leb}
+use lib.Dec.{eqb, ltb}
 use lib.ListN.{length, take}
-use borrow.Author.Tests.{eqb-true, eqb-false, ltb-false, leb-true, not-false}
+use borrow.Author.Tests.{eqb-true, eqb-false, ltb-false, not-false}
 use Rattle.refusals.specs.Numbers as refusals
 use Rattle.seqs.specs.Over.{over}
 use Rattle.seqs.specs.Pick.{pick}
-use Rattle.seqs.proofs.Booleans.{both-true}
-use Rattle.seqs.proofs.Picking.{pick-yes, pick-no, passed, neither, zero-passed}
+use Rattle.seqs.proofs.Picking.{pick-yes, pick-no, passed, neither}
 use Rattle.seqs.proofs.Overwrites.{take-over-end}
 use Rattle.relax.specs.declared.Segment.{Segment}
-use Rattle.relax.specs.Events.{eventSize}
-use Rattle.buffer.specs.declared.CodeBuffer.{CodeBuffer}
-use Rattle.buffer.specs.Refusals.{archOccurs, refusalOccurs, standing}
-use Rattle.buffer.specs.Tables.{mostEntries, mostCode, labelSize, useSize, refSize, constantSize, askedSize, relocSize}
+use Rattle.buffer.specs.Tables.{mostEntries, mostCode}
 use Rattle.recording.specs.Calls.{Recording}
 use Rattle.recording.specs.Sound.{Sound}
 use Rattle.recording.specs.View.{view}
@@ -28,14 +24,11 @@ use Rattle.fresh.specs.Rounds.{settled}
 use Rattle.fresh.specs.Fill.{assembled, inPlace}
 use Rattle.fresh.proofs.Fill.{length-inPlace}
 use Rattle.fresh.specs.Forms.{moves}
-use Rattle.checks.specs.Entries.{entriesFit}
-use Rattle.checks.proofs.Sound.{fits-sound}
 use Rattle.finish.proofs.FitOrRefused.{limits, sound, asked-few, pooled-ends, passed-unfit}
 use Rattle.finish.specs.declared.Finished.{Finished}
 use Rattle.finish.specs.declared.Outcome.{Outcome}
-use Rattle.checks.specs.Lent.{countsFit, withinLimits}
 use Rattle.seqs.specs.Every.{every}
-use Rattle.finish.specs.Refusals.{poolBoundBefore, allBound, refClear, refReaches, whyNotLaid, whyNotWritten, usesRefusal, whyNotInPlace, whyUnfit}
+use Rattle.finish.specs.Refusals.{allBound, refClear, refReaches, whyNotLaid, whyNotWritten, usesRefusal, whyNotInPlace, whyUnfit}
 use Rattle.finish.specs.Finish.{overWords, Left, relaxed, unrelaxed, finishedWith, placedBy, finish}
 use Rattle.demands.specs.Demand2.{finishedCode}
 

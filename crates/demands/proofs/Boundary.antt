@@ -12,8 +12,7 @@ use Rattle.seqs.specs.Pick.{pick}
 use Rattle.words.specs.Words.{wordAt}
 use Rattle.relax.specs.declared.Segment.{Segment}
 use Rattle.buffer.specs.declared.CodeBuffer.{CodeBuffer}
-use Rattle.recording.specs.View.{entries, view}
-use Rattle.fresh.specs.Pooled.{pooled}
+use Rattle.recording.specs.View.{entries}
 use Rattle.fresh.specs.Forms.{moves}
 use Rattle.fresh.specs.Demand.{Demand3}
 use Rattle.fresh.proofs.Rounds.{rounds-bound}

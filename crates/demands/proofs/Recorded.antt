@@ -54,7 +54,6 @@ use Rattle.recording.specs.View.{View, view}
 use Rattle.recording.proofs.Steps.{either}
 use Rattle.recording.proofs.Laws.{see-align, see-align-elsewhere}
 use Rattle.fresh.specs.Pooled.{pooledOne, pooledTo, pooled}
-use Rattle.fresh.specs.Fill.{part}
 use Rattle.fresh.specs.Forms.{moves}
 use Rattle.finish.specs.Finish.{finish}
 use Rattle.demands.specs.Demand2.{Padded, AlignPadded, finishedCode}

@@ -1,6 +1,6 @@
 -- The demands applied to two recordings as a C program lends them, with the numbers written out: a claim that says less than it should is refused here.
 use mathlib.Core.Path.{_≡_, refl}
-use mathlib.Core.Bool.{Bool, true, false}
+use mathlib.Core.Bool.{true, false}
 use mathlib.Core.List.{List, [], _∷_, _++_, map}
 use Prim.Native.Nat.{ℕ, zero, suc, _+_, _*_, _/_, _%_, _≤_, _<_}
 use native.Mathlib.Omega.{arith}
@@ -12,7 +12,7 @@ use Rattle.seqs.specs.Over.{over}
 use Rattle.seqs.specs.Pick.{pick}
 use Rattle.seqs.proofs.Booleans.{both-true}
 use Rattle.words.specs.Words.{wordAt}
-use Rattle.encoder.specs.Intel.{AreNops, nopLength}
+use Rattle.encoder.specs.Intel.{AreNops}
 use Rattle.encoder.specs.Nops as nop
 use Rattle.encoder.specs.Padding.{paddingLength}
 use Rattle.fields.specs.Words64.{plus, signExtend, range}
@@ -28,7 +28,7 @@ use Rattle.relax.specs.declared.Segment.{Segment}
 use Rattle.relax.specs.Events.{conditionOf, eventOf, eventAt}
 use Rattle.buffer.specs.State.{none}
 use Rattle.buffer.specs.Refusals.{standing, isAlignment, lastEnd}
-use Rattle.checks.specs.Entries.{formFits, eventFits, keptOnly, eventsFit, outside, labelFits, labelsFit, useFits, usesFit, refFits, refsFit, relocFits, relocsFit, constantFits, constantsFit, askedFits, askedOnce, isAsked, orderFits, entriesFit}
+use Rattle.checks.specs.Entries.{formFits, eventFits, keptOnly, eventsFit, outside, labelFits, labelsFit, useFits, usesFit, refFits, refsFit, relocsFit, constantFits, constantsFit, askedFits, askedOnce, isAsked, orderFits, entriesFit}
 use Rattle.checks.specs.Lent.{countsFit, withinLimits}
 use Rattle.fresh.specs.Pooled.{pooledOne}
 use Rattle.fresh.specs.Forms.{form, width, roleOf, moves}

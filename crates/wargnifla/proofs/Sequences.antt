@@ -1,18 +1,15 @@
 -- Recordings that C programs make are sound.
-use mathlib.Core.Path.{_≡_, refl, sym, ap, _∙_, subst}
+use mathlib.Core.Path.{_≡_, sym, ap, _∙_, subst}
 use mathlib.Core.List.{List}
-use Prim.Native.Nat.{ℕ, _≤_, _<_}
+use Prim.Native.Nat.{ℕ, _≤_}
 use native.Mathlib.Omega.{arith}
-use lib.Dec.{ltb}
 use lib.ListN.{length}
 use Rattle.seqs.proofs.Picking.{no-lt}
 use Rattle.seqs.proofs.Overwrites.{length-over}
-use Rattle.buffer.specs.declared.CodeBuffer.{CodeBuffer}
 use Rattle.buffer.specs.Calls as calls
 use Rattle.recording.specs.Calls.{Recording, Word, Word64, Call, after, afterAll, begun}
 use Rattle.recording.specs.Calls as call
 use Rattle.recording.specs.Sound.{Sound}
-use Rattle.recording.specs.Sequences.{Leads, Grown}
 use Rattle.recording.proofs.LongerTables.{keeps-growth}
 use Rattle.recording.proofs.Recordings.{keeps-sound, calls-sound, begun-sound}
 use Rattle.recording.proofs.Words.{Words, call-words, calls-words, start-words}
