@@ -1,7 +1,12 @@
 pub mod Search
 pub mod Entries
+pub mod Found
+pub mod SamePast
+pub mod Missed
+pub mod Targets
 pub mod Turns
 pub mod Pooling
+pub mod Ends
 pub mod Table
 pub mod Scan
 pub mod Settled

@@ -6,5 +6,15 @@ pub mod map
 pub mod layout_events
 pub mod layout_pool
 pub mod layout
+pub mod recorded_end
+pub mod locate
+pub mod target_of
+pub mod put_target
+pub mod find_targets
+pub mod put_end
+pub mod end_events
+pub mod place_ends
+pub mod end_before
+pub mod is_missed
 pub mod lengthen
 pub mod relax_jumps

@@ -5,7 +5,7 @@ use mathlib.Core.List.{List, [], _∷_, _++_, append-assoc, append-nil}
 use Prim.Native.Nat.{ℕ, zero, suc, _+_, _-_, _*_, _≤_, _<_}
 use native.Mathlib.Omega.{arith}
 use lib.Dec.{leb}
-use lib.ListN.{length, getD, set, length-append}
+use lib.ListN.{length, getD, set, length-append, List·getD-append}
 use Rattle.seqs.specs.Over.{over}
 use Rattle.seqs.proofs.Overwrites.{over-nil, over-snoc, over-append}
 use Rattle.encoder.specs.Padding.{paddingLength}
@@ -13,7 +13,7 @@ use Rattle.encoder.proofs.Padding.{padding-below}
 use Rattle.relax.specs.declared.LayoutEvent.{LayoutEvent}
 use Rattle.relax.specs.declared.LayoutEvent.the-variants.{Align}
 use Rattle.relax.specs.declared.Segment.{Segment}
-use Rattle.relax.specs.Events.{eventAt, endOf, startOf}
+use Rattle.relax.specs.Events.{eventAt, endOf, startOf, noEvent}
 use Rattle.recording.specs.View.{entries}
 use Rattle.fresh.specs.Pooled.{constantAlignment}
 use Rattle.fresh.specs.Forms.{width}
@@ -24,7 +24,7 @@ use Rattle.fresh.specs.steps.Runs.{Small, Modest, Cursor, after}
 use Rattle.fresh.proofs.Loops.{length-segments, segments-snoc}
 use Rattle.pool.specs.steps.Pool.{sizeAt, poolStart, poolPadding, poolEvent, PoolFits}
 use Rattle.layout.specs.steps.Layout.{endFrom, finishedLength, allEvents, Recorded}
-use Rattle.recording.proofs.Views.{length-entries}
+use Rattle.recording.proofs.Views.{length-entries, getD-entries}
 use Rattle.layout.proofs.Turns.{after-snoc}
 
 alignment-range : (n : ℕ) → (0 < constantAlignment n) × (constantAlignment n ≤ 16)
@@ -146,6 +146,12 @@ module _ (events : List ℕ) (n code : ℕ) (constants asked : List ℕ) where
       length-append (entries (eventAt events) n) (entries (poolEvent code constants asked) j)
       ∙ omega (arith, length-entries (eventAt events) n, length-entries (poolEvent code constants asked) j)
 
+  -- The first of all events are the recorded ones.
+  pub all-first : (m i : ℕ) → i < n → getD (allEvents events n code constants asked m) i noEvent ≡ eventAt events i
+  all-first m i h =
+      List·getD-append (entries (eventAt events) n) (entries (poolEvent code constants asked) m) noEvent i (omega (arith, length-entries (eventAt events) n))
+      ∙ getD-entries (eventAt events) n i noEvent h
+
   pub pool-near : (m j : ℕ) → PoolFits constants asked m → j ≤ m → poolStart code constants asked j ≤ code + 79 * j
   unfolding poolStart
   pool-near m zero fits h = omega arith
@@ -203,6 +209,10 @@ module _ (events : List ℕ) (n code : ℕ) (constants asked : List ℕ) where
           same = λ v h. rw (next-one, next-two) refl;
         }
 
+    pub segments-all : (m : ℕ) → segments 0 0 (allEvents events n code constants asked m) c
+        ≡ segments 0 0 (entries (eventAt events) n) c ++ segments code to (entries (poolEvent code constants asked) m) []
+    segments-all m = (joined m) .joins
+
     -- Both together are the layout of all events,
     pub segments-join : (before ss ss′ : List Segment) (m : ℕ) → ss ≡ over before 0 (segments 0 0 (entries (eventAt events) n) c)
         → ss′ ≡ over ss n (segments code to (entries (poolEvent code constants asked) m) [])
@@ -214,7 +224,7 @@ module _ (events : List ℕ) (n code : ℕ) (constants asked : List ℕ) where
         ∙ (ap (λ (x : List Segment). over x n (segments code to (entries (poolEvent code constants asked) m) [])) h
         ∙ (ap (λ (x : ℕ). over (over before 0 first) x (segments code to (entries (poolEvent code constants asked) m) [])) e
         ∙ (over-append before 0 first (segments code to (entries (poolEvent code constants asked) m) [])
-        ∙ ap (λ (l : List Segment). over before 0 l) (sym ((joined m) .joins)))))
+        ∙ ap (λ (l : List Segment). over before 0 l) (sym (segments-all m)))))
 
     -- and they end together.
     pub ends-join : (m : ℕ) → endFrom code to (entries (poolEvent code constants asked) m) [] (poolStart code constants asked m)

@@ -11,17 +11,20 @@ use Rattle.relax.specs.declared.Segment.{Segment}
 use Rattle.buffer.specs.State.{none}
 use Rattle.fresh.specs.Segments.{image, mapOffset}
 use Rattle.fresh.proofs.Loops.{decided-skip, decided-last}
-use Rattle.layout.specs.steps.Layout.{zeroSegment, startAt, Rising, Between}
+use Rattle.layout.specs.steps.Layout.{zeroSegment, startAt, Rising, Sorted, Between}
 
 pub between-all : (ss : List Segment) (n offset : ℕ) → Between ss n offset 0 n
 between-all ss n offset = record { order = omega arith; within = omega arith; under = λ j h. absurd (omega arith); above = λ j h k. absurd (omega arith) }
+
+pub rising-sorted : {ss : List Segment} {n : ℕ} → Rising ss n → Sorted ss n
+rising-sorted rise = record { fits = rise .fits; rises = rise .rises }
 
 -- `map` keeps 0xFFFFFFFF.
 pub map-none : (ss : List Segment) (offset : ℕ) → offset ≡ none → offset ≡ mapOffset ss offset
 unfolding mapOffset
 map-none ss offset e = rw (eq-eqb offset none e, mapOffset) refl
 
-module _ (ss : List Segment) (n offset : ℕ) (rise : Rising ss n) where
+module _ (ss : List Segment) (n offset : ℕ) (rise : Sorted ss n) where
   pub between-right : (lo hi mid : ℕ) → Between ss n offset lo hi → lo ≤ mid → mid < hi → startAt ss mid ≤ offset → Between ss n offset (mid + 1) hi
   between-right lo hi mid b h k e = record {
     order = omega arith;

@@ -5,7 +5,7 @@ use mathlib.Core.Bool.{Bool, true, false}
 use mathlib.Core.List.{List, [], _∷_, _++_}
 use Prim.Native.Nat.{ℕ, zero, suc, _+_, _-_, _≤_, _<_}
 use native.Mathlib.Omega.{arith}
-use lib.ListN.{length, getD, drop, replicate, length-append, length-drop, List·getD-append}
+use lib.ListN.{length, getD, drop, replicate, length-append, length-drop}
 use lib.Seq.{getD-append-add}
 use Rattle.seqs.proofs.Numbers.{lt-or-ge}
 use Rattle.words.specs.Words.{wordAt}
@@ -27,6 +27,7 @@ use Rattle.fresh.proofs.Loops.{runs-all, length-runsTo}
 use Rattle.pool.specs.steps.Pool.{poolEvent}
 use Rattle.layout.specs.steps.Layout.{allEvents, farBy, relaxing, relaxedBy, relaxed, finishedLength}
 use Rattle.recording.proofs.Views.{length-entries, getD-entries}
+use Rattle.layout.proofs.Pooling.{all-first}
 
 pub jumps-le : (es : List LayoutEvent) → jumps es ≤ length es
 unfolding jumps
@@ -129,10 +130,7 @@ all-below events n code constants asked m count h i b k e =
     let rest = entries (poolEvent code constants asked) m in
     let lf = length-entries (eventAt events) n in
     ⊎-elim
-    (λ lt.
-    let at : eventAt events i ≡ getD (first ++ rest) i noEvent
-    = sym (List·getD-append first rest noEvent i (omega (arith, lf)) ∙ getD-entries (eventAt events) n i noEvent lt) in
-    h i b lt (ap roleOf at ∙ e))
+    (λ lt. h i b lt (ap roleOf (sym (all-first events n code constants asked m i lt)) ∙ e))
     (λ ge.
     let lr = length-entries (poolEvent code constants asked) m in
     let k′ : i - n < m = omega (arith, length-append first rest, lf, lr) in

@@ -17,16 +17,20 @@ use Rattle.fresh.specs.Forms.{pads, roleOf}
 use Rattle.fresh.specs.Fresh.{Choice, isLong, others}
 use Rattle.fresh.specs.Rounds.{Settled, jumps, isFar, firstStart, otherStarts, farOf, any, join}
 use Rattle.fresh.specs.Segments.{segments, mapOffset}
-use Rattle.fresh.specs.steps.Runs.{newStarts}
+use Rattle.fresh.specs.steps.Runs.{newStarts, segmentAt}
 use Rattle.fresh.proofs.Tests.{no-confusion}
 use Rattle.fresh.proofs.Loops.{length-segments}
 use Rattle.fresh.proofs.Choices.{isLong-getD, others-getD, length-farOf, length-join, pads-near}
-use Rattle.pool.specs.steps.Pool.{poolStart, poolEvent, PoolFits}
-use Rattle.layout.specs.steps.Layout.{allEvents, finishedLength, farIn, farBy, relaxing, relaxedBy, Relaxed, Recorded, Rising}
-use Rattle.recording.proofs.Views.{length-entries}
-use Rattle.layout.proofs.Pooling.{all-none, all-suc, length-all, all-ordered, all-modest, pool-near}
-use Rattle.layout.proofs.Table.{table-laid, rising-laid}
 use Rattle.fresh.proofs.Rounds.{shorts, shorts-lt, shorts-most}
+use Rattle.pool.specs.steps.Pool.{poolStart, poolEvent, PoolFits}
+use Rattle.recording.proofs.Views.{length-entries}
+use Rattle.layout.specs.steps.Layout.{zeroSegment, allEvents, finishedLength, farIn, farBy, relaxing, relaxedBy, Relaxed, Recorded}
+use Rattle.layout.specs.steps.Targets.{Shown, Aiming, SamePast, Adds, missed, Placed}
+use Rattle.layout.proofs.Pooling.{all-none, all-suc, length-all, all-first, all-ordered, all-modest, pool-near}
+use Rattle.layout.proofs.Table.{length-laid, segment-laid}
+use Rattle.layout.proofs.SamePast.{same-past-none, same-past-more, same-past-over, over-same-past}
+use Rattle.layout.proofs.Missed.{missed-list, rows-add}
+use Rattle.layout.proofs.Targets.{aiming-stays}
 use Rattle.layout.proofs.Settled.{jumps-le, relaxing-last, relaxing-again}
 
 -- Padding is never lengthened.
@@ -53,14 +57,6 @@ join-none [] (y ∷ f) h e = absurd (omega arith)
 join-none (x ∷ c) [] h e = absurd (omega arith)
 join-none (x ∷ c) (true ∷ f) h e = no-confusion (sym e)
 join-none (x ∷ c) (false ∷ f) h e = rw (or-false x, join-none c f (omega arith) e) refl
-
-over-again : {A : Type 0} (xs ys zs : List A) → length ys ≡ length zs → over (over xs 0 ys) 0 zs ≡ over xs 0 zs
-unfolding over
-over-again [] ys zs h = refl
-over-again (x ∷ xs) [] [] h = refl
-over-again (x ∷ xs) [] (z ∷ zs) h = absurd (omega arith)
-over-again (x ∷ xs) (y ∷ ys) [] h = absurd (omega arith)
-over-again (x ∷ xs) (y ∷ ys) (z ∷ zs) h = ap (λ (l : List _). z ∷ l) (over-again xs ys zs (omega arith))
 
 module _ (events : List ℕ) (n code : ℕ) (constants asked : List ℕ) where
   pool-pads : (j : ℕ) → roleOf (poolEvent code constants asked j) ≡ pads
@@ -97,24 +93,19 @@ module _ (events : List ℕ) (n code : ℕ) (constants asked : List ℕ) where
         ∙ sym (rw k (take-suc x (n + j) false (omega (arith, length-over c 0 (join c f))) ∙ ap (λ (b : Bool). take (n + j) x ++ (b ∷ [])) last))))))
 
   -- What the scan finds among the recorded events is what the round lengthens of all.
-  round-is : (m : ℕ) (at : ℕ → ℕ) (c c′ : Choice) (grew : Bool) (ss ss′ : List Segment) → length c ≡ n + m → n + m ≤ length ss
-      → ss′ ≡ over ss 0 (segments 0 0 (allEvents events n code constants asked m) c)
-      → c′ ≡ over c 0 (join c (farIn (take (n + m) ss′) at (entries (eventAt events) n) c))
-      → grew ≡ any (farIn (take (n + m) ss′) at (entries (eventAt events) n) c)
+  round-is : (m : ℕ) (at : ℕ → ℕ) (c c′ f : Choice) (grew : Bool) → length c ≡ n + m
+      → f ≡ farIn (segments 0 0 (allEvents events n code constants asked m) c) at (entries (eventAt events) n) c
+      → c′ ≡ over c 0 (join c f) → grew ≡ any f
       → (c′ ≡ join c (farBy (allEvents events n code constants asked m) at c)) × (grew ≡ any (farBy (allEvents events n code constants asked m) at c))
-  round-is m at c c′ grew ss ss′ sized room laid next says =
-      let es = allEvents events n code constants asked m in
-      let made = segments 0 0 es c in
+  round-is m at c c′ f grew sized scan next says =
+      let made = segments 0 0 (allEvents events n code constants asked m) c in
       let g : ℕ → ℕ = λ l. mapOffset made (at l) in
-      let table : take (n + m) ss′ ≡ made
-      = ap (λ (k : ℕ). take k ss′) (sym (length-all events n code constants asked m))
-      ∙ table-laid ss ss′ es c laid (omega (arith, length-all events n code constants asked m)) in
       let x = over c 0 (join c (farOf g (entries (eventAt events) n) c (newStarts made))) in (
         next
-            ∙ (rw table refl
+            ∙ (rw scan refl
             ∙ (sym (take-all (n + m) x (omega (arith, length-over c 0 (join c (farOf g (entries (eventAt events) n) c (newStarts made))))))
             ∙ sym (join-all g c (newStarts made) m (omega arith)))),
-        says ∙ (rw table refl ∙ sym (any-all g c (newStarts made) m)),
+        says ∙ (rw scan refl ∙ sym (any-all g c (newStarts made) m)),
       )
 
 -- The rounds stand at the choice c, with so many layouts made: what is left of them is what k more rounds make, k jumps less the layouts made.
@@ -123,7 +114,7 @@ pub record Standing (es : List LayoutEvent) (at : ℕ → ℕ) (first : Choice) 
   pub few : shorts es c + layouts ≤ jumps es
   pub choice : (relaxing (jumps es - layouts) es at c) .choice ≡ (relaxedBy es at first) .choice
   pub rounds : layouts + (relaxing (jumps es - layouts) es at c) .rounds ≡ (relaxedBy es at first) .rounds
-  pub past : (ys : List Segment) → length ys ≡ length es → over ss 0 ys ≡ over before 0 ys
+  pub rest : SamePast (length es) before ss
 
 pub standing-none : (es : List LayoutEvent) (at : ℕ → ℕ) (before : List Segment) (c : Choice) → length c ≡ length es → Standing es at c before before c 0
 standing-none es at before c size =
@@ -133,15 +124,14 @@ standing-none es at before c size =
       few = omega (arith, shorts-most es c);
       choice = rw z refl;
       rounds = rw z (omega arith);
-      past = λ ys k. refl;
+      rest = same-past-none (length es) before;
     }
 
 module _ {es : List LayoutEvent} {at : ℕ → ℕ} {first : Choice} {before ss : List Segment} {c : Choice} {layouts : ℕ} (q : Standing es at first before ss c layouts) where
   pub layouts-few : layouts ≤ length es
   layouts-few = omega (arith, q .few, jumps-le es)
 
-  module _ {ss′ : List Segment} {c′ : Choice} {grew : Bool} (laid : ss′ ≡ over ss 0 (segments 0 0 es c))
-      (round : (c′ ≡ join c (farBy es at c)) × (grew ≡ any (farBy es at c))) where
+  module _ {c′ : Choice} {grew : Bool} (round : (c′ ≡ join c (farBy es at c)) × (grew ≡ any (farBy es at c))) where
     far-count : length (farBy es at c) ≡ length es
     far-count = length-farOf _ es c _
 
@@ -151,8 +141,8 @@ module _ {es : List LayoutEvent} {at : ℕ → ℕ} {first : Choice} {before ss 
     standing-less : grew ≡ true → layouts < jumps es
     standing-less t = omega (arith, q .few, fewer t)
 
-    standing-more : grew ≡ true → Standing es at first before ss′ c′ (layouts + 1)
-    standing-more t =
+    standing-more : grew ≡ true → (ss′ : List Segment) → SamePast (length es) ss ss′ → Standing es at first before ss′ c′ (layouts + 1)
+    standing-more t ss′ moved =
         let k : jumps es - layouts ≡ suc (jumps es - (layouts + 1)) = omega (arith, standing-less t) in
         let rest : Settled = relaxing (jumps es - (layouts + 1)) es at (join c (farBy es at c)) in
         let step : relaxing (jumps es - layouts) es at c ≡ record { choice = rest .choice; rounds = suc (rest .rounds) }
@@ -162,51 +152,94 @@ module _ {es : List LayoutEvent} {at : ℕ → ℕ} {first : Choice} {before ss 
           few = omega (arith, q .few, fewer t);
           choice = rw (round .0) (sym (ap (λ (s : Settled). s .choice) step) ∙ q .choice);
           rounds = rw (round .0) (omega (arith, ap (λ (s : Settled). s .rounds) step, q .rounds));
-          past = λ ys h.
-              ap (λ (x : List Segment). over x 0 ys) laid
-              ∙ (over-again ss (segments 0 0 es c) ys (length-segments es 0 0 c ∙ sym h) ∙ q .past ys h);
+          rest = same-past-more (q .rest) moved (omega arith);
         }
 
-    standing-done : grew ≡ false → (total len : ℕ) → len ≡ finishedLength es c total → Relaxed es at first total before ss′ c′ (layouts + 1) len
-    standing-done t total len finished =
+    -- The last round: the settled layout is written over the table.
+    standing-done : grew ≡ false → (ss′ ss″ : List Segment) → SamePast (length es) ss ss′ → ss″ ≡ over ss′ 0 (segments 0 0 es c′)
+        → (total len : ℕ) → len ≡ finishedLength es c′ total → Relaxed es at first total before ss″ c′ (layouts + 1) len
+    standing-done t ss′ ss″ moved laid total len finished =
         let none = sym (round .1) ∙ t in
         let same : c′ ≡ c = round .0 ∙ join-none c (farBy es at c) (q .sized ∙ sym far-count) none in
         let step = relaxing-last (jumps es - layouts) es at c none in
-        let here : c ≡ (relaxedBy es at first) .choice = sym (ap (λ (s : Settled). s .choice) step) ∙ q .choice in
+        let here : c′ ≡ (relaxedBy es at first) .choice = same ∙ (sym (ap (λ (s : Settled). s .choice) step) ∙ q .choice) in
         record {
-          choice = same ∙ here;
+          choice = here;
           rounds = omega (arith, ap (λ (s : Settled). s .rounds) step, q .rounds);
-          table = laid ∙ (q .past (segments 0 0 es c) (length-segments es 0 0 c) ∙ ap (λ (x : Choice). over before 0 (segments 0 0 es x)) here);
+          table =
+              laid
+              ∙ (over-same-past (same-past-more (q .rest) moved (omega arith)) (segments 0 0 es c′) (length-segments es 0 0 c′)
+              ∙ ap (λ (x : Choice). over before 0 (segments 0 0 es x)) here);
           finished = finished ∙ ap (λ (x : Choice). finishedLength es x total) here;
         }
 
--- A round as the program makes it: all events are laid out, and the recorded ones are scanned.
-module _ (events : List ℕ) (n code : ℕ) (constants asked : List ℕ) (m : ℕ) {at : ℕ → ℕ} {first : Choice} {before ss : List Segment} {c : Choice} {layouts : ℕ}
-    (q : Standing (allEvents events n code constants asked m) at first before ss c layouts) (room : n + m ≤ length ss) {ss′ : List Segment} {c′ : Choice}
-    {grew : Bool} (laid : ss′ ≡ over ss 0 (segments 0 0 (allEvents events n code constants asked m) c))
-    (next : c′ ≡ over c 0 (join c (farIn (take (n + m) ss′) at (entries (eventAt events) n) c)))
-    (says : grew ≡ any (farIn (take (n + m) ss′) at (entries (eventAt events) n) c)) where
-  round : (c′ ≡ join c (farBy (allEvents events n code constants asked m) at c)) × (grew ≡ any (farBy (allEvents events n code constants asked m) at c))
-  round =
-      round-is events n code constants asked m at c c′ grew ss ss′ (q .sized ∙ length-all events n code constants asked m) room laid next says
+-- The rounds as the program makes them.
+module _ (events : List ℕ) (n code : ℕ) (constants asked : List ℕ) (m : ℕ) (at : ℕ → ℕ) where
+  -- The table is laid out once, and then the labels are looked up in it.
+  pub shown-laid : (c : Choice) (before ss : List Segment) → Recorded events n code → PoolFits constants asked m → n + m ≤ mostEntries → n + m ≤ length before
+      → ss ≡ over before 0 (segments 0 0 (allEvents events n code constants asked m) c) → Shown (allEvents events n code constants asked m) ss events n (n + m)
+  unfolding segmentAt
+  shown-laid c before ss rec fits few room laid =
+      let size = length-all events n code constants asked m in
+      let es = allEvents events n code constants asked m in
+      let row : (i : ℕ) → i < n + m → getD ss i zeroSegment ≡ segmentAt i 0 0 es c = λ i h. segment-laid before ss es c laid (omega (arith, size)) i (omega (arith, size)) in
+      record {
+        count = size;
+        few = few;
+        fits = omega (arith, length-laid before ss es c laid (omega (arith, size)));
+        room = rec .room;
+        len = poolStart code constants asked m;
+        ordered = all-ordered events n code constants asked rec m;
+        small = omega (arith, rec .small, pool-near events n code constants asked m m fits (omega arith));
+        recorded = λ i h k. sym (all-first events n code constants asked m i h);
+        starts = λ i h. ap (λ (s : Segment). s .«old_start») (row i h);
+        ends = λ i g h. ap (λ (s : Segment). s .«old_end») (row i h);
+      }
 
-  pub round-less : grew ≡ true → layouts < jumps (allEvents events n code constants asked m)
-  round-less = standing-less q laid round
+  -- That and the targets leave what the table has past the events.
+  pub relaxed-from : {first : Choice} {total : ℕ} {before ss ss′ ss″ : List Segment} {long : Choice} {layouts len : ℕ} (c : Choice)
+      → ss ≡ over before 0 (segments 0 0 (allEvents events n code constants asked m) c) → SamePast n ss ss′
+      → Relaxed (allEvents events n code constants asked m) at first total ss′ ss″ long layouts len
+      → Relaxed (allEvents events n code constants asked m) at first total before ss″ long layouts len
+  relaxed-from {first} {before = before} c laid found r =
+      let size = length-all events n code constants asked m in
+      let es = allEvents events n code constants asked m in
+      let over-all = same-past-over (length es) before 0 (segments 0 0 es c) (omega (arith, length-segments es 0 0 c)) in
+      let from = same-past-more (rw (← laid) at over-all) found (omega (arith, size)) in
+      record {
+        choice = r .choice;
+        rounds = r .rounds;
+        table = r .table ∙ over-same-past from (segments 0 0 es ((relaxedBy es at first) .choice)) (length-segments es 0 0 _);
+        finished = r .finished;
+      }
 
-  pub round-more : grew ≡ true → Standing (allEvents events n code constants asked m) at first before ss′ c′ (layouts + 1)
-  round-more = standing-more q laid round
+  -- A round places the new ends of all events, and scans the recorded ones.
+  module _ {first : Choice} {before ss : List Segment} {c : Choice} {layouts : ℕ} (q : Standing (allEvents events n code constants asked m) at first before ss c layouts)
+      (aiming : Aiming (allEvents events n code constants asked m) at events n ss) (few : n + m ≤ mostEntries) {ss′ : List Segment}
+      (placed : Placed ss ss′ (allEvents events n code constants asked m) n c) where
+    size : length (allEvents events n code constants asked m) ≡ n + m
+    size = length-all events n code constants asked m
 
-  pub round-done : grew ≡ false → (total len : ℕ) → len ≡ finishedLength (allEvents events n code constants asked m) c total
-      → Relaxed (allEvents events n code constants asked m) at first total before ss′ c′ (layouts + 1) len
-  round-done = standing-done q laid round
+    pub round-adds : Recorded events n code → PoolFits constants asked m → n + m ≤ length ss → (i : ℕ) → i < n → Adds ss′ (getD ss′ i zeroSegment)
+    round-adds rec fits room =
+        rows-add (placed .placed) (omega (arith, size)) (all-first events n code constants asked m) (omega (arith, size)) (aiming-stays aiming placed)
+        (poolStart code constants asked m) (all-ordered events n code constants asked rec m) (all-modest events n code constants asked rec m)
+        (omega (arith, rec .small, pool-near events n code constants asked m m fits (omega arith))) (omega (arith, size, placed .rest .sized))
 
--- The table of a layout is as the scan wants it.
-pub rising-all : (events : List ℕ) (n code : ℕ) (constants asked : List ℕ) (m : ℕ) (c : Choice) (ss ss′ : List Segment) → Recorded events n code
-    → PoolFits constants asked m → n + m ≤ mostEntries → n + m ≤ length ss → ss′ ≡ over ss 0 (segments 0 0 (allEvents events n code constants asked m) c)
-    → Rising ss′ (n + m)
-rising-all events n code constants asked m c ss ss′ rec fits few room laid =
-    let size = length-all events n code constants asked m in
-    rw (← size)
-    (rising-laid ss ss′ (allEvents events n code constants asked m) c laid (omega (arith, size)) (poolStart code constants asked m)
-    (all-ordered events n code constants asked rec m)
-    (all-modest events n code constants asked rec m) (omega (arith, rec .small, pool-near events n code constants asked m m fits (omega arith))) (omega (arith, size)))
+    module _ {c′ : Choice} {grew : Bool} (next : c′ ≡ over c 0 (join c (missed ss′ c n))) (says : grew ≡ any (missed ss′ c n)) where
+      round : (c′ ≡ join c (farBy (allEvents events n code constants asked m) at c)) × (grew ≡ any (farBy (allEvents events n code constants asked m) at c))
+      round =
+          round-is events n code constants asked m at c c′ (missed ss′ c n) grew (q .sized ∙ size)
+          (missed-list (placed .placed) (omega (arith, size)) (all-first events n code constants asked m) (omega (arith, size)) (aiming-stays aiming placed))
+          next says
+
+      pub round-less : grew ≡ true → layouts < jumps (allEvents events n code constants asked m)
+      round-less = standing-less q round
+
+      pub round-more : grew ≡ true → Standing (allEvents events n code constants asked m) at first before ss′ c′ (layouts + 1)
+      round-more t = standing-more q round t ss′ (placed .rest)
+
+      pub round-done : grew ≡ false → (ss″ : List Segment) → ss″ ≡ over ss′ 0 (segments 0 0 (allEvents events n code constants asked m) c′)
+          → (total len : ℕ) → len ≡ finishedLength (allEvents events n code constants asked m) c′ total
+          → Relaxed (allEvents events n code constants asked m) at first total before ss″ c′ (layouts + 1) len
+      round-done t ss″ = standing-done q round t ss′ ss″ (placed .rest)

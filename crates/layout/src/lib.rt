@@ -2,23 +2,23 @@
 // asmkit's core/relax.rs (see NOTICE). The table is a lent slice of `Segment`; only `segment_at` and `put_segment` reach into it.
 ghost use mathlib.Core.Path.{_≡_};
 ghost use mathlib.Core.Logic.{_≢_};
-ghost use mathlib.Core.Bool.{_&&_};
-ghost use mathlib.Core.List.{[]};
-ghost use Prim.Native.Nat.{_+_, _*_, _≤_, _<_};
-ghost use lib.Dec.{leb};
+ghost use mathlib.Core.List.{List, []};
+ghost use Prim.Native.Nat.{ℕ, _+_, _≤_, _<_};
 ghost use lib.ListN.{length, getD, take, set};
 ghost use Rattle.seqs.specs.Over.{over};
 ghost use Rattle.words.specs.Words.{wordAt};
-ghost use Rattle.relax.specs.Events.{shortLen, eventAt, eventSize};
+ghost use Rattle.relax.specs.declared.LayoutEvent.{LayoutEvent};
+ghost use Rattle.relax.specs.Events.{eventAt};
 ghost use Rattle.buffer.specs.State.{none};
 ghost use Rattle.buffer.specs.Tables.{mostEntries, mostCode};
 ghost use Rattle.recording.specs.View.{entries};
 ghost use Rattle.fresh.specs.Forms.{width};
-ghost use Rattle.fresh.specs.Rounds.{isFar, any, join};
+ghost use Rattle.fresh.specs.Rounds.{any, join};
 ghost use Rattle.fresh.specs.Segments.{segment, image, mapOffset};
 ghost use Rattle.fresh.specs.Segments as fresh;
 ghost use Rattle.pool.specs.steps.Pool.{poolStart, poolEvent, PoolFits, offsetBound};
-ghost use Rattle.layout.specs.steps.Layout.{zeroSegment, Rising, Between, Follows, Recorded, allEvents, endFrom, finishedLength, Laid, Known, soughtBy, Labelled, farIn, Relaxed};
+ghost use Rattle.layout.specs.steps.Targets.{inReach, endIn, Stands, Shown, Finds, Aims, Aiming, SamePast, Placed, withTarget, withEnd, Ended, endBefore, Adds, isMissedAt, missed};
+ghost use Rattle.layout.specs.steps.Layout.{zeroSegment, Rising, Sorted, Between, Follows, Recorded, allEvents, endFrom, finishedLength, Laid, Known, Labelled, Relaxed};
 use relax::LayoutEvent;
 use relax::Segment;
 
@@ -46,7 +46,7 @@ pub fn put_segment(segments: &mut [Segment], i: usize, segment: Segment)
 
 // How many of the first `n` segments start at or before an offset.
 fn find(segments: &[Segment], n: usize, offset: u32) -> usize
-    requires { ⌜ Rising (now segments) n ⌝ }
+    requires { ⌜ Sorted (now segments) n ⌝ }
     ensures { λ r. ⌜ Between (now (segments .entry)) n offset r r ⌝ }
 {
     let mut low: usize = 0;
@@ -201,70 +201,227 @@ pub fn layout(
 }
 
 // Whether a label's offset minus the end of a short jump lies in -128..127.
-pub fn in_reach(start: u32, label: u32) -> bool
-    ensures { λ r. ⌜ r ≡ (leb (start + shortLen) (label + 128) && leb label (start + shortLen + 127)) ⌝ }
+pub fn in_reach(end: u32, label: u32) -> bool
+    ensures { λ r. ⌜ r ≡ inReach end label ⌝ }
 {
-    let end = start as u64 + relax::SHORT_LEN as u64;
-    if end <= label as u64 + 128 {
-        label as u64 <= end + 127
+    if end as u64 <= label as u64 + 128 {
+        label as u64 <= end as u64 + 127
     } else {
         false
     }
 }
 
-// The recorded offset of the label that a short jump is to reach; of no other event is there one.
-fn sought(event: LayoutEvent, long: bool, labels: &[u8]) -> u32
-    requires { ⌜ Known event (now labels) ⌝ }
-    ensures { λ r. ⌜ r ≡ soughtBy event long (wordAt (now (labels .entry))) ⌝ }
+// The recorded end of event `i`: of the first `n` by their table, of the pool's alignments by their segment.
+fn recorded_end(segments: &[Segment], events: &[u8], n: usize, i: usize) -> u32
+    requires { ⌜ Stands (now segments) (now events) n i ⌝ }
+    ensures { λ r. ⌜ r ≡ endIn (now (segments .entry)) (now (events .entry)) n i ⌝ }
 {
-    match event {
-        LayoutEvent::Jump(jump) => {
-            if long {
-                return buffer::NONE;
-            }
-            words::word_at(labels, jump.label as usize)
-        }
-        LayoutEvent::Align(_) => buffer::NONE,
+    if i < n {
+        return relax::event_end(relax::event_at(events, i)) as u32;
+    }
+    let segment = segment_at(segments, i);
+    segment.old_end
+}
+
+// Where the label of a jump is found, whatever the choice of long jumps: `beyond` bytes past the new end of the first `passed` events.
+pub struct Target {
+    pub passed: u32,
+    pub beyond: u32,
+}
+
+// That of a label recorded at `offset`. Of the `all` events the first `n` stand in their table.
+fn locate(segments: &[Segment], events: &[u8], n: usize, all: usize, offset: u32) -> Target
+    requires { ⌜ ((es : List LayoutEvent) × Shown es (now segments) (now events) n all) ⌝ ∗ ⌜ (offset ≢ none → offset ≤ offsetBound) ⌝ }
+    ensures { λ r. ⌜ ((es : List LayoutEvent) → Shown es (now (segments .entry)) (now (events .entry)) n all → Finds es offset (r .passed) (r .beyond)) ⌝ }
+{
+    if offset == buffer::NONE {
+        return Target {
+            passed: 0,
+            beyond: offset,
+        };
+    }
+    let found = find(segments, all, offset);
+    if found == 0 {
+        return Target {
+            passed: 0,
+            beyond: offset,
+        };
+    }
+    let end = recorded_end(segments, events, n, found - 1);
+    if end <= offset {
+        return Target {
+            passed: found as u32,
+            beyond: offset - end,
+        };
+    }
+    if found == 1 {
+        return Target {
+            passed: 0,
+            beyond: offset,
+        };
+    }
+    let before = recorded_end(segments, events, n, found - 2);
+    Target {
+        passed: (found - 1) as u32,
+        beyond: offset - before,
     }
 }
 
-// Whether an event is a short jump that does not reach its label, which stands at the new offset `target`.
-fn is_far(event: LayoutEvent, long: bool, segment: Segment, target: u32) -> bool
-    ensures { λ r. ⌜ r ≡ isFar (λ l. target) event long (segment .«new_start») ⌝ }
-{
-    match event {
-        LayoutEvent::Jump(_) => {
-            if long {
-                return false;
-            }
-            let near = in_reach(segment.new_start, target);
-            !near
-        }
-        LayoutEvent::Align(_) => false,
-    }
-}
-
-// A round's scan: every short jump of the first `n` events that does not reach becomes long. Whether there was one. The segments are `n + m`.
-pub fn lengthen(
+// That of the label which event `i` names; `NONE` in the place of `passed` where it names none.
+fn target_of(
+    segments: &[Segment],
     events: &[u8],
     labels: &[u8],
-    segments: &[Segment],
-    long: &mut [bool],
+    n: usize,
+    all: usize,
+    i: usize,
+) -> Target
+    requires { ⌜ ((es : List LayoutEvent) × Shown es (now segments) (now events) n all) ⌝ ∗ ⌜ Known (eventAt (now events) i) (now labels) ⌝ ∗ ⌜ i < n ⌝ }
+    ensures { λ r. ⌜ ((es : List LayoutEvent) → Shown es (now (segments .entry)) (now (events .entry)) n all → Aims es (wordAt (now (labels .entry))) (eventAt (now (events .entry)) i) (r .passed) (r .beyond)) ⌝ }
+{
+    let event = relax::event_at(events, i);
+    match event {
+        LayoutEvent::Jump(jump) => {
+            let offset = words::word_at(labels, jump.label as usize);
+            locate(segments, events, n, all, offset)
+        }
+        LayoutEvent::Align(_) => Target {
+            passed: buffer::NONE,
+            beyond: 0,
+        },
+    }
+}
+
+// Writes the target of event `i` into its row, and nothing else of it.
+fn put_target(segments: &mut [Segment], i: usize, target: Target)
+    requires { ⌜ i < length (now segments) ⌝ }
+    ensures { λ _. ⌜ now (segments .exit) ≡ set (now (segments .entry)) i (withTarget (getD (now (segments .entry)) i zeroSegment) (target .passed) (target .beyond)) ⌝ }
+{
+    let row = segment_at(segments, i);
+    put_segment(
+        segments,
+        i,
+        Segment {
+            old_start: row.old_start,
+            old_end: target.beyond,
+            new_start: target.passed,
+            new_end: row.new_end,
+        },
+    );
+}
+
+// Finds the label of each jump once: the first `n` rows of a table that is laid out come to hold the targets of their events.
+fn find_targets(segments: &mut [Segment], events: &[u8], labels: &[u8], n: usize, all: usize)
+    requires { ⌜ ((es : List LayoutEvent) × Shown es (now segments) (now events) n all) ⌝ ∗ ⌜ Labelled (now events) (now labels) n ⌝ ∗ ⌜ n ≤ all ⌝ }
+    ensures { λ _. ⌜ ((es : List LayoutEvent) → Shown es (now (segments .entry)) (now (events .entry)) n all → Aiming es (wordAt (now (labels .entry))) (now (events .entry)) n (now (segments .exit))) ⌝ }
+    ensures { λ _. ⌜ SamePast n (now (segments .entry)) (now (segments .exit)) ⌝ }
+{
+    let mut i: usize = 0;
+    while i < n {
+        let target = target_of(segments, events, labels, n, all, i);
+        put_target(segments, i, target);
+        i += 1;
+    }
+}
+
+// Writes the new end of event `i` into its row, and nothing else of it.
+fn put_end(segments: &mut [Segment], i: usize, end: u32)
+    requires { ⌜ i < length (now segments) ⌝ }
+    ensures { λ _. ⌜ now (segments .exit) ≡ set (now (segments .entry)) i (withEnd (getD (now (segments .entry)) i zeroSegment) end) ⌝ }
+{
+    let row = segment_at(segments, i);
+    put_segment(
+        segments,
+        i,
+        Segment {
+            old_start: row.old_start,
+            old_end: row.old_end,
+            new_start: row.new_start,
+            new_end: end,
+        },
+    );
+}
+
+// Writes the new ends of the first `n` events under a choice into their rows; the segment of the last of them, all zeros where there is none.
+fn end_events(segments: &mut [Segment], events: &[u8], long: &[bool], n: usize) -> Segment
+    requires { ⌜ Recorded (now events) n mostCode ⌝ ∗ ⌜ (n ≤ mostEntries) × (n ≤ length (now segments)) × (n ≤ length (now long)) ⌝ }
+    ensures { λ r. ⌜ Ended (now (segments .entry)) (now (segments .exit)) (entries (eventAt (now (events .entry))) n) (now (long .entry)) n (r .«old_end») (r .«new_end») ⌝ }
+{
+    let mut last = Segment {
+        old_start: 0,
+        old_end: 0,
+        new_start: 0,
+        new_end: 0,
+    };
+    let mut i: usize = 0;
+    while i < n {
+        let event = relax::event_at(events, i);
+        last = next_segment(event, long[i], last.old_end, last.new_end);
+        put_end(segments, i, last.new_end);
+        i += 1;
+    }
+    last
+}
+
+// A round's layout: the new ends of all events under a choice, and of the first `n` rows nothing else.
+fn place_ends(
+    segments: &mut [Segment],
+    events: &[u8],
+    constants: &[u8],
+    asked: &[u8],
+    long: &[bool],
     n: usize,
     m: usize,
-) -> bool
-    requires { ⌜ Rising (now segments) (n + m) ⌝ ∗ ⌜ Labelled (now events) (now labels) n ⌝ ∗ ⌜ (n + m ≤ mostEntries) × (n * eventSize ≤ length (now events)) × (n ≤ length (now long)) ⌝ }
-    ensures { λ r. ⌜ now (long .exit) ≡ over (now (long .entry)) 0 (join (now (long .entry)) (farIn (take (n + m) (now (segments .entry))) (wordAt (now (labels .entry))) (entries (eventAt (now (events .entry))) n) (now (long .entry)))) ⌝ }
-    ensures { λ r. ⌜ r ≡ any (farIn (take (n + m) (now (segments .entry))) (wordAt (now (labels .entry))) (entries (eventAt (now (events .entry))) n) (now (long .entry))) ⌝ }
+    code: u32,
+)
+    requires { ⌜ Recorded (now events) n code ⌝ ∗ ⌜ PoolFits (now constants) (now asked) m ⌝ ∗ ⌜ (n + m ≤ mostEntries) × (n + m ≤ length (now segments)) × (n ≤ length (now long)) ⌝ }
+    ensures { λ _. ⌜ Placed (now (segments .entry)) (now (segments .exit)) (allEvents (now (events .entry)) n code (now (constants .entry)) (now (asked .entry)) m) n (now (long .entry)) ⌝ }
+{
+    let last = end_events(segments, events, long, n);
+    let new = last.new_end + (code - last.old_end);
+    layout_pool(segments, constants, asked, n, m, code, new);
+}
+
+// The new end of the first `k` events.
+fn end_before(segments: &[Segment], k: usize) -> u32
+    requires { ⌜ k ≤ length (now segments) ⌝ }
+    ensures { λ r. ⌜ r ≡ endBefore (now (segments .entry)) k ⌝ }
+{
+    if k == 0 {
+        return 0;
+    }
+    let row = segment_at(segments, k - 1);
+    row.new_end
+}
+
+// Whether event `i`, long or not, is a short jump that does not reach its label.
+fn is_missed(segments: &[Segment], long: bool, i: usize) -> bool
+    requires { ⌜ i < length (now segments) ⌝ ∗ ⌜ Adds (now segments) (getD (now segments) i zeroSegment) ⌝ }
+    ensures { λ r. ⌜ r ≡ isMissedAt (now (segments .entry)) long i ⌝ }
+{
+    if long {
+        return false;
+    }
+    let row = segment_at(segments, i);
+    if row.new_start == buffer::NONE {
+        return false;
+    }
+    let target = row.old_end + end_before(segments, row.new_start as usize);
+    let near = in_reach(row.new_end, target);
+    !near
+}
+
+// A round's scan: every short jump of the first `n` events that does not reach becomes long. Whether there was one.
+fn lengthen(segments: &[Segment], long: &mut [bool], n: usize) -> bool
+    requires { ⌜ (n ≤ length (now segments)) × (n ≤ length (now long)) ⌝ ∗ ⌜ ((i : ℕ) → i < n → Adds (now segments) (getD (now segments) i zeroSegment)) ⌝ }
+    ensures { λ r. ⌜ now (long .exit) ≡ over (now (long .entry)) 0 (join (now (long .entry)) (missed (now (segments .entry)) (now (long .entry)) n)) ⌝ }
+    ensures { λ r. ⌜ r ≡ any (missed (now (segments .entry)) (now (long .entry)) n) ⌝ }
 {
     let mut grew = false;
     let mut i: usize = 0;
     while i < n {
-        let event = relax::event_at(events, i);
-        let segment = segment_at(segments, i);
         let is_long = long[i];
-        let target = map(segments, n + m, sought(event, is_long, labels));
-        if is_far(event, is_long, segment, target) {
+        if is_missed(segments, is_long, i) {
             long[i] = true;
             grew = true;
         }
@@ -273,7 +430,8 @@ pub fn lengthen(
     grew
 }
 
-// The rounds, from the choice that stands in `long`: lays out and lengthens until a round lengthens none.
+// The rounds, from the choice that stands in `long`: each places the new ends and lengthens, until one lengthens none; then the settled layout is
+// written. Before them the table is laid out once, so that labels can be found in it.
 pub fn relax_jumps(
     segments: &mut [Segment],
     events: &[u8],
@@ -288,11 +446,14 @@ pub fn relax_jumps(
     requires { ⌜ Recorded (now events) n code ⌝ ∗ ⌜ PoolFits (now constants) (now asked) m ⌝ ∗ ⌜ Labelled (now events) (now labels) n ⌝ ∗ ⌜ (n + m ≤ mostEntries) × (n + m ≤ length (now segments)) × (length (now long) ≡ n + m) ⌝ }
     ensures { λ r. ⌜ Relaxed (allEvents (now (events .entry)) n code (now (constants .entry)) (now (asked .entry)) m) (wordAt (now (labels .entry))) (now (long .entry)) (poolStart code (now (constants .entry)) (now (asked .entry)) m) (now (segments .entry)) (now (segments .exit)) (now (long .exit)) (r .layouts) (r .len) ⌝ }
 {
+    layout(segments, events, constants, asked, long, n, m, code);
+    find_targets(segments, events, labels, n, n + m);
     let mut layouts: u32 = 0;
     let settled = loop {
-        let len = layout(segments, events, constants, asked, long, n, m, code);
+        place_ends(segments, events, constants, asked, long, n, m, code);
         layouts += 1;
-        if !lengthen(events, labels, segments, long, n, m) {
+        if !lengthen(segments, long, n) {
+            let len = layout(segments, events, constants, asked, long, n, m, code);
             break Summary { layouts, len };
         }
     };

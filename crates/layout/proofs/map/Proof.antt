@@ -3,7 +3,7 @@ mod Tie
 use mathlib.Core.Path.{_∙_}
 use Prim.Native.Nat.{_-_, _<_}
 use native.Mathlib.Omega.{arith}
-use Rattle.layout.proofs.Search.{map-none, found-none, found-last}
+use Rattle.layout.proofs.Search.{rising-sorted, map-none, found-none, found-last}
 use borrow.Author.Needs.{needs}
 use Rattle.layout.proofs.map.Statement.{statement}
 use Rattle.layout.proofs.map.Proof.Tie as tie
@@ -11,12 +11,17 @@ use Rattle.layout.proofs.map.Proof.Tie as tie
 returns : tie.Need-returns
 returns c = map-none _ _ (c .if1 .taken)
 
+find-requires : tie.Need-find-requires
+find-requires c κs =
+    let start : tie.Start = search in
+    rising-sorted (start .pre .0)
+
 returns-2 : tie.Need-returns-2
 returns-2 c =
     let after-find : tie.After-find = search in
     let else1 : tie.Else1 = search in
     let start : tie.Start = search in
-    found-none _ _ _ (start .pre .0) _ (after-find .find .ensures) (else1 .if1 .left) (c .if2 .taken)
+    found-none _ _ _ (rising-sorted (start .pre .0)) _ (after-find .find .ensures) (else1 .if1 .left) (c .if2 .taken)
 
 place-requires : tie.Need-place-requires
 place-requires c κs =
@@ -39,8 +44,7 @@ returns-3 c =
     let after-find : tie.After-find = search in
     let else1 : tie.Else1 = search in
     let start : tie.Start = search in
-    let p = start .pre .0 in
-    let found = found-last _ _ _ p _ (after-find .find .ensures) (else1 .if1 .left) (else2 .if2 .left) in
+    let found = found-last _ _ _ (rising-sorted (start .pre .0)) _ (after-find .find .ensures) (else1 .if1 .left) (else2 .if2 .left) in
     c .place .ensures ∙ rw (after-segment-at .segment-at .ensures) found
 
 pub map-spec : {M : Type 1} → statement M
@@ -48,7 +52,7 @@ map-spec =
     tie.close
     (tie.spec
     returns
-    (λ c κs. search needs)
+    find-requires
     returns-2
     (λ c. search needs)
     (λ c κs. search needs)

@@ -1,8 +1,8 @@
 -- The table of segments, what a layout leaves in it, and the rounds by segments.
 use mathlib.Core.Path.{_≡_}
 use mathlib.Core.Logic.{_≢_}
-use mathlib.Core.Bool.{Bool, true, false, cond}
-use mathlib.Core.List.{List, [], _∷_, _++_}
+use mathlib.Core.Bool.{true, false}
+use mathlib.Core.List.{List, _++_}
 use Prim.Native.Nat.{ℕ, zero, suc, _+_, _-_, _*_, _≤_, _<_}
 use lib.ListN.{length, getD}
 use Rattle.seqs.specs.Over.{over}
@@ -13,7 +13,7 @@ use Rattle.relax.specs.Events.{eventAt, endOf, startOf, eventSize}
 use Rattle.buffer.specs.State.{none}
 use Rattle.buffer.specs.Tables.{mostCode, labelSize}
 use Rattle.recording.specs.View.{entries}
-use Rattle.fresh.specs.Forms.{Branch, pads, branches, roleOf}
+use Rattle.fresh.specs.Forms.{Branch, branches, roleOf}
 use Rattle.fresh.specs.Fresh.{Choice}
 use Rattle.fresh.specs.Rounds.{Settled, allShort, jumps, farOf, any, join}
 use Rattle.fresh.specs.Segments.{segments, mapOffset}
@@ -34,6 +34,11 @@ pub record Rising (ss : List Segment) (n : ℕ) : Type 0 where
   pub fits : n ≤ length ss
   pub rises : (i j : ℕ) → i ≤ j → j < n → startAt ss i ≤ startAt ss j
   pub small : (i : ℕ) → i < n → ((getD ss i zeroSegment) .«new_start» ≤ offsetBound) × ((getD ss i zeroSegment) .«new_end» ≤ offsetBound)
+
+-- what is searched: the recorded starts of the first n segments rise
+pub record Sorted (ss : List Segment) (n : ℕ) : Type 0 where
+  pub fits : n ≤ length ss
+  pub rises : (i j : ℕ) → i ≤ j → j < n → startAt ss i ≤ startAt ss j
 
 -- of the first n segments those before lo start at or before an offset, those from hi on after it
 pub record Between (ss : List Segment) (n offset lo hi : ℕ) : Type 0 where
@@ -81,10 +86,6 @@ pub record Known (event : LayoutEvent) (labels : List ℕ) : Type 0 where
 -- so for each of the first n events
 pub record Labelled (events labels : List ℕ) (n : ℕ) : Type 0 where
   pub known : (i : ℕ) → i < n → Known (eventAt events i) labels
-
--- the recorded offset of the label that an event, long or not, is to reach, if it is a short jump
-unfoldable pub soughtBy : LayoutEvent → Bool → (ℕ → ℕ) → ℕ
-soughtBy e long at = elim (roleOf e) [ pads ↦ none | branches b ↦ cond long none (at (b .label)) ]
 
 -- which events a round lengthens, as segments say; `at` knows the recorded offset of a label by its number
 abbrev pub farIn : List Segment → (ℕ → ℕ) → List LayoutEvent → Choice → Choice

@@ -7,14 +7,10 @@ use denote.Array
 use mathlib.Core.List
 use mir.Syntax
 use Rattle.relax.proofs.Segment as ROW·
-use denote.RattleType as RT·
 use mathlib.Core.List.{[], _∷_}
 
-abbrev pub e0· : RT·.RattleType
-e0· = Referent.rtF (Referent.fInt Syntax.w8)
+abbrev pub ps : List.List (Kinds.PK 2)
+ps = (ShrSlice.pShrS ROW·.the-row 0 tt) ∷ (MutSlice.pMutS (Referent.rtF Referent.fBool) 1 tt) ∷ (Kinds.pNum Syntax.w64) ∷ []
 
-abbrev pub ps : List.List (Kinds.PK 4)
-ps = (ShrSlice.pShrS e0· 0 tt) ∷ (ShrSlice.pShrS e0· 1 tt) ∷ (ShrSlice.pShrS ROW·.the-row 2 tt) ∷ (MutSlice.pMutS (Referent.rtF Referent.fBool) 3 tt) ∷ (Kinds.pNum Syntax.w64) ∷ (Kinds.pNum Syntax.w64) ∷ []
-
-abbrev pub r : Kinds.RK 4
+abbrev pub r : Kinds.RK 2
 r = Kinds.rBool
