@@ -8,7 +8,8 @@ ghost use Rattle.recording.specs.Sound.{startAt, endAt};
 ghost use Rattle.seqs.specs.Every.{all};
 ghost use Rattle.relax.specs.Events.{eventSize};
 ghost use Rattle.buffer.specs.Tables.{labelSize, useSize, refSize, constantSize, askedSize, relocSize};
-ghost use Rattle.checks.specs.Entries.{formFits, eventFits, keptOnly, eventsFit, outside, labelFits, labelsFit, useFits, usesFit, refFits, refsFit, relocFits, relocsFit, constantFits, constantsFit, orderFits, entriesFit};
+ghost use Rattle.lookup.specs.steps.Index.{Indexed};
+ghost use Rattle.checks.specs.Entries.{formFits, eventFits, keptOnly, eventsFit, labelFits, labelsFit, useFits, usesFit, refFits, refsFit, relocFits, relocsFit, constantFits, constantsFit, orderFits, entriesFit};
 ghost use Rattle.checks.specs.steps.Search.{Ordered};
 ghost use Rattle.checks.specs.steps.Handed.{CountsFit, tables, Labelled, askedLabel, Marks, newAt, unlabelledOr};
 use buffer::CodeBuffer;
@@ -81,16 +82,17 @@ pub fn events_fit(arch: u32, events: &[u8], n: usize, labels: u32, code: u32) ->
     buffer::both(kept, each_event_fits(events, n, labels, code))
 }
 
-// Whether an offset lies strictly inside none of the events.
-fn is_outside(events: &[u8], n: usize, offset: u32) -> bool
-    requires { ⌜ n * eventSize ≤ length (now events) ⌝ ∗ ⌜ Ordered (startAt (now events)) (endAt (now events)) n ⌝ }
-    ensures { λ r. ⌜ r ≡ outside (now (events .entry)) n offset ⌝ }
-{
-    crate::search::clear_of_events(events, n, offset as u64, offset as u64)
-}
-
-fn label_fits(labels: &[u8], events: &[u8], n: usize, code: u32, i: usize) -> bool
-    requires { ⌜ i * labelSize + labelSize ≤ length (now labels) ⌝ ∗ ⌜ n * eventSize ≤ length (now events) ⌝ ∗ ⌜ Ordered (startAt (now events)) (endAt (now events)) n ⌝ }
+// Whether label `i` fits: it is unbound, or bound within the code and inside none of the events, whose starts the index has.
+fn label_fits(
+    labels: &[u8],
+    events: &[u8],
+    n: usize,
+    code: u32,
+    index: &[u32],
+    shift: u32,
+    i: usize,
+) -> bool
+    requires { ⌜ i * labelSize + labelSize ≤ length (now labels) ⌝ ∗ ⌜ n * eventSize ≤ length (now events) ⌝ ∗ ⌜ Ordered (startAt (now events)) (endAt (now events)) n ⌝ ∗ ⌜ Indexed (now index) (startAt (now events)) n shift ⌝ }
     ensures { λ r. ⌜ r ≡ labelFits (now (events .entry)) n code (wordAt (now (labels .entry)) i) ⌝ }
 {
     let offset = words::word_at(labels, i);
@@ -100,21 +102,44 @@ fn label_fits(labels: &[u8], events: &[u8], n: usize, code: u32, i: usize) -> bo
     if code < offset {
         return false;
     }
-    is_outside(events, n, offset)
+    crate::search::is_outside(events, n, index, shift, offset)
 }
 
-pub fn labels_fit(labels: &[u8], n: usize, events: &[u8], m: usize, code: u32) -> bool
-    requires { ⌜ n * labelSize ≤ length (now labels) ⌝ ∗ ⌜ m * eventSize ≤ length (now events) ⌝ ∗ ⌜ Ordered (startAt (now events)) (endAt (now events)) m ⌝ }
+fn each_label_fits(
+    labels: &[u8],
+    n: usize,
+    events: &[u8],
+    m: usize,
+    code: u32,
+    index: &[u32],
+    shift: u32,
+) -> bool
+    requires { ⌜ n * labelSize ≤ length (now labels) ⌝ ∗ ⌜ m * eventSize ≤ length (now events) ⌝ ∗ ⌜ Ordered (startAt (now events)) (endAt (now events)) m ⌝ ∗ ⌜ Indexed (now index) (startAt (now events)) m shift ⌝ }
     ensures { λ r. ⌜ r ≡ labelsFit (now (labels .entry)) n (now (events .entry)) m code ⌝ }
 {
     let mut i: usize = 0;
     while i < n {
-        if !label_fits(labels, events, m, code, i) {
+        if !label_fits(labels, events, m, code, index, shift, i) {
             return false;
         }
         i += 1;
     }
     true
+}
+
+// An index pays where there are many events and many labels.
+pub fn labels_fit(labels: &[u8], n: usize, events: &[u8], m: usize, code: u32) -> bool
+    requires { ⌜ n * labelSize ≤ length (now labels) ⌝ ∗ ⌜ m * eventSize ≤ length (now events) ⌝ ∗ ⌜ Ordered (startAt (now events)) (endAt (now events)) m ⌝ }
+    ensures { λ r. ⌜ r ≡ labelsFit (now (labels .entry)) n (now (events .entry)) m code ⌝ }
+{
+    if !lookup::pays(m, n) {
+        let none = [0u32; 0];
+        return each_label_fits(labels, n, events, m, code, &none, 0);
+    }
+    let mut index = [0u32; lookup::SIZE];
+    let shift = lookup::shift_for(code);
+    crate::search::index_events(&mut index, shift, events, m);
+    each_label_fits(labels, n, events, m, code, &index, shift)
 }
 
 fn use_fits(uses: &[u8], arch: u32, labels: u32, i: usize) -> bool
