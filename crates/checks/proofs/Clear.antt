@@ -15,26 +15,34 @@ use Rattle.pool.specs.steps.Pool.{sizeAt, labelAt, poolStart, poolOffset}
 use Rattle.seqs.specs.Every.{all}
 use Rattle.checks.specs.Entries.{outside}
 use Rattle.checks.specs.steps.Fields.{clearOfEvents, clearOfPool}
-use Rattle.checks.specs.steps.Search.{Ordered, Before, Placed}
+use Rattle.lookup.specs.steps.Index.{Rises, Around}
+use Rattle.checks.specs.steps.Search.{Ordered, Before, Halved, Placed}
 use Rattle.seqs.proofs.Every.{all-of, all-fails, all-same}
 
+-- Halving: before the first turn, where nothing is known, and where an index has told how far the search has to look.
+pub halved-first : (start : ℕ → ℕ) (n to : ℕ) → Halved start n to 0 n
+halved-first start n to =
+    record {
+      most = omega arith;
+      rise = omega arith;
+      below = λ j l. absurd (not-suc-le-zero l);
+      above = λ j h l. let z : ⊥ = omega arith in absurd z;
+    }
+
+pub halved-around : {start : ℕ → ℕ} {n to low high : ℕ} → Around start n to low high → Halved start n to low high
+halved-around a =
+    record {
+      most = a .within;
+      rise = a .order;
+      below = a .under;
+      above = λ j h k. omega (arith, a .above j h k);
+    }
+
+pub halved-last : {start : ℕ → ℕ} {n to low high : ℕ} → Halved start n to low high → high ≤ low → Before start n to low
+halved-last h e =
+    record { few = omega (arith, h .most, h .rise); below = h .below; above = λ j k l. h .above j (omega (arith, h .rise)) l }
+
 module _ (start end : ℕ → ℕ) where
-  -- halving: a piece that starts before the offset, and one that does not
-  pub record Halved (n to low high : ℕ) : Type 0 where
-    pub most : high ≤ n
-    pub rise : low ≤ high
-    pub below : (j : ℕ) → j < low → start j < to
-    pub above : (j : ℕ) → high ≤ j → j < n → to ≤ start j
-
-  pub halved-first : (n to : ℕ) → Halved n to 0 n
-  halved-first n to =
-      record {
-        most = omega arith;
-        rise = omega arith;
-        below = λ j l. absurd (not-suc-le-zero l);
-        above = λ j h l. let z : ⊥ = omega arith in absurd z;
-      }
-
   starts-rise : (n i j : ℕ) → Ordered start end n → i ≤ j → j < n → start i ≤ start j
   starts-rise n i j o h l =
       ⊎-elim
@@ -42,7 +50,10 @@ module _ (start end : ℕ → ℕ) where
       (λ other. omega (arith, o .forward i (omega arith), o .order i j (omega arith) l))
       (eq-or-ne i j)
 
-  pub halved-low : (n to low high mid : ℕ) → Ordered start end n → Halved n to low high → mid < high → start mid < to → low ≤ mid → Halved n to (mid + 1) high
+  pub starts-rises : (n : ℕ) → Ordered start end n → Rises start n
+  starts-rises n o = record { rises = λ i j h l. starts-rise n i j o h l }
+
+  pub halved-low : (n to low high mid : ℕ) → Ordered start end n → Halved start n to low high → mid < high → start mid < to → low ≤ mid → Halved start n to (mid + 1) high
   halved-low n to low high mid o h m l q =
       record {
         most = h .most;
@@ -51,7 +62,7 @@ module _ (start end : ℕ → ℕ) where
         above = h .above;
       }
 
-  pub halved-high : (n to low high mid : ℕ) → Ordered start end n → Halved n to low high → mid < high → to ≤ start mid → low ≤ mid → Halved n to low mid
+  pub halved-high : (n to low high mid : ℕ) → Ordered start end n → Halved start n to low high → mid < high → to ≤ start mid → low ≤ mid → Halved start n to low mid
   halved-high n to low high mid o h m l q =
       record {
         most = omega (arith, h .most);
@@ -59,10 +70,6 @@ module _ (start end : ℕ → ℕ) where
         below = h .below;
         above = λ j k r. omega (arith, starts-rise n mid j o k r);
       }
-
-  pub halved-last : (n to low high : ℕ) → Halved n to low high → high ≤ low → Before start n to low
-  halved-last n to low high h e =
-      record { few = omega (arith, h .most, h .rise); below = h .below; above = λ j k l. h .above j (omega (arith, h .rise)) l }
 
   -- piece j lies before `from` or after `to`
   abbrev pub apart : ℕ → ℕ → ℕ → Bool

@@ -195,13 +195,8 @@ module _ (constants : List ℕ) (n labels : ℕ) where
       (e .label)))
 
   -- what the order of asking is handed
-  pub constants-labelled : n * constantSize ≤ length constants → n ≤ mostEntries → labels ≤ mostEntries → constantsFit constants n labels ≡ true → Labelled constants n
-  constants-labelled room limit known h =
-      record {
-        room = room;
-        limit = limit;
-        label = λ i l has. ⊎-elim (λ e. absurd (has e)) (λ e. omega (arith, e, known)) (constant-at i h l .1);
-      }
+  pub constants-labelled : n * constantSize ≤ length constants → constantsFit constants n labels ≡ true → Labelled constants n labels
+  constants-labelled room h = record { room = room; label = λ i l has. ⊎-elim (λ e. absurd (has e)) (λ e. e) (constant-at i h l .1) }
 
 module _ (asked : List ℕ) (n : ℕ) (constants : List ℕ) (known : ℕ) where
   pub asked-sound : n * askedSize ≤ length asked → orderFits asked n constants known ≡ true → AskedSound asked n constants known

@@ -7,11 +7,15 @@ ghost use Rattle.words.specs.Words.{wordAt};
 ghost use Rattle.recording.specs.Sound.{startAt, endAt};
 ghost use Rattle.seqs.specs.Every.{all};
 ghost use Rattle.relax.specs.Events.{eventSize};
-ghost use Rattle.buffer.specs.Tables.{labelSize, useSize, refSize, constantSize, askedSize, relocSize};
-ghost use Rattle.checks.specs.Entries.{formFits, eventFits, keptOnly, eventsFit, outside, labelFits, labelsFit, useFits, usesFit, refFits, refsFit, relocFits, relocsFit, constantFits, constantsFit, orderFits, entriesFit};
+ghost use Rattle.buffer.specs.Tables.{mostEntries, labelSize, useSize, refSize, constantSize, askedSize, relocSize};
+ghost use Rattle.lookup.specs.steps.Index.{Indexed};
+ghost use Rattle.checks.specs.Entries.{formFits, eventFits, keptOnly, eventsFit, labelFits, labelsFit, useFits, usesFit, refFits, refsFit, relocFits, relocsFit, constantFits, constantsFit, orderFits, entriesFit};
 ghost use Rattle.checks.specs.steps.Search.{Ordered};
-ghost use Rattle.checks.specs.steps.Handed.{CountsFit, tables, Labelled, askedLabel, Marks, newAt, unlabelledOr};
+ghost use Rattle.checks.specs.steps.Handed.{fewMarks, CountsFit, tables, Labelled, Marking, newAt, unlabelled, unlabelledOr};
 use buffer::CodeBuffer;
+
+// Marks that cost a small recording next to nothing to clear.
+pub const FEW_MARKS: usize = 256;
 
 // A jump has 2 to 15 bytes, a known label, and a condition up to 16; an alignment is on a power of two up to 4,096, with the least padding.
 fn form_fits(labels: u32, kind: u32, start: u32, len: u32, what: u32, cc: u32) -> bool
@@ -81,16 +85,17 @@ pub fn events_fit(arch: u32, events: &[u8], n: usize, labels: u32, code: u32) ->
     buffer::both(kept, each_event_fits(events, n, labels, code))
 }
 
-// Whether an offset lies strictly inside none of the events.
-fn is_outside(events: &[u8], n: usize, offset: u32) -> bool
-    requires { ⌜ n * eventSize ≤ length (now events) ⌝ ∗ ⌜ Ordered (startAt (now events)) (endAt (now events)) n ⌝ }
-    ensures { λ r. ⌜ r ≡ outside (now (events .entry)) n offset ⌝ }
-{
-    crate::search::clear_of_events(events, n, offset as u64, offset as u64)
-}
-
-fn label_fits(labels: &[u8], events: &[u8], n: usize, code: u32, i: usize) -> bool
-    requires { ⌜ i * labelSize + labelSize ≤ length (now labels) ⌝ ∗ ⌜ n * eventSize ≤ length (now events) ⌝ ∗ ⌜ Ordered (startAt (now events)) (endAt (now events)) n ⌝ }
+// Whether label `i` fits: it is unbound, or bound within the code and inside none of the events, whose starts the index has.
+fn label_fits(
+    labels: &[u8],
+    events: &[u8],
+    n: usize,
+    code: u32,
+    index: &[u32],
+    shift: u32,
+    i: usize,
+) -> bool
+    requires { ⌜ i * labelSize + labelSize ≤ length (now labels) ⌝ ∗ ⌜ n * eventSize ≤ length (now events) ⌝ ∗ ⌜ Ordered (startAt (now events)) (endAt (now events)) n ⌝ ∗ ⌜ Indexed (now index) (startAt (now events)) n shift ⌝ }
     ensures { λ r. ⌜ r ≡ labelFits (now (events .entry)) n code (wordAt (now (labels .entry)) i) ⌝ }
 {
     let offset = words::word_at(labels, i);
@@ -100,21 +105,44 @@ fn label_fits(labels: &[u8], events: &[u8], n: usize, code: u32, i: usize) -> bo
     if code < offset {
         return false;
     }
-    is_outside(events, n, offset)
+    crate::search::is_outside(events, n, index, shift, offset)
 }
 
-pub fn labels_fit(labels: &[u8], n: usize, events: &[u8], m: usize, code: u32) -> bool
-    requires { ⌜ n * labelSize ≤ length (now labels) ⌝ ∗ ⌜ m * eventSize ≤ length (now events) ⌝ ∗ ⌜ Ordered (startAt (now events)) (endAt (now events)) m ⌝ }
+fn each_label_fits(
+    labels: &[u8],
+    n: usize,
+    events: &[u8],
+    m: usize,
+    code: u32,
+    index: &[u32],
+    shift: u32,
+) -> bool
+    requires { ⌜ n * labelSize ≤ length (now labels) ⌝ ∗ ⌜ m * eventSize ≤ length (now events) ⌝ ∗ ⌜ Ordered (startAt (now events)) (endAt (now events)) m ⌝ ∗ ⌜ Indexed (now index) (startAt (now events)) m shift ⌝ }
     ensures { λ r. ⌜ r ≡ labelsFit (now (labels .entry)) n (now (events .entry)) m code ⌝ }
 {
     let mut i: usize = 0;
     while i < n {
-        if !label_fits(labels, events, m, code, i) {
+        if !label_fits(labels, events, m, code, index, shift, i) {
             return false;
         }
         i += 1;
     }
     true
+}
+
+// An index pays where there are many events and many labels.
+pub fn labels_fit(labels: &[u8], n: usize, events: &[u8], m: usize, code: u32) -> bool
+    requires { ⌜ n * labelSize ≤ length (now labels) ⌝ ∗ ⌜ m * eventSize ≤ length (now events) ⌝ ∗ ⌜ Ordered (startAt (now events)) (endAt (now events)) m ⌝ }
+    ensures { λ r. ⌜ r ≡ labelsFit (now (labels .entry)) n (now (events .entry)) m code ⌝ }
+{
+    if !lookup::pays(m, n) {
+        let none = [0u32; 0];
+        return each_label_fits(labels, n, events, m, code, &none, 0);
+    }
+    let mut index = [0u32; lookup::SIZE];
+    let shift = lookup::shift_for(code);
+    crate::search::index_events(&mut index, shift, events, m);
+    each_label_fits(labels, n, events, m, code, &index, shift)
 }
 
 fn use_fits(uses: &[u8], arch: u32, labels: u32, i: usize) -> bool
@@ -244,7 +272,7 @@ fn is_new(
     seen: &[bool],
     taken: &[bool],
 ) -> bool
-    requires { ⌜ i * askedSize + askedSize ≤ length (now asked) ⌝ ∗ ⌜ Labelled (now constants) known ⌝ ∗ ⌜ Marks (now seen) (wordAt (now asked)) i ⌝ ∗ ⌜ Marks (now taken) (askedLabel (now constants) (now asked)) i ⌝ }
+    requires { ⌜ i * askedSize + askedSize ≤ length (now asked) ⌝ ∗ ⌜ Marking (now asked) (now constants) known i (now seen) (now taken) ⌝ }
     ensures { λ r. ⌜ r ≡ newAt (now (asked .entry)) (now (constants .entry)) known i ⌝ }
 {
     let constant = words::word_at(asked, i);
@@ -269,8 +297,8 @@ fn mark_asked(
     seen: &mut [bool],
     taken: &mut [bool],
 ) -> bool
-    requires { ⌜ n * askedSize ≤ length (now asked) ⌝ ∗ ⌜ Labelled (now constants) known ⌝ ∗ ⌜ Marks (now seen) (wordAt (now asked)) 0 ⌝ ∗ ⌜ Marks (now taken) (askedLabel (now constants) (now asked)) 0 ⌝ }
-    ensures { λ r. ⌜ r ≡ all (newAt (now (asked .entry)) (now (constants .entry)) known) n ⌝ ∗ ⌜ (r ≡ true → Marks (now (seen .exit)) (wordAt (now (asked .entry))) n) ⌝ }
+    requires { ⌜ n * askedSize ≤ length (now asked) ⌝ ∗ ⌜ Marking (now asked) (now constants) known 0 (now seen) (now taken) ⌝ }
+    ensures { λ r. ⌜ r ≡ all (newAt (now (asked .entry)) (now (constants .entry)) known) n ⌝ ∗ ⌜ (r ≡ true → Marking (now (asked .entry)) (now (constants .entry)) known n (now (seen .exit)) (now (taken .exit))) ⌝ }
 {
     let mut i: usize = 0;
     while i < n {
@@ -311,17 +339,82 @@ fn is_each_marked(constants: &[u8], n: u32, seen: &[bool]) -> bool
     true
 }
 
-// Whether the order of asking lists every constant that has a label, and no other, each once and with a label of its own.
-pub fn order_fits(asked: &[u8], n: usize, constants: &[u8], known: u32) -> bool
-    requires { ⌜ n * askedSize ≤ length (now asked) ⌝ ∗ ⌜ Labelled (now constants) known ⌝ }
+// Whether the order of asking lists every constant that has a label, and no other, each once and with a label of its own. No mark is set yet.
+fn order_fits_by(
+    asked: &[u8],
+    n: usize,
+    constants: &[u8],
+    known: u32,
+    seen: &mut [bool],
+    taken: &mut [bool],
+) -> bool
+    requires { ⌜ n * askedSize ≤ length (now asked) ⌝ ∗ ⌜ Marking (now asked) (now constants) known 0 (now seen) (now taken) ⌝ }
+    ensures { λ r. ⌜ r ≡ orderFits (now (asked .entry)) n (now (constants .entry)) known ⌝ }
+{
+    if !mark_asked(asked, n, constants, known, seen, taken) {
+        return false;
+    }
+    is_each_marked(constants, known, seen)
+}
+
+// With few constants and labels a few marks are enough.
+fn small_order_fits(asked: &[u8], n: usize, constants: &[u8], known: u32) -> bool
+    requires { ⌜ (n * askedSize ≤ length (now asked)) × (known ≤ fewMarks) ⌝ ∗ ⌜ Labelled (now constants) known fewMarks ⌝ }
+    ensures { λ r. ⌜ r ≡ orderFits (now (asked .entry)) n (now (constants .entry)) known ⌝ }
+{
+    let mut seen = [false; FEW_MARKS];
+    let mut taken = [false; FEW_MARKS];
+    order_fits_by(asked, n, constants, known, &mut seen, &mut taken)
+}
+
+fn large_order_fits(asked: &[u8], n: usize, constants: &[u8], known: u32) -> bool
+    requires { ⌜ (n * askedSize ≤ length (now asked)) × (known ≤ mostEntries) ⌝ ∗ ⌜ Labelled (now constants) known mostEntries ⌝ }
     ensures { λ r. ⌜ r ≡ orderFits (now (asked .entry)) n (now (constants .entry)) known ⌝ }
 {
     let mut seen = [false; buffer::MOST_ENTRIES];
     let mut taken = [false; buffer::MOST_ENTRIES];
-    if !mark_asked(asked, n, constants, known, &mut seen, &mut taken) {
-        return false;
+    order_fits_by(asked, n, constants, known, &mut seen, &mut taken)
+}
+
+fn is_unlabelled(constants: &[u8], i: usize) -> bool
+    requires { ⌜ i * constantSize + constantSize ≤ length (now constants) ⌝ }
+    ensures { λ r. ⌜ r ≡ unlabelled (now (constants .entry)) i ⌝ }
+{
+    words::word_at(constants, i * buffer::CONSTANT_WORDS + 1) == buffer::NONE
+}
+
+// Whether no constant has a label.
+fn is_each_unlabelled(constants: &[u8], n: u32) -> bool
+    requires { ⌜ n * constantSize ≤ length (now constants) ⌝ }
+    ensures { λ r. ⌜ r ≡ all (unlabelled (now (constants .entry))) n ⌝ }
+{
+    let count = n as usize;
+    let mut i: usize = 0;
+    while i < count {
+        if !is_unlabelled(constants, i) {
+            return false;
+        }
+        i += 1;
     }
-    is_each_marked(constants, known, &seen)
+    true
+}
+
+// Whether the order of asking fits the constants. Where nothing is asked for nothing is marked, and clearing marks for 65,536 entries takes longer than all
+// else that a small recording asks.
+pub fn order_fits(asked: &[u8], n: usize, constants: &[u8], known: u32, labels: u32) -> bool
+    requires { ⌜ (n * askedSize ≤ length (now asked)) × (known ≤ mostEntries) × (labels ≤ mostEntries) ⌝ ∗ ⌜ Labelled (now constants) known labels ⌝ }
+    ensures { λ r. ⌜ r ≡ orderFits (now (asked .entry)) n (now (constants .entry)) known ⌝ }
+{
+    if n == 0 {
+        return is_each_unlabelled(constants, known);
+    }
+    if FEW_MARKS < known as usize {
+        return large_order_fits(asked, n, constants, known);
+    }
+    if FEW_MARKS < labels as usize {
+        return large_order_fits(asked, n, constants, known);
+    }
+    small_order_fits(asked, n, constants, known)
 }
 
 // Whether every entry of the tables is one that calls write.
@@ -353,7 +446,7 @@ pub fn entries_fit(
     if !constants_fit(constants, b.constants as usize, b.labels) {
         return false;
     }
-    if !order_fits(asked, b.asked as usize, constants, b.constants) {
+    if !order_fits(asked, b.asked as usize, constants, b.constants, b.labels) {
         return false;
     }
     relocs_fit(b, relocs)

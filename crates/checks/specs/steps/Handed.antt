@@ -52,11 +52,14 @@ pub record JumpsNamed (events : List ℕ) (n : ℕ) (labels : List ℕ) : Type 0
 pub record TargetsNamed (relocs : List ℕ) (n : ℕ) (labels : List ℕ) : Type 0 where
   pub known : (i : ℕ) → i < n → labelTarget ≤ wordAt relocs (i * relocWords + 2) → (wordAt relocs (i * relocWords + 2) - labelTarget) * labelSize + labelSize ≤ length labels
 
--- the first n constants lie in the table, and have labels below 65,536, or none
-pub record Labelled (constants : List ℕ) (n : ℕ) : Type 0 where
+-- the first n constants lie in the table, and each has one of `labels` labels, or none
+pub record Labelled (constants : List ℕ) (n labels : ℕ) : Type 0 where
   pub room : n * constantSize ≤ length constants
-  pub limit : n ≤ mostEntries
-  pub label : (i : ℕ) → i < n → labelOf constants i ≢ none → labelOf constants i < mostEntries
+  pub label : (i : ℕ) → i < n → labelOf constants i ≢ none → labelOf constants i < labels
+
+-- marks of a small recording: constants, and labels
+abbrev pub fewMarks : ℕ
+fewMarks = 256
 
 -- the label of the constant that was asked for as number i
 abbrev pub askedLabel : List ℕ → List ℕ → ℕ → ℕ
@@ -66,15 +69,24 @@ askedLabel constants asked i = labelOf constants (wordAt asked i)
 unfoldable pub occurs : (ℕ → ℕ) → ℕ → ℕ → Bool
 occurs f n k = not (all (λ (i : ℕ). not (eqb (f i) k)) n)
 
--- marks for 65,536 numbers: those that occur are marked
+-- of the numbers that have a mark those that occur are marked
 pub record Marks (marks : List Bool) (f : ℕ → ℕ) (n : ℕ) : Type 0 where
-  pub size : length marks ≡ mostEntries
-  pub marked : (k : ℕ) → k < mostEntries → getD marks k false ≡ occurs f n k
+  pub marked : (k : ℕ) → k < length marks → getD marks k false ≡ occurs f n k
+
+-- the first i constants that are asked for are marked, and their labels; each of `known` constants has a mark, and each of their labels
+pub record Marking (asked constants : List ℕ) (known i : ℕ) (seen taken : List Bool) : Type 0 where
+  pub labelled : Labelled constants known (length taken)
+  pub enough : known ≤ length seen
+  pub constants-marked : Marks seen (wordAt asked) i
+  pub labels-marked : Marks taken (askedLabel constants asked) i
 
 -- entry i of the order of asking is fit and new
 abbrev pub newAt : List ℕ → List ℕ → ℕ → ℕ → Bool
 newAt asked constants known i = askedFits asked constants known i && askedOnce asked constants i
 
--- constant k has no label, or is marked
+-- constant k has no label; it has none, or is marked
+abbrev pub unlabelled : List ℕ → ℕ → Bool
+unlabelled constants k = eqb (labelOf constants k) none
+
 abbrev pub unlabelledOr : List ℕ → List Bool → ℕ → Bool
-unlabelledOr constants marks k = eqb (labelOf constants k) none || getD marks k false
+unlabelledOr constants marks k = unlabelled constants k || getD marks k false

@@ -18,6 +18,13 @@ pub record Before (start : ℕ → ℕ) (n to k : ℕ) : Type 0 where
   pub below : (j : ℕ) → j < k → start j < to
   pub above : (j : ℕ) → k ≤ j → j < n → to ≤ start j
 
+-- a search among n pieces: those before `low` start before an offset, those from `high` on do not
+pub record Halved (start : ℕ → ℕ) (n to low high : ℕ) : Type 0 where
+  pub most : high ≤ n
+  pub rise : low ≤ high
+  pub below : (j : ℕ) → j < low → start j < to
+  pub above : (j : ℕ) → high ≤ j → j < n → to ≤ start j
+
 -- the first n constants of the pool lie in the tables, and their labels are bound where they stand
 pub record Placed (labels constants asked : List ℕ) (code n : ℕ) : Type 0 where
   pub room : n * askedSize ≤ length asked

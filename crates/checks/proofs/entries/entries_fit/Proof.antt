@@ -66,7 +66,7 @@ order-fits-requires c κs =
     let else5 : tie.Else5 = search in
     let after-constants-fit : tie.After-constants-fit = search in
     let p = entered (search) .pre in
-    (p .asked-room, constants-labelled _ _ _ (p .constants-room) (p .constants-limit) (p .labels-limit) (sym (after-constants-fit .constants-fit .ensures) ∙ not-false _ (else5 .if5 .left)))
+    ((p .asked-room, p .constants-limit, p .labels-limit), constants-labelled _ _ _ (p .constants-room) (sym (after-constants-fit .constants-fit .ensures) ∙ not-false _ (else5 .if5 .left)))
 
 returns-6 : tie.Need-returns-6
 unfolding entriesFit

@@ -26,8 +26,8 @@ shared-slice-read-shared c =
     let start : tie.Start = search in
     let a = start .pre in
     let label = rw (after-word-at .word-at .ensures) at (after-word-at2 .word-at2 .ensures) in
-    let known = a .1 .0 .label _ (rw (after-word-at .word-at .ensures) at (else1 .if1 .left)) (λ e. else2 .if2 .left (label ∙ e)) in
-    omega (arith, label, known, a .1 .1 .1 .size)
+    let known = a .1 .labelled .label _ (rw (after-word-at .word-at .ensures) at (else1 .if1 .left)) (λ e. else2 .if2 .left (label ∙ e)) in
+    omega (arith, label, known)
 
 returns-3 : tie.Need-returns-3
 returns-3 c =
@@ -39,7 +39,7 @@ returns-3 c =
     let p = start .pre in
     let constant = after-word-at .word-at .ensures in
     let label = rw constant at (after-word-at2 .word-at2 .ensures) in
-    rw (c .both .ensures, label, constant) (new-marked (start .args .asked .now) (p .1 .1 .0) (p .1 .1 .1) (p .1 .0) (rw constant at (else1 .if1 .left)) (λ e. else2 .if2 .left (label ∙ e)))
+    rw (c .both .ensures, label, constant) (new-marked (start .args .asked .now) (p .1) (rw constant at (else1 .if1 .left)) (λ e. else2 .if2 .left (label ∙ e)))
 
 pub is-new-spec : {M : Type 1} → statement M
 is-new-spec =

@@ -1,21 +1,35 @@
--- `labels_fit` meets its contract: all the labels passed fit.
-use Prim.Native.Nat.{_-_}
-use Prim.Native.Nat.{ℕ}
-use Rattle.words.specs.Words.{wordAt}
-use Rattle.checks.specs.Entries.{labelFits, labelsFit}
-use Rattle.seqs.proofs.Scans.{AllPassed, scans}
+-- `labels_fit` meets its contract, with an index of the events and without one.
+use borrow.Author.Tests.{not-false}
+use native.Mathlib.Omega.{arith}
+use Rattle.lookup.proofs.Index.{indexed-none}
 use borrow.Author.Needs.{needs}
 use Rattle.checks.proofs.entries.labels_fit.Statement.{statement}
 use Rattle.checks.proofs.entries.labels_fit.Tie as tie
 
-abbrev Inv-loop : tie.InvT-loop
-Inv-loop labels n events m code i₀ i = AllPassed (λ (k : ℕ). labelFits events m code (wordAt labels k)) n i
+each-label-fits-requires : tie.Need-each-label-fits-requires
+each-label-fits-requires c κs =
+    let start : tie.Start = search in
+    (start .pre .0, (start .pre .1 .0, (start .pre .1 .1, indexed-none _ _ _ _ (omega arith) (omega arith))))
 
-abbrev μ-loop : tie.MeasureT-loop
-μ-loop labels n events m code i₀ i = n - i
+index-events-requires : tie.Need-index-events-requires
+index-events-requires c κs =
+    let shifted : tie.After-shift-for = search in
+    let else1 : tie.Else1 = search in
+    let asked : tie.After-pays = search in
+    let start : tie.Start = search in
+    ((omega arith, shifted .shift-for .ensures .0, asked .pays .ensures (not-false _ (else1 .if1 .left)), start .pre .1 .0), start .pre .1 .1)
 
 pub labels-fit-spec : {M : Type 1} → statement M
-unfolding labelsFit
 labels-fit-spec =
     tie.close
-    (tie.spec Inv-loop μ-loop (λ c. search scans) (λ c κs. search needs) (λ c. search scans) (λ c. search needs) (λ c. search needs) (λ c. search scans) (λ c. search scans))
+    (tie.spec
+    (λ c κs. search needs)
+    (λ c. search needs)
+    each-label-fits-requires
+    (λ c. search needs)
+    (λ c κs. search needs)
+    (λ c. search needs)
+    index-events-requires
+    (λ c. search needs)
+    (λ c κs. search needs)
+    (λ c. search needs))

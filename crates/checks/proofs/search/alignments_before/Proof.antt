@@ -1,20 +1,21 @@
 -- `alignments_before` meets its contract: each turn halves what is not told apart yet.
 use native.Mathlib.Omega.{arith}
 use Prim.Native.Nat.{_+_, _-_, _/_}
-use Rattle.pool.specs.steps.Pool.{poolStart, poolOffset}
-use Rattle.checks.proofs.Clear.{Halved, halved-first, halved-low, halved-high, halved-last, pool-ordered, placed-fewer}
+use Rattle.pool.specs.steps.Pool.{poolStart}
+use Rattle.checks.specs.steps.Search.{Halved}
+use Rattle.checks.proofs.Clear.{halved-first, halved-low, halved-high, halved-last, pool-ordered, placed-fewer}
 use borrow.Author.Needs.{needs}
 use Rattle.checks.proofs.search.alignments_before.Statement.{statement}
 use Rattle.checks.proofs.search.alignments_before.Tie as tie
 
 abbrev Inv-loop : tie.InvT-loop
-Inv-loop labels constants asked code n to low₀ high₀ low high = Halved (poolStart code constants asked) (poolOffset code constants asked) n to low high
+Inv-loop labels constants asked code n to low₀ high₀ low high = Halved (poolStart code constants asked) n to low high
 
 abbrev μ-loop : tie.MeasureT-loop
 μ-loop labels constants asked code n to low₀ high₀ low high = high - low
 
 loop-holds : tie.Need-loop-holds Inv-loop μ-loop
-loop-holds c = halved-first _ _ _ _
+loop-holds c = halved-first _ _ _
 
 alignment-at-requires : tie.Need-alignment-at-requires Inv-loop μ-loop
 alignment-at-requires c κs =
@@ -41,7 +42,7 @@ loop-again-2 c =
 returns : tie.Need-returns Inv-loop μ-loop
 returns c =
     let at-loop : tie.At-loop Inv-loop μ-loop = search in
-    let l = at-loop .loop in halved-last _ _ _ _ (l .low) (l .high) (l .inv) (omega arith)
+    let l = at-loop .loop in halved-last (l .inv) (omega arith)
 
 pub alignments-before-spec : {M : Type 1} → statement M
 alignments-before-spec =

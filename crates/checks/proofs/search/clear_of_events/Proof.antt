@@ -1,21 +1,11 @@
--- `clear_of_events` meets its contract: the last event that starts before the end decides.
-use native.Mathlib.Omega.{arith}
-use Rattle.checks.proofs.Clear.{clear-none, clear-last}
+-- `clear_of_events` meets its contract: before the search nothing is known.
+use Rattle.checks.proofs.Clear.{halved-first}
 use borrow.Author.Needs.{needs}
 use Rattle.checks.proofs.search.clear_of_events.Statement.{statement}
 use Rattle.checks.proofs.search.clear_of_events.Tie as tie
 
-returns : tie.Need-returns
-returns c =
-    let after-events-before : tie.After-events-before = search in
-    clear-none _ _ _ _ _ (c .if1 .taken) (after-events-before .events-before .ensures)
-
-returns-2 : tie.Need-returns-2
-returns-2 c =
-    let after-events-before : tie.After-events-before = search in
-    let start : tie.Start = search in
-    rw (c .end-at .ensures) (clear-last _ _ _ _ _ (omega arith) (start .pre .1) (after-events-before .events-before .ensures))
+clear-among-requires : tie.Need-clear-among-requires
+clear-among-requires c κs = let start : tie.Start = search in (start .pre .0, (start .pre .1, halved-first _ _ _))
 
 pub clear-of-events-spec : {M : Type 1} → statement M
-clear-of-events-spec =
-    tie.close (tie.spec (λ c κs. search needs) returns (λ c. search needs) (λ c κs. search needs) returns-2)
+clear-of-events-spec = tie.close (tie.spec clear-among-requires (λ c. search needs))

@@ -1,20 +1,21 @@
 -- `events_before` meets its contract: each turn halves what is not told apart yet.
 use native.Mathlib.Omega.{arith}
 use Prim.Native.Nat.{_+_, _-_, _/_}
-use Rattle.recording.specs.Sound.{startAt, endAt}
-use Rattle.checks.proofs.Clear.{Halved, halved-first, halved-low, halved-high, halved-last}
+use Rattle.recording.specs.Sound.{startAt}
+use Rattle.checks.specs.steps.Search.{Halved}
+use Rattle.checks.proofs.Clear.{halved-low, halved-high, halved-last}
 use borrow.Author.Needs.{needs}
 use Rattle.checks.proofs.search.events_before.Statement.{statement}
 use Rattle.checks.proofs.search.events_before.Tie as tie
 
 abbrev Inv-loop : tie.InvT-loop
-Inv-loop events n to low₀ high₀ low high = Halved (startAt events) (endAt events) n to low high
+Inv-loop events n to first last low₀ high₀ low high = Halved (startAt events) n to low high
 
 abbrev μ-loop : tie.MeasureT-loop
-μ-loop events n to low₀ high₀ low high = high - low
+μ-loop events n to first last low₀ high₀ low high = high - low
 
 loop-holds : tie.Need-loop-holds Inv-loop μ-loop
-loop-holds c = halved-first _ _ _ _
+loop-holds c = let start : tie.Start Inv-loop μ-loop = search in start .pre .1 .1
 
 loop-again : tie.Need-loop-again Inv-loop μ-loop
 loop-again c =
@@ -23,7 +24,7 @@ loop-again c =
     let start : tie.Start Inv-loop μ-loop = search in
     let l = at-loop .loop in
     let mid = l .low + (l .high - l .low) / 2 in
-    halved-low _ _ _ _ (l .low) (l .high) mid (start .pre .1) (l .inv) (omega arith) (rw (after-start-at .start-at .ensures) at (c .if1 .taken)) (omega arith)
+    halved-low _ _ _ _ (l .low) (l .high) mid (start .pre .1 .0) (l .inv) (omega arith) (rw (after-start-at .start-at .ensures) at (c .if1 .taken)) (omega arith)
 
 loop-again-2 : tie.Need-loop-again-2 Inv-loop μ-loop
 loop-again-2 c =
@@ -32,12 +33,12 @@ loop-again-2 c =
     let start : tie.Start Inv-loop μ-loop = search in
     let l = at-loop .loop in
     let mid = l .low + (l .high - l .low) / 2 in
-    halved-high _ _ _ _ (l .low) (l .high) mid (start .pre .1) (l .inv) (omega arith) (rw (after-start-at .start-at .ensures) at (c .if1 .left)) (omega arith)
+    halved-high _ _ _ _ (l .low) (l .high) mid (start .pre .1 .0) (l .inv) (omega arith) (rw (after-start-at .start-at .ensures) at (c .if1 .left)) (omega arith)
 
 returns : tie.Need-returns Inv-loop μ-loop
 returns c =
     let at-loop : tie.At-loop Inv-loop μ-loop = search in
-    let l = at-loop .loop in halved-last _ _ _ _ (l .low) (l .high) (l .inv) (omega arith)
+    let l = at-loop .loop in halved-last (l .inv) (omega arith)
 
 pub events-before-spec : {M : Type 1} → statement M
 events-before-spec =
