@@ -1,5 +1,5 @@
 -- A label found once: the last event that starts at or before it says, under every choice, where `map` takes it.
-use mathlib.Core.Path.{_≡_, refl, _∙_, ap}
+use mathlib.Core.Path.{_≡_, refl, sym, _∙_, ap}
 use mathlib.Core.Logic.{_≢_}
 use mathlib.Core.List.{List, []}
 use Prim.Native.Nat.{ℕ, zero, suc, _+_, _-_, _≤_, _<_}
@@ -7,6 +7,8 @@ use native.Mathlib.Omega.{arith}
 use lib.Dec.{ltb}
 use lib.ListN.{length, getD}
 use borrow.Author.Tests.{eq-eqb, ne-eqb, lt-ltb, le-ltb, ltb-true, ltb-false}
+use Rattle.lookup.specs.steps.Index.{Indexed}
+use Rattle.lookup.proofs.Index.{indexed-same}
 use Rattle.relax.specs.declared.LayoutEvent.{LayoutEvent}
 use Rattle.relax.specs.declared.Segment.{Segment}
 use Rattle.relax.specs.Events.{startOf, endOf, noEvent}
@@ -18,7 +20,7 @@ use Rattle.fresh.proofs.Tests.{split}
 use Rattle.fresh.proofs.Events.{starts-rise}
 use Rattle.fresh.proofs.Loops.{length-segments, segments-getD, after-suc, after-start, decided-skip, decided-last}
 use Rattle.pool.specs.steps.Pool.{offsetBound}
-use Rattle.layout.specs.steps.Layout.{zeroSegment, Sorted, Between}
+use Rattle.layout.specs.steps.Layout.{zeroSegment, startAt, Sorted, Between}
 use Rattle.layout.specs.steps.Targets.{endIn, Stands, Shown, Finds}
 
 -- An unbound label stays unbound.
@@ -39,6 +41,10 @@ module _ {es : List LayoutEvent} {ss : List Segment} {events : List ℕ} {n all 
           starts-rise es 0 (shown .len) i j (shown .ordered) le (omega (arith, shown .count)),
         );
   }
+
+  -- An index of the starts serves every table that shows these events.
+  pub indexed-shown : {ss′ : List Segment} {index : List ℕ} {shift : ℕ} → Shown es ss′ events n all → Indexed index (startAt ss) all shift → Indexed index (startAt ss′) all shift
+  indexed-shown other x = indexed-same x (λ j h. shown .starts j h ∙ sym (other .starts j h))
 
   -- Event i ends where its table, or its segment, says.
   pub end-shown : (i : ℕ) → i < all → endIn ss events n i ≡ endOf (getD es i noEvent)

@@ -1,6 +1,8 @@
 -- Written by tools/plan; not to be edited, nor to be read: `tools/plan` in the root of the repository writes it anew.
 pub mod segment_at
 pub mod put_segment
+pub mod fill_index
+pub mod index_segments
 pub mod find
 pub mod map
 pub mod layout_events

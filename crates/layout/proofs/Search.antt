@@ -7,14 +7,23 @@ use native.Mathlib.Omega.{arith}
 use lib.ListN.{length, getD, take}
 use lib.Seq.{getD-take, length-take-le}
 use borrow.Author.Tests.{eq-eqb, ne-eqb}
+use Rattle.lookup.specs.steps.Index.{part, Rises, Indexed, Narrowed}
+use Rattle.lookup.proofs.Index.{narrowed-around}
 use Rattle.relax.specs.declared.Segment.{Segment}
 use Rattle.buffer.specs.State.{none}
 use Rattle.fresh.specs.Segments.{image, mapOffset}
 use Rattle.fresh.proofs.Loops.{decided-skip, decided-last}
 use Rattle.layout.specs.steps.Layout.{zeroSegment, startAt, Rising, Sorted, Between}
 
-pub between-all : (ss : List Segment) (n offset : ℕ) → Between ss n offset 0 n
-between-all ss n offset = record { order = omega arith; within = omega arith; under = λ j h. absurd (omega arith); above = λ j h k. absurd (omega arith) }
+-- Where the search starts, by the index.
+pub between-first : {index : List ℕ} {ss : List Segment} {n shift : ℕ} (offset : ℕ) {low high : ℕ} → Indexed index (startAt ss) n shift
+    → Narrowed index n (part shift offset) low high → Between ss n offset low high
+between-first offset x w =
+    let around = narrowed-around offset x w in
+    record { order = around .order; within = around .within; under = λ j h. omega (arith, around .under j h); above = around .above }
+
+pub sorted-rises : {ss : List Segment} {n : ℕ} → Sorted ss n → Rises (startAt ss) n
+sorted-rises sorted = record { rises = sorted .rises }
 
 pub rising-sorted : {ss : List Segment} {n : ℕ} → Rising ss n → Sorted ss n
 rising-sorted rise = record { fits = rise .fits; rises = rise .rises }

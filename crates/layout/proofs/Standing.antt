@@ -174,7 +174,7 @@ module _ {es : List LayoutEvent} {at : ℕ → ℕ} {first : Choice} {before ss 
         }
 
 -- The rounds as the program makes them.
-module _ (events : List ℕ) (n code : ℕ) (constants asked : List ℕ) (m : ℕ) (at : ℕ → ℕ) where
+module _ (events : List ℕ) (n code : ℕ) (constants asked : List ℕ) (m : ℕ) where
   -- The table is laid out once, and then the labels are looked up in it.
   pub shown-laid : (c : Choice) (before ss : List Segment) → Recorded events n code → PoolFits constants asked m → n + m ≤ mostEntries → n + m ≤ length before
       → ss ≡ over before 0 (segments 0 0 (allEvents events n code constants asked m) c) → Shown (allEvents events n code constants asked m) ss events n (n + m)
@@ -197,11 +197,11 @@ module _ (events : List ℕ) (n code : ℕ) (constants asked : List ℕ) (m : �
       }
 
   -- That and the targets leave what the table has past the events.
-  pub relaxed-from : {first : Choice} {total : ℕ} {before ss ss′ ss″ : List Segment} {long : Choice} {layouts len : ℕ} (c : Choice)
+  pub relaxed-from : (at : ℕ → ℕ) {first : Choice} {total : ℕ} {before ss ss′ ss″ : List Segment} {long : Choice} {layouts len : ℕ} (c : Choice)
       → ss ≡ over before 0 (segments 0 0 (allEvents events n code constants asked m) c) → SamePast n ss ss′
       → Relaxed (allEvents events n code constants asked m) at first total ss′ ss″ long layouts len
       → Relaxed (allEvents events n code constants asked m) at first total before ss″ long layouts len
-  relaxed-from {first} {before = before} c laid found r =
+  relaxed-from at {first} {before = before} c laid found r =
       let size = length-all events n code constants asked m in
       let es = allEvents events n code constants asked m in
       let over-all = same-past-over (length es) before 0 (segments 0 0 es c) (omega (arith, length-segments es 0 0 c)) in
@@ -214,7 +214,7 @@ module _ (events : List ℕ) (n code : ℕ) (constants asked : List ℕ) (m : �
       }
 
   -- A round places the new ends of all events, and scans the recorded ones.
-  module _ {first : Choice} {before ss : List Segment} {c : Choice} {layouts : ℕ} (q : Standing (allEvents events n code constants asked m) at first before ss c layouts)
+  module _ (at : ℕ → ℕ) {first : Choice} {before ss : List Segment} {c : Choice} {layouts : ℕ} (q : Standing (allEvents events n code constants asked m) at first before ss c layouts)
       (aiming : Aiming (allEvents events n code constants asked m) at events n ss) (few : n + m ≤ mostEntries) {ss′ : List Segment}
       (placed : Placed ss ss′ (allEvents events n code constants asked m) n c) where
     size : length (allEvents events n code constants asked m) ≡ n + m

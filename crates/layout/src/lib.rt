@@ -7,6 +7,7 @@ ghost use Prim.Native.Nat.{ℕ, _+_, _≤_, _<_};
 ghost use lib.ListN.{length, getD, take, set};
 ghost use Rattle.seqs.specs.Over.{over};
 ghost use Rattle.words.specs.Words.{wordAt};
+ghost use Rattle.lookup.specs.steps.Index.{indexSize, mostKeys, Indexed};
 ghost use Rattle.relax.specs.declared.LayoutEvent.{LayoutEvent};
 ghost use Rattle.relax.specs.Events.{eventAt};
 ghost use Rattle.buffer.specs.State.{none};
@@ -18,7 +19,7 @@ ghost use Rattle.fresh.specs.Segments.{segment, image, mapOffset};
 ghost use Rattle.fresh.specs.Segments as fresh;
 ghost use Rattle.pool.specs.steps.Pool.{poolStart, poolEvent, PoolFits, offsetBound};
 ghost use Rattle.layout.specs.steps.Targets.{inReach, endIn, Stands, Shown, Finds, Aims, Aiming, SamePast, Placed, withTarget, withEnd, Ended, endBefore, Adds, isMissedAt, missed};
-ghost use Rattle.layout.specs.steps.Layout.{zeroSegment, Rising, Sorted, Between, Follows, Recorded, allEvents, endFrom, finishedLength, Laid, Known, Labelled, Relaxed};
+ghost use Rattle.layout.specs.steps.Layout.{zeroSegment, startAt, Rising, Sorted, Between, Follows, Recorded, allEvents, endFrom, finishedLength, Laid, Known, Labelled, Relaxed};
 use relax::LayoutEvent;
 use relax::Segment;
 
@@ -44,13 +45,40 @@ pub fn put_segment(segments: &mut [Segment], i: usize, segment: Segment)
     segments[i] = segment;
 }
 
-// How many of the first `n` segments start at or before an offset.
-fn find(segments: &[Segment], n: usize, offset: u32) -> usize
-    requires { ⌜ Sorted (now segments) n ⌝ }
+// Fills an index of the recorded starts of the first `n` segments.
+fn fill_index(index: &mut [u32], shift: u32, segments: &[Segment], n: usize)
+    requires { ⌜ Sorted (now segments) n ⌝ ∗ ⌜ (indexSize ≤ length (now index)) × (shift < 32) × (n ≤ mostKeys) ⌝ }
+    ensures { λ _. ⌜ Indexed (now (index .exit)) (startAt (now (segments .entry))) n shift ⌝ }
+{
+    let mut next: usize = 0;
+    let mut i: usize = 0;
+    while i < n {
+        let segment = segment_at(segments, i);
+        next = lookup::mark(index, shift, next, i, segment.old_start);
+        i += 1;
+    }
+    lookup::close(index, next, n);
+}
+
+// The same where there is an index: a slice that is too short for one is left as it is.
+fn index_segments(index: &mut [u32], shift: u32, segments: &[Segment], n: usize)
+    requires { ⌜ Sorted (now segments) n ⌝ ∗ ⌜ (shift < 32) × (n ≤ mostKeys) ⌝ }
+    ensures { λ _. ⌜ Indexed (now (index .exit)) (startAt (now (segments .entry))) n shift ⌝ }
+{
+    if index.len() < lookup::SIZE {
+        return;
+    }
+    fill_index(index, shift, segments, n);
+}
+
+// How many of the first `n` segments start at or before an offset. The index, if there is one, is that of their starts.
+fn find(segments: &[Segment], n: usize, index: &[u32], shift: u32, offset: u32) -> usize
+    requires { ⌜ Sorted (now segments) n ⌝ ∗ ⌜ Indexed (now index) (startAt (now segments)) n shift ⌝ }
     ensures { λ r. ⌜ Between (now (segments .entry)) n offset r r ⌝ }
 {
-    let mut low: usize = 0;
-    let mut high = n;
+    let span = lookup::narrow(index, shift, n, offset);
+    let mut low = span.low;
+    let mut high = span.high;
     while low < high {
         let mid = low + (high - low) / 2;
         let segment = segment_at(segments, mid);
@@ -75,14 +103,14 @@ fn place(segment: Segment, offset: u32) -> u32
 }
 
 // The new offset of what was recorded at an offset.
-pub fn map(segments: &[Segment], n: usize, offset: u32) -> u32
-    requires { ⌜ Rising (now segments) n ⌝ ∗ ⌜ (offset ≢ none → offset ≤ offsetBound) ⌝ }
+pub fn map(segments: &[Segment], n: usize, index: &[u32], shift: u32, offset: u32) -> u32
+    requires { ⌜ Rising (now segments) n ⌝ ∗ ⌜ Indexed (now index) (startAt (now segments)) n shift ⌝ ∗ ⌜ (offset ≢ none → offset ≤ offsetBound) ⌝ }
     ensures { λ r. ⌜ r ≡ mapOffset (take n (now (segments .entry))) offset ⌝ }
 {
     if offset == buffer::NONE {
         return offset;
     }
-    let found = find(segments, n, offset);
+    let found = find(segments, n, index, shift, offset);
     if found == 0 {
         return offset;
     }
@@ -230,8 +258,16 @@ pub struct Target {
 }
 
 // That of a label recorded at `offset`. Of the `all` events the first `n` stand in their table.
-fn locate(segments: &[Segment], events: &[u8], n: usize, all: usize, offset: u32) -> Target
-    requires { ⌜ ((es : List LayoutEvent) × Shown es (now segments) (now events) n all) ⌝ ∗ ⌜ (offset ≢ none → offset ≤ offsetBound) ⌝ }
+fn locate(
+    segments: &[Segment],
+    events: &[u8],
+    n: usize,
+    all: usize,
+    index: &[u32],
+    shift: u32,
+    offset: u32,
+) -> Target
+    requires { ⌜ ((es : List LayoutEvent) × Shown es (now segments) (now events) n all) ⌝ ∗ ⌜ Indexed (now index) (startAt (now segments)) all shift ⌝ ∗ ⌜ (offset ≢ none → offset ≤ offsetBound) ⌝ }
     ensures { λ r. ⌜ ((es : List LayoutEvent) → Shown es (now (segments .entry)) (now (events .entry)) n all → Finds es offset (r .passed) (r .beyond)) ⌝ }
 {
     if offset == buffer::NONE {
@@ -240,7 +276,7 @@ fn locate(segments: &[Segment], events: &[u8], n: usize, all: usize, offset: u32
             beyond: offset,
         };
     }
-    let found = find(segments, all, offset);
+    let found = find(segments, all, index, shift, offset);
     if found == 0 {
         return Target {
             passed: 0,
@@ -249,10 +285,9 @@ fn locate(segments: &[Segment], events: &[u8], n: usize, all: usize, offset: u32
     }
     let end = recorded_end(segments, events, n, found - 1);
     if end <= offset {
-        return Target {
-            passed: found as u32,
-            beyond: offset - end,
-        };
+        let passed = found as u32;
+        let beyond = offset - end;
+        return Target { passed, beyond };
     }
     if found == 1 {
         return Target {
@@ -261,10 +296,9 @@ fn locate(segments: &[Segment], events: &[u8], n: usize, all: usize, offset: u32
         };
     }
     let before = recorded_end(segments, events, n, found - 2);
-    Target {
-        passed: (found - 1) as u32,
-        beyond: offset - before,
-    }
+    let passed = (found - 1) as u32;
+    let beyond = offset - before;
+    Target { passed, beyond }
 }
 
 // That of the label which event `i` names; `NONE` in the place of `passed` where it names none.
@@ -274,16 +308,18 @@ fn target_of(
     labels: &[u8],
     n: usize,
     all: usize,
+    index: &[u32],
+    shift: u32,
     i: usize,
 ) -> Target
-    requires { ⌜ ((es : List LayoutEvent) × Shown es (now segments) (now events) n all) ⌝ ∗ ⌜ Known (eventAt (now events) i) (now labels) ⌝ ∗ ⌜ i < n ⌝ }
+    requires { ⌜ ((es : List LayoutEvent) × Shown es (now segments) (now events) n all) ⌝ ∗ ⌜ Indexed (now index) (startAt (now segments)) all shift ⌝ ∗ ⌜ Known (eventAt (now events) i) (now labels) ⌝ ∗ ⌜ i < n ⌝ }
     ensures { λ r. ⌜ ((es : List LayoutEvent) → Shown es (now (segments .entry)) (now (events .entry)) n all → Aims es (wordAt (now (labels .entry))) (eventAt (now (events .entry)) i) (r .passed) (r .beyond)) ⌝ }
 {
     let event = relax::event_at(events, i);
     match event {
         LayoutEvent::Jump(jump) => {
             let offset = words::word_at(labels, jump.label as usize);
-            locate(segments, events, n, all, offset)
+            locate(segments, events, n, all, index, shift, offset)
         }
         LayoutEvent::Align(_) => Target {
             passed: buffer::NONE,
@@ -311,14 +347,22 @@ fn put_target(segments: &mut [Segment], i: usize, target: Target)
 }
 
 // Finds the label of each jump once: the first `n` rows of a table that is laid out come to hold the targets of their events.
-fn find_targets(segments: &mut [Segment], events: &[u8], labels: &[u8], n: usize, all: usize)
-    requires { ⌜ ((es : List LayoutEvent) × Shown es (now segments) (now events) n all) ⌝ ∗ ⌜ Labelled (now events) (now labels) n ⌝ ∗ ⌜ n ≤ all ⌝ }
+fn find_targets(
+    segments: &mut [Segment],
+    events: &[u8],
+    labels: &[u8],
+    n: usize,
+    all: usize,
+    index: &[u32],
+    shift: u32,
+)
+    requires { ⌜ ((es : List LayoutEvent) × Shown es (now segments) (now events) n all) ⌝ ∗ ⌜ Indexed (now index) (startAt (now segments)) all shift ⌝ ∗ ⌜ Labelled (now events) (now labels) n ⌝ ∗ ⌜ n ≤ all ⌝ }
     ensures { λ _. ⌜ ((es : List LayoutEvent) → Shown es (now (segments .entry)) (now (events .entry)) n all → Aiming es (wordAt (now (labels .entry))) (now (events .entry)) n (now (segments .exit))) ⌝ }
     ensures { λ _. ⌜ SamePast n (now (segments .entry)) (now (segments .exit)) ⌝ }
 {
     let mut i: usize = 0;
     while i < n {
-        let target = target_of(segments, events, labels, n, all, i);
+        let target = target_of(segments, events, labels, n, all, index, shift, i);
         put_target(segments, i, target);
         i += 1;
     }
@@ -431,7 +475,7 @@ fn lengthen(segments: &[Segment], long: &mut [bool], n: usize) -> bool
 }
 
 // The rounds, from the choice that stands in `long`: each places the new ends and lengthens, until one lengthens none; then the settled layout is
-// written. Before them the table is laid out once, so that labels can be found in it.
+// written. Before them the table is laid out once, so that labels can be found in it; the index that this takes holds of the settled layout, too.
 pub fn relax_jumps(
     segments: &mut [Segment],
     events: &[u8],
@@ -439,15 +483,19 @@ pub fn relax_jumps(
     constants: &[u8],
     asked: &[u8],
     long: &mut [bool],
+    index: &mut [u32],
+    shift: u32,
     n: usize,
     m: usize,
     code: u32,
 ) -> Summary
-    requires { ⌜ Recorded (now events) n code ⌝ ∗ ⌜ PoolFits (now constants) (now asked) m ⌝ ∗ ⌜ Labelled (now events) (now labels) n ⌝ ∗ ⌜ (n + m ≤ mostEntries) × (n + m ≤ length (now segments)) × (length (now long) ≡ n + m) ⌝ }
+    requires { ⌜ Recorded (now events) n code ⌝ ∗ ⌜ PoolFits (now constants) (now asked) m ⌝ ∗ ⌜ Labelled (now events) (now labels) n ⌝ ∗ ⌜ (n + m ≤ mostEntries) × (n + m ≤ length (now segments)) × (length (now long) ≡ n + m) × (shift < 32) ⌝ }
     ensures { λ r. ⌜ Relaxed (allEvents (now (events .entry)) n code (now (constants .entry)) (now (asked .entry)) m) (wordAt (now (labels .entry))) (now (long .entry)) (poolStart code (now (constants .entry)) (now (asked .entry)) m) (now (segments .entry)) (now (segments .exit)) (now (long .exit)) (r .layouts) (r .len) ⌝ }
+    ensures { λ _. ⌜ Indexed (now (index .exit)) (startAt (now (segments .exit))) (n + m) shift ⌝ }
 {
     layout(segments, events, constants, asked, long, n, m, code);
-    find_targets(segments, events, labels, n, n + m);
+    index_segments(index, shift, segments, n + m);
+    find_targets(segments, events, labels, n, n + m, index, shift);
     let mut layouts: u32 = 0;
     let settled = loop {
         place_ends(segments, events, constants, asked, long, n, m, code);

@@ -73,6 +73,20 @@ filled-all f m =
 pub indexed-none : (index : List ℕ) (key : ℕ → ℕ) (n shift : ℕ) → shift < 32 → length index < indexSize → Indexed index key n shift
 indexed-none index key n shift b l = record { few-bits = b; counts = λ s. absurd (omega arith) }
 
+-- An index serves all tables that have these offsets.
+pub indexed-same : {index : List ℕ} {key other : ℕ → ℕ} {n shift : ℕ} → Indexed index key n shift → ((j : ℕ) → j < n → key j ≡ other j) → Indexed index other n shift
+indexed-same {shift = shift} x same =
+    record {
+      few-bits = x .few-bits;
+      counts = λ s p l.
+          let before = x .counts s p l in
+          record {
+            few = before .few;
+            below = λ j h. rw (← same j (omega (arith, before .few))) (before .below j h);
+            above = λ j h k. rw (← same j k) (before .above j h k);
+          };
+    }
+
 module _ {index : List ℕ} {key : ℕ → ℕ} {n shift : ℕ} (offset : ℕ) {low high : ℕ} (x : Indexed index key n shift) (w : Narrowed index n (part shift offset) low high) where
   around-all : length index < indexSize → Around key n offset low high
   around-all s =

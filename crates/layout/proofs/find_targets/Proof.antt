@@ -8,19 +8,20 @@ use borrow.Author.Needs.{needs}
 use Rattle.words.specs.Words.{wordAt}
 use Rattle.relax.specs.declared.LayoutEvent.{LayoutEvent}
 use Rattle.layout.specs.steps.Targets.{Shown, SamePast}
+use Rattle.layout.proofs.Found.{indexed-shown}
 use Rattle.layout.proofs.SamePast.{same-past-none, same-past-more, same-past-set}
 use Rattle.layout.proofs.Targets.{Targeted, targeted-none, targeted-more}
 use Rattle.layout.proofs.find_targets.Statement.{statement}
 use Rattle.layout.proofs.find_targets.Proof.Tie as tie
 
 abbrev Inv-loop : tie.InvT-loop
-Inv-loop segments₀ events labels n all i₀ segments i =
+Inv-loop segments₀ events labels n all index shift i₀ segments i =
     (i ≤ n)
     × ((es : List LayoutEvent) → Shown es segments₀ events n all → Targeted es (wordAt labels) events n all i segments)
     × SamePast n segments₀ segments
 
 abbrev μ-loop : tie.MeasureT-loop
-μ-loop segments₀ events labels n all i₀ segments i = n - i
+μ-loop segments₀ events labels n all index shift i₀ segments i = n - i
 
 loop-holds : tie.Need-loop-holds Inv-loop μ-loop
 loop-holds c = (omega arith, λ es shown. targeted-none shown, same-past-none _ _)
@@ -32,7 +33,8 @@ target-of-requires c κs =
     let start : tie.Start Inv-loop μ-loop = search in
     let p = start .pre in
     let more = in-loop .loop-test .taken in
-    ((p .0 .0, (at-loop .loop .inv .1 (p .0 .0) (p .0 .1)) .shown), (p .1 .0 .known _ more, more))
+    let shown = (at-loop .loop .inv .1 (p .0 .0) (p .0 .1)) .shown in
+    ((p .0 .0, shown), (indexed-shown (p .0 .1) shown (p .1 .0), (p .1 .1 .0 .known _ more, more)))
 
 put-target-requires : tie.Need-put-target-requires Inv-loop μ-loop
 put-target-requires c κs =
@@ -40,7 +42,7 @@ put-target-requires c κs =
     let at-loop : tie.At-loop Inv-loop μ-loop = search in
     let start : tie.Start Inv-loop μ-loop = search in
     let p = start .pre in
-    omega (arith, (at-loop .loop .inv .1 (p .0 .0) (p .0 .1)) .shown .fits, in-loop .loop-test .taken, p .1 .1)
+    omega (arith, (at-loop .loop .inv .1 (p .0 .0) (p .0 .1)) .shown .fits, in-loop .loop-test .taken, p .1 .1 .1)
 
 loop-again : tie.Need-loop-again Inv-loop μ-loop
 loop-again c =
@@ -55,7 +57,7 @@ loop-again c =
       omega arith,
       λ es shown.
           let now = l .inv .1 es shown in
-          rw (written .put-target .ensures) (targeted-more now more (p .1 .1) _ _ (found .target-of .ensures es (now .shown))),
+          rw (written .put-target .ensures) (targeted-more now more (p .1 .1 .1) _ _ (found .target-of .ensures es (now .shown))),
       rw (written .put-target .ensures) (same-past-more (l .inv .2) (same-past-set _ _ _ _ more) (omega arith)),
     )
 

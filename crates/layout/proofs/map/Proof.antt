@@ -14,7 +14,7 @@ returns c = map-none _ _ (c .if1 .taken)
 find-requires : tie.Need-find-requires
 find-requires c κs =
     let start : tie.Start = search in
-    rising-sorted (start .pre .0)
+    (rising-sorted (start .pre .0), start .pre .1 .0)
 
 returns-2 : tie.Need-returns-2
 returns-2 c =
@@ -35,7 +35,7 @@ place-requires c κs =
     let s = c .segment-at .ensures in
     let w : k - 1 < start .args .n = omega (arith, b .within, else2 .if2 .left) in
     let small = p .0 .small (k - 1) w in
-    rw s (b .under (k - 1) (omega (arith, else2 .if2 .left)), p .1 (else1 .if1 .left), small .0, small .1)
+    rw s (b .under (k - 1) (omega (arith, else2 .if2 .left)), p .1 .1 (else1 .if1 .left), small .0, small .1)
 
 returns-3 : tie.Need-returns-3
 returns-3 c =

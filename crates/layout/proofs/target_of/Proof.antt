@@ -11,7 +11,7 @@ use Rattle.layout.proofs.target_of.Proof.Tie as tie
 event-at-requires : tie.Need-event-at-requires
 event-at-requires c κs =
     let start : tie.Start = search in
-    omega (arith, start .pre .0 .1 .room, start .pre .1 .1)
+    omega (arith, start .pre .0 .1 .room, start .pre .1 .1 .1)
 
 word-at-requires : tie.Need-word-at-requires
 unfolding roleOf
@@ -19,7 +19,7 @@ word-at-requires c κs =
     let jump : tie.After-event = search in
     let read : tie.After-event-at = search in
     let start : tie.Start = search in
-    start .pre .1 .0 .room (branchOf (jump .event .given .0 .0)) (ap roleOf (sym (read .event-at .ensures) ∙ jump .event .given .1))
+    start .pre .1 .1 .0 .room (branchOf (jump .event .given .0 .0)) (ap roleOf (sym (read .event-at .ensures) ∙ jump .event .given .1))
 
 locate-requires : tie.Need-locate-requires
 unfolding roleOf
@@ -27,8 +27,8 @@ locate-requires c κs =
     let jump : tie.After-event = search in
     let read : tie.After-event-at = search in
     let start : tie.Start = search in
-    let small = start .pre .1 .0 .small (branchOf (jump .event .given .0 .0)) (ap roleOf (sym (read .event-at .ensures) ∙ jump .event .given .1)) in
-    (start .pre .0, rw (c .word-at .ensures) small)
+    let small = start .pre .1 .1 .0 .small (branchOf (jump .event .given .0 .0)) (ap roleOf (sym (read .event-at .ensures) ∙ jump .event .given .1)) in
+    (start .pre .0, (start .pre .1 .0, rw (c .word-at .ensures) small))
 
 returns : tie.Need-returns
 unfolding roleOf

@@ -21,6 +21,9 @@ Start = Lts.Start (Reads.Asked, Reads.Learnt, Reads''.Asked, Reads''.Learnt) Rea
 abbrev pub After-shared-slice-known : Type 0
 After-shared-slice-known = Lts.After-shared-slice-known (Reads.Asked, Reads.Learnt, Reads''.Asked, Reads''.Learnt) Reads'.Pre Reads'.Post
 
+abbrev pub After-shared-slice-known2 : Type 0
+After-shared-slice-known2 = Lts.After-shared-slice-known2 (Reads.Asked, Reads.Learnt, Reads''.Asked, Reads''.Learnt) Reads'.Pre Reads'.Post
+
 abbrev pub Then1 : Type 0
 Then1 = Lts.Then1 (Reads.Asked, Reads.Learnt, Reads''.Asked, Reads''.Learnt) Reads'.Pre Reads'.Post
 
@@ -69,8 +72,8 @@ Need-sub-recorded-end = Lts.Need-sub-recorded-end (Reads.Asked, Reads.Learnt, Re
 abbrev pub Need-recorded-end-requires : Type 0
 Need-recorded-end-requires = Lts.Need-recorded-end-requires (Reads.Asked, Reads.Learnt, Reads''.Asked, Reads''.Learnt) Reads'.Pre Reads'.Post
 
-abbrev pub Need-cast-t11 : Type 0
-Need-cast-t11 = Lts.Need-cast-t11 (Reads.Asked, Reads.Learnt, Reads''.Asked, Reads''.Learnt) Reads'.Pre Reads'.Post
+abbrev pub Need-cast-passed : Type 0
+Need-cast-passed = Lts.Need-cast-passed (Reads.Asked, Reads.Learnt, Reads''.Asked, Reads''.Learnt) Reads'.Pre Reads'.Post
 
 abbrev pub Need-returns-3 : Type 0
 Need-returns-3 = Lts.Need-returns-3 (Reads.Asked, Reads.Learnt, Reads''.Asked, Reads''.Learnt) Reads'.Pre Reads'.Post
@@ -84,22 +87,22 @@ Need-sub-recorded-end-2 = Lts.Need-sub-recorded-end-2 (Reads.Asked, Reads.Learnt
 abbrev pub Need-recorded-end-requires-2 : Type 0
 Need-recorded-end-requires-2 = Lts.Need-recorded-end-requires-2 (Reads.Asked, Reads.Learnt, Reads''.Asked, Reads''.Learnt) Reads'.Pre Reads'.Post
 
-abbrev pub Need-sub-t10 : Type 0
-Need-sub-t10 = Lts.Need-sub-t10 (Reads.Asked, Reads.Learnt, Reads''.Asked, Reads''.Learnt) Reads'.Pre Reads'.Post
+abbrev pub Need-sub-passed : Type 0
+Need-sub-passed = Lts.Need-sub-passed (Reads.Asked, Reads.Learnt, Reads''.Asked, Reads''.Learnt) Reads'.Pre Reads'.Post
 
-abbrev pub Need-cast-t13 : Type 0
-Need-cast-t13 = Lts.Need-cast-t13 (Reads.Asked, Reads.Learnt, Reads''.Asked, Reads''.Learnt) Reads'.Pre Reads'.Post
+abbrev pub Need-cast-passed-2 : Type 0
+Need-cast-passed-2 = Lts.Need-cast-passed-2 (Reads.Asked, Reads.Learnt, Reads''.Asked, Reads''.Learnt) Reads'.Pre Reads'.Post
 
-abbrev pub Need-sub-t14 : Type 0
-Need-sub-t14 = Lts.Need-sub-t14 (Reads.Asked, Reads.Learnt, Reads''.Asked, Reads''.Learnt) Reads'.Pre Reads'.Post
+abbrev pub Need-sub-beyond : Type 0
+Need-sub-beyond = Lts.Need-sub-beyond (Reads.Asked, Reads.Learnt, Reads''.Asked, Reads''.Learnt) Reads'.Pre Reads'.Post
 
 abbrev pub Need-returns-5 : Type 0
 Need-returns-5 = Lts.Need-returns-5 (Reads.Asked, Reads.Learnt, Reads''.Asked, Reads''.Learnt) Reads'.Pre Reads'.Post
 
 module _ {M : Type 1} where
-  pub spec : (answer : Need-returns) → (answer : Need-find-requires) → (answer : Need-returns-2) → (answer : Need-sub-recorded-end) → (answer : Need-recorded-end-requires) → (answer : Need-cast-t11) → (answer : Need-returns-3) → (answer : Need-returns-4) → (answer : Need-sub-recorded-end-2) → (answer : Need-recorded-end-requires-2) → (answer : Need-sub-t10) → (answer : Need-cast-t13) → (answer : Need-sub-t14) → (answer : Need-returns-5) → Lts.Closed (Reads.Asked, Reads.Learnt, Reads''.Asked, Reads''.Learnt) Reads'.Pre Reads'.Post M
+  pub spec : (answer : Need-returns) → (answer : Need-find-requires) → (answer : Need-returns-2) → (answer : Need-sub-recorded-end) → (answer : Need-recorded-end-requires) → (answer : Need-cast-passed) → (answer : Need-returns-3) → (answer : Need-returns-4) → (answer : Need-sub-recorded-end-2) → (answer : Need-recorded-end-requires-2) → (answer : Need-sub-passed) → (answer : Need-cast-passed-2) → (answer : Need-sub-beyond) → (answer : Need-returns-5) → Lts.Closed (Reads.Asked, Reads.Learnt, Reads''.Asked, Reads''.Learnt) Reads'.Pre Reads'.Post M
   spec = λ answer answer' answer'' answer'3 answer'4 answer'5 answer'6 answer'7 answer'8 answer'9 answer'10 answer'11 answer'12 answer'13. Lts.spec (Reads.Asked, Reads.Learnt, Reads''.Asked, Reads''.Learnt) Reads'.Pre Reads'.Post answer answer' answer'' answer'3 answer'4 answer'5 answer'6 answer'7 answer'8 answer'9 answer'10 answer'11 answer'12 answer'13
 
   pub close : Lts.Closed (Reads.Asked, Reads.Learnt, Reads''.Asked, Reads''.Learnt) Reads'.Pre Reads'.Post M → Statement.statement M
   unfolding Code.routine Running.tablesOf
-  close = λ closed 𝓤 H 𝓜 𝓖 𝓡. Written.close 2 Kinds.ps Kinds.r Reads'.Ghost Reads'.requires Reads'.ensures Reads'.pre-read Reads'.Pinned Reads'.Owned Reads'.post-read record { M = M; 𝓤 = 𝓤; H = H; 𝓜 = 𝓜; 𝓖 = 𝓖; 𝓡 = 𝓡 } Code.env Key.name Code.function (Code.unfolded 𝓤 H 𝓜 𝓡) (λ κs a g. tt) (λ κs. Reads'.owns κs record { M = M; 𝓤 = 𝓤; H = H; 𝓜 = 𝓜; 𝓖 = 𝓖; 𝓡 = 𝓡 }) (Reads'.passes record { M = M; 𝓤 = 𝓤; H = H; 𝓜 = 𝓜; 𝓖 = 𝓖; 𝓡 = 𝓡 }) λ g. closed 𝓤 H (𝓖 .A) (Running.givenOf 𝓤 H 𝓜 𝓖) (Run.Over 𝓤 H 𝓜 𝓖 𝓡 Code.env) (Reads.known record { M = M; 𝓤 = 𝓤; H = H; 𝓜 = 𝓜; 𝓖 = 𝓖; 𝓡 = 𝓡 } Code.env Symbol.name Symbol.routine Code.calls-layout·find (Met.met 𝓤 H 𝓜 𝓖 𝓡)) (Reads''.known record { M = M; 𝓤 = 𝓤; H = H; 𝓜 = 𝓜; 𝓖 = 𝓖; 𝓡 = 𝓡 } Code.env Symbol'.name Symbol'.routine Code.calls-layout·recorded-end (Met'.met 𝓤 H 𝓜 𝓖 𝓡))
+  close = λ closed 𝓤 H 𝓜 𝓖 𝓡. Written.close 3 Kinds.ps Kinds.r Reads'.Ghost Reads'.requires Reads'.ensures Reads'.pre-read Reads'.Pinned Reads'.Owned Reads'.post-read record { M = M; 𝓤 = 𝓤; H = H; 𝓜 = 𝓜; 𝓖 = 𝓖; 𝓡 = 𝓡 } Code.env Key.name Code.function (Code.unfolded 𝓤 H 𝓜 𝓡) (λ κs a g. tt) (λ κs. Reads'.owns κs record { M = M; 𝓤 = 𝓤; H = H; 𝓜 = 𝓜; 𝓖 = 𝓖; 𝓡 = 𝓡 }) (Reads'.passes record { M = M; 𝓤 = 𝓤; H = H; 𝓜 = 𝓜; 𝓖 = 𝓖; 𝓡 = 𝓡 }) λ g. closed 𝓤 H (𝓖 .A) (Running.givenOf 𝓤 H 𝓜 𝓖) (Run.Over 𝓤 H 𝓜 𝓖 𝓡 Code.env) (Reads.known record { M = M; 𝓤 = 𝓤; H = H; 𝓜 = 𝓜; 𝓖 = 𝓖; 𝓡 = 𝓡 } Code.env Symbol.name Symbol.routine Code.calls-layout·find (Met.met 𝓤 H 𝓜 𝓖 𝓡)) (Reads''.known record { M = M; 𝓤 = 𝓤; H = H; 𝓜 = 𝓜; 𝓖 = 𝓖; 𝓡 = 𝓡 } Code.env Symbol'.name Symbol'.routine Code.calls-layout·recorded-end (Met'.met 𝓤 H 𝓜 𝓖 𝓡))

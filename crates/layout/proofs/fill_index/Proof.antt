@@ -1,0 +1,78 @@
+-- `fill_index` meets its contract: after i turns the first i starts are marked.
+mod Tie
+use mathlib.Core.Path.{_≡_, refl, _∙_, ap}
+use Prim.Native.Nat.{_-_, _≤_}
+use native.Mathlib.Omega.{arith}
+use lib.ListN.{length}
+use borrow.Author.Needs.{needs}
+use Rattle.lookup.specs.steps.Index.{Filled}
+use Rattle.lookup.proofs.Index.{filled-none, filled-one, filled-all}
+use Rattle.relax.specs.declared.Segment.{Segment}
+use Rattle.layout.specs.steps.Layout.{startAt}
+use Rattle.layout.proofs.Search.{sorted-rises}
+use Rattle.layout.proofs.fill_index.Statement.{statement}
+use Rattle.layout.proofs.fill_index.Proof.Tie as tie
+
+abbrev Inv-loop : tie.InvT-loop
+Inv-loop index₀ shift segments n next₀ i₀ index next i = Filled index (startAt segments) n shift i next × (i ≤ n) × (length index ≡ length index₀)
+
+abbrev μ-loop : tie.MeasureT-loop
+μ-loop index₀ shift segments n next₀ i₀ index next i = n - i
+
+loop-holds : tie.Need-loop-holds Inv-loop μ-loop
+loop-holds c = let start : tie.Start Inv-loop μ-loop = search in (filled-none _ _ _ _ (start .pre .1 .1) (start .pre .1 .0), omega arith, refl)
+
+segment-at-requires : tie.Need-segment-at-requires Inv-loop μ-loop
+segment-at-requires c κs =
+    let start : tie.Start Inv-loop μ-loop = search in
+    omega (arith, start .pre .0 .fits)
+
+mark-requires : tie.Need-mark-requires Inv-loop μ-loop
+mark-requires c κs =
+    let at-loop : tie.At-loop Inv-loop μ-loop = search in
+    let start : tie.Start Inv-loop μ-loop = search in
+    (at-loop .loop .inv .0 .size, start .pre .1 .1, omega arith)
+
+loop-again : tie.Need-loop-again Inv-loop μ-loop
+loop-again c =
+    let marked : tie.After-mark Inv-loop μ-loop = search in
+    let read : tie.After-segment-at Inv-loop μ-loop = search in
+    let at-loop : tie.At-loop Inv-loop μ-loop = search in
+    let start : tie.Start Inv-loop μ-loop = search in
+    let said = rw (read .segment-at .ensures) at (marked .mark .ensures) in
+    (filled-one (sorted-rises (start .pre .0)) (at-loop .loop .inv .0) (omega arith) said, omega arith, marked .mark .ensures .size ∙ at-loop .loop .inv .2)
+
+close-requires : tie.Need-close-requires Inv-loop μ-loop
+close-requires c κs =
+    let at-loop : tie.At-loop Inv-loop μ-loop = search in
+    (at-loop .loop .inv .0 .size, omega arith)
+
+same-length : tie.Need-same-length Inv-loop μ-loop
+same-length c =
+    let closed : tie.After-close Inv-loop μ-loop = search in
+    let at-loop : tie.At-loop Inv-loop μ-loop = search in
+    closed .close .ensures .size ∙ at-loop .loop .inv .2
+
+returns : tie.Need-returns Inv-loop μ-loop
+returns c =
+    let closed : tie.After-close Inv-loop μ-loop = search in
+    let at-loop : tie.At-loop Inv-loop μ-loop = search in
+    let start : tie.Start Inv-loop μ-loop = search in
+    let all : at-loop .loop .i ≡ start .args .n = omega arith in
+    filled-all (rw all at (at-loop .loop .inv .0)) (closed .close .ensures)
+
+pub fill-index-spec : {M : Type 1} → statement M
+fill-index-spec =
+    tie.close
+    (tie.spec
+    Inv-loop
+    μ-loop
+    loop-holds
+    segment-at-requires
+    mark-requires
+    (λ c. search needs)
+    (λ c. search needs)
+    loop-again
+    close-requires
+    same-length
+    returns)
