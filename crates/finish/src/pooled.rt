@@ -15,7 +15,7 @@ ghost use Rattle.relax.specs.Events.{eventAt};
 ghost use Rattle.buffer.specs.Tables.{useSize};
 ghost use Rattle.recording.specs.View as tables;
 ghost use Rattle.checks.specs.steps.Fields.{usesBound, refsBound, jumpsBound, relocsBound, refsClear, whyUses};
-ghost use Rattle.checks.specs.steps.Handed.{useLabel, Named};
+ghost use Rattle.checks.specs.steps.Handed.{fewMarks, useLabel, Named};
 ghost use Rattle.finish.specs.Finish.{relaxed};
 ghost use Rattle.finish.specs.steps.Tables.{tablesPooled};
 ghost use Rattle.finish.specs.steps.Ready.{Entered, Clearing, endOfRuns, codeWritten, Writing, Layable, codeCopied, Copying, Keepable, kept, Placeable, pooledOf, placedAs, Starts};
@@ -201,8 +201,40 @@ pub(crate) fn relax_and_write(
     }
 }
 
-// With a jump, 16 and 17 being past.
-pub(crate) fn relaxed(
+// With few events and constants a few marks are enough.
+pub(crate) fn small_relaxed(
+    b: CodeBuffer,
+    code: &[u8],
+    labels: &mut [u8],
+    events: &[u8],
+    refs: &[u8],
+    constants: &[u8],
+    asked: &[u8],
+    relocs: &mut [u8],
+    segments: &mut [Segment],
+    output: &mut [u8],
+) -> Outcome
+    requires { ⌜ Layable (now code) (now labels) (now events) (now refs) (now constants) (now asked) (now relocs) (now output) (length (now segments)) (b .code) (b .labels) (b .events) (b .asked) (b .refs) (b .relocs) ⌝ ∗ ⌜ b .events + b .asked ≤ fewMarks ⌝ }
+    ensures { λ r. ⌜ ((us : List tables.Use) → (r, (now (labels .exit), (now (relocs .exit), (now (segments .exit), now (output .exit))))) ≡ relaxed (tablesPooled archX64 (b .code) (take (b .code) (now (code .entry))) (tables.entries (wordAt (now (labels .entry))) (b .labels)) (tables.entries (eventAt (now (events .entry))) (b .events)) us (tables.entries (tables.refAt (now (refs .entry))) (b .refs)) (now (constants .entry)) (now (asked .entry)) (b .asked)) (b .relocs) (now (labels .entry)) (now (relocs .entry)) (now (segments .entry)) (now (output .entry))) ⌝ }
+{
+    let all = b.events as usize + b.asked as usize;
+    let mut long = [false; checks::entries::FEW_MARKS];
+    relax_and_write(
+        b,
+        code,
+        labels,
+        events,
+        refs,
+        constants,
+        asked,
+        relocs,
+        segments,
+        output,
+        &mut long[0..all],
+    )
+}
+
+pub(crate) fn large_relaxed(
     b: CodeBuffer,
     code: &[u8],
     labels: &mut [u8],
@@ -231,6 +263,50 @@ pub(crate) fn relaxed(
         segments,
         output,
         &mut long[0..all],
+    )
+}
+
+// With a jump, 16 and 17 being past.
+pub(crate) fn relaxed(
+    b: CodeBuffer,
+    code: &[u8],
+    labels: &mut [u8],
+    events: &[u8],
+    refs: &[u8],
+    constants: &[u8],
+    asked: &[u8],
+    relocs: &mut [u8],
+    segments: &mut [Segment],
+    output: &mut [u8],
+) -> Outcome
+    requires { ⌜ Layable (now code) (now labels) (now events) (now refs) (now constants) (now asked) (now relocs) (now output) (length (now segments)) (b .code) (b .labels) (b .events) (b .asked) (b .refs) (b .relocs) ⌝ }
+    ensures { λ r. ⌜ ((us : List tables.Use) → (r, (now (labels .exit), (now (relocs .exit), (now (segments .exit), now (output .exit))))) ≡ relaxed (tablesPooled archX64 (b .code) (take (b .code) (now (code .entry))) (tables.entries (wordAt (now (labels .entry))) (b .labels)) (tables.entries (eventAt (now (events .entry))) (b .events)) us (tables.entries (tables.refAt (now (refs .entry))) (b .refs)) (now (constants .entry)) (now (asked .entry)) (b .asked)) (b .relocs) (now (labels .entry)) (now (relocs .entry)) (now (segments .entry)) (now (output .entry))) ⌝ }
+{
+    if b.events as usize + b.asked as usize <= checks::entries::FEW_MARKS {
+        return small_relaxed(
+            b,
+            code,
+            labels,
+            events,
+            refs,
+            constants,
+            asked,
+            relocs,
+            segments,
+            output,
+        );
+    }
+    large_relaxed(
+        b,
+        code,
+        labels,
+        events,
+        refs,
+        constants,
+        asked,
+        relocs,
+        segments,
+        output,
     )
 }
 

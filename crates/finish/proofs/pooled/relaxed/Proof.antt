@@ -1,20 +1,8 @@
--- `relaxed` meets its contract: it lends `relax_and_write` a mark for each event.
+-- `relaxed` meets its contract: each way does what is asked.
 mod Tie
-use native.Mathlib.Omega.{arith}
-use Rattle.finish.proofs.StageAnswers.{few, marks-short}
 use borrow.Author.Needs.{needs}
 use Rattle.finish.proofs.pooled.relaxed.Statement.{statement}
 use Rattle.finish.proofs.pooled.relaxed.Proof.Tie as tie
-use Rattle.buffer.specs.Tables.{mostEntries}
-
-add-all : tie.Need-add-all
-add-all c = let s : tie.Start = search in omega (arith, few (s .pre))
-
-part-long-end : tie.Need-part-long-end
-part-long-end c = let s : tie.Start = search in omega (arith, few (s .pre))
-
-relax-and-write-requires : tie.Need-relax-and-write-requires
-relax-and-write-requires c κs = let s : tie.Start = search in (s .pre, marks-short _ mostEntries (few (s .pre)))
 
 pub relaxed-spec : {M : Type 1} → statement M
 relaxed-spec =
@@ -22,11 +10,14 @@ relaxed-spec =
     (tie.spec
     (λ c. search needs)
     (λ c. search needs)
-    add-all
+    (λ c. search needs)
+    (λ c κs. search needs)
     (λ c. search needs)
     (λ c. search needs)
-    part-long-end
-    relax-and-write-requires
+    (λ c. search needs)
+    (λ c. search needs)
+    (λ c. search needs)
+    (λ c κs. search needs)
     (λ c. search needs)
     (λ c. search needs)
     (λ c. search needs)
