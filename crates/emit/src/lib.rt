@@ -18,7 +18,8 @@ ghost use Rattle.fresh.specs.Fill.{part, fillField, fillJump};
 ghost use Rattle.fresh.specs.Segments.{mapOffset};
 ghost use Rattle.fresh.specs.steps.Runs.{formAt, runs};
 ghost use Rattle.pool.specs.steps.Pool.{offsetBound};
-ghost use Rattle.layout.specs.steps.Layout.{Rising};
+ghost use Rattle.lookup.specs.steps.Index.{Indexed};
+ghost use Rattle.layout.specs.steps.Layout.{startAt, Rising};
 ghost use Rattle.emit.specs.steps.Emit.{jumpForm, Encodes, Writes, Emits, useFilled, usesFilled, UseFits, UsesFit, refFilled, refsFilled, RefFits, RefsFit, fieldReaches, refsReach, RefsKnown, jumpsFilled, JumpFits, JumpsFit, mappedWords, WordsFit};
 use fields::Decoded;
 use fields::LabelUse;
@@ -258,15 +259,23 @@ pub fn patch_refs(
     refs: &[u8],
     labels: &[u8],
     segments: &[Segment],
+    index: &[u32],
+    shift: u32,
     count: usize,
     n: usize,
 )
-    requires { ⌜ Rising (now segments) n ⌝ ∗ ⌜ RefsFit (length (now output)) (now refs) (now labels) (now segments) n count ⌝ }
+    requires { ⌜ Rising (now segments) n ⌝ ∗ ⌜ Indexed (now index) (startAt (now segments)) n shift ⌝ ∗ ⌜ RefsFit (length (now output)) (now refs) (now labels) (now segments) n count ⌝ }
     ensures { λ _. ⌜ now (output .exit) ≡ refsFilled (now (output .entry)) (now (refs .entry)) (now (labels .entry)) (now (segments .entry)) n count ⌝ }
 {
     let mut i: usize = 0;
     while i < count {
-        let at = layout::map(segments, n, words::word_at(refs, i * buffer::REF_WORDS));
+        let at = layout::map(
+            segments,
+            n,
+            index,
+            shift,
+            words::word_at(refs, i * buffer::REF_WORDS),
+        );
         patch_ref(output, refs, labels, at, i);
         i += 1;
     }
@@ -295,14 +304,28 @@ fn ref_reaches(refs: &[u8], at: u32, label: u32, i: usize) -> bool
 }
 
 // Whether every ref reaches its label, where the labels have their recorded offsets.
-pub fn refs_reach(refs: &[u8], labels: &[u8], segments: &[Segment], count: usize, n: usize) -> bool
-    requires { ⌜ Rising (now segments) n ⌝ ∗ ⌜ RefsKnown (now refs) (now labels) count ⌝ }
+pub fn refs_reach(
+    refs: &[u8],
+    labels: &[u8],
+    segments: &[Segment],
+    index: &[u32],
+    shift: u32,
+    count: usize,
+    n: usize,
+) -> bool
+    requires { ⌜ Rising (now segments) n ⌝ ∗ ⌜ Indexed (now index) (startAt (now segments)) n shift ⌝ ∗ ⌜ RefsKnown (now refs) (now labels) count ⌝ }
     ensures { λ r. ⌜ r ≡ refsReach (now (refs .entry)) (now (labels .entry)) (now (segments .entry)) n count ⌝ }
 {
     let mut i: usize = 0;
     while i < count {
-        let at = layout::map(segments, n, words::word_at(refs, i * buffer::REF_WORDS));
-        let label = layout::map(segments, n, ref_label(refs, labels, i));
+        let at = layout::map(
+            segments,
+            n,
+            index,
+            shift,
+            words::word_at(refs, i * buffer::REF_WORDS),
+        );
+        let label = layout::map(segments, n, index, shift, ref_label(refs, labels, i));
         if !ref_reaches(refs, at, label, i) {
             return false;
         }
@@ -368,15 +391,23 @@ pub fn patch_jumps(
 }
 
 // Maps the words 0, `stride`, 2 `stride`, .. of a table: labels (stride 1), and relocations' offsets (stride 6).
-pub fn map_words(table: &mut [u8], segments: &[Segment], stride: usize, count: usize, n: usize)
-    requires { ⌜ Rising (now segments) n ⌝ ∗ ⌜ WordsFit (now table) stride count ⌝ }
+pub fn map_words(
+    table: &mut [u8],
+    segments: &[Segment],
+    index: &[u32],
+    shift: u32,
+    stride: usize,
+    count: usize,
+    n: usize,
+)
+    requires { ⌜ Rising (now segments) n ⌝ ∗ ⌜ Indexed (now index) (startAt (now segments)) n shift ⌝ ∗ ⌜ WordsFit (now table) stride count ⌝ }
     ensures { λ _. ⌜ now (table .exit) ≡ mappedWords (mapOffset (take n (now (segments .entry)))) (now (table .entry)) stride count ⌝ }
 {
     let mut i: usize = 0;
     while i < count {
         let k = i * stride;
         let offset = words::word_at(table, k);
-        words::put_word(table, k, layout::map(segments, n, offset));
+        words::put_word(table, k, layout::map(segments, n, index, shift, offset));
         i += 1;
     }
 }

@@ -57,6 +57,12 @@ use Rattle.finish.proofs.MappedTables.{word-over, labels-mapped, relocs
 use Rattle.finish.proofs.PooledInOrder.{pooled-length, jump-label}
 use Rattle.finish.proofs.FinishedCode.{code-written, kept-length, code-kept}
 
+-- 18 and 23, where what was found of the refs is said otherwise
+pub why-by : (len output : ℕ) {reach said : Bool} {why : ℕ} → reach ≡ said
+    → why ≡ first ((not reach, refusals.refOutOfReach) ∷ (ltb output len, refusals.outputTooSmall) ∷ [])
+    → why ≡ first ((not said, refusals.refOutOfReach) ∷ (ltb output len, refusals.outputTooSmall) ∷ [])
+why-by len output e h = h ∙ ap (λ (t : Bool). first ((not t, refusals.refOutOfReach) ∷ (ltb output len, refusals.outputTooSmall) ∷ [])) e
+
 -- no use is refused where the first refusal is none
 each-reached : (uses labels : List ℕ) (len n : ℕ) → whyUses uses labels len n ≡ 0 → (i : ℕ) → i < n → whyUnreached uses labels len i ≡ 0
 unfolding whyUses

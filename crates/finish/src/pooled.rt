@@ -9,11 +9,13 @@ ghost use Rattle.refusals.specs.Numbers as refusals;
 ghost use Rattle.seqs.specs.Pick.{first, orElse};
 ghost use Rattle.words.specs.Words.{wordAt};
 ghost use Rattle.fields.specs.Kinds.{archX64};
+ghost use Rattle.lookup.specs.steps.Index.{indexSize, Indexed};
 ghost use Rattle.relax.specs.declared.LayoutEvent.{LayoutEvent};
 ghost use Rattle.relax.specs.declared.Segment.{Segment};
 ghost use Rattle.relax.specs.Events.{eventAt};
 ghost use Rattle.buffer.specs.Tables.{useSize};
 ghost use Rattle.recording.specs.View as tables;
+ghost use Rattle.layout.specs.steps.Layout.{startAt};
 ghost use Rattle.checks.specs.steps.Fields.{usesBound, refsBound, jumpsBound, relocsBound, refsClear, whyUses};
 ghost use Rattle.checks.specs.steps.Handed.{fewMarks, useLabel, Named};
 ghost use Rattle.finish.specs.Finish.{relaxed};
@@ -114,8 +116,10 @@ pub(crate) fn write_relaxed(
     asked: &[u8],
     long: &[bool],
     segments: &[Segment],
+    index: &[u32],
+    shift: u32,
 )
-    requires { ⌜ Writing (now output) (now code) (now labels) (now events) (now refs) (now constants) (now asked) (now long) (now segments) (b .code) (b .events) (b .asked) (b .refs) (endOfRuns (now code) (now events) (now long) (b .code) (b .events)) ⌝ }
+    requires { ⌜ Indexed (now index) (startAt (now segments)) (b .events + b .asked) shift ⌝ ∗ ⌜ Writing (now output) (now code) (now labels) (now events) (now refs) (now constants) (now asked) (now long) (now segments) (b .code) (b .events) (b .asked) (b .refs) (endOfRuns (now code) (now events) (now long) (b .code) (b .events)) ⌝ }
     ensures { λ _. ⌜ now (output .exit) ≡ codeWritten (now (output .entry)) (now (code .entry)) (now (labels .entry)) (now (events .entry)) (now (refs .entry)) (now (constants .entry)) (now (asked .entry)) (now (long .entry)) (now (segments .entry)) (b .code) (b .events) (b .asked) (b .refs) ⌝ }
 {
     let recorded = b.events as usize;
@@ -130,13 +134,15 @@ pub(crate) fn write_relaxed(
         b.code as usize,
         fields::X64,
     );
-    let to = layout::map(segments, recorded, b.code);
+    let to = layout::map(segments, recorded, &index[0..0], shift, b.code);
     pool::emit(output, fields::X64, to, constants, asked, pooled);
     emit::patch_refs(
         output,
         refs,
         labels,
         segments,
+        index,
+        shift,
         b.refs as usize,
         recorded + pooled,
     );
@@ -157,6 +163,7 @@ pub(crate) fn relax_and_write(
     segments: &mut [Segment],
     output: &mut [u8],
     long: &mut [bool],
+    index: &mut [u32],
 ) -> Outcome
     requires { ⌜ Layable (now code) (now labels) (now events) (now refs) (now constants) (now asked) (now relocs) (now output) (length (now segments)) (b .code) (b .labels) (b .events) (b .asked) (b .refs) (b .relocs) ⌝ ∗ ⌜ now long ≡ replicate (b .events + b .asked) false ⌝ }
     ensures { λ r. ⌜ ((us : List tables.Use) → (r, (now (labels .exit), (now (relocs .exit), (now (segments .exit), now (output .exit))))) ≡ relaxed (tablesPooled archX64 (b .code) (take (b .code) (now (code .entry))) (tables.entries (wordAt (now (labels .entry))) (b .labels)) (tables.entries (eventAt (now (events .entry))) (b .events)) us (tables.entries (tables.refAt (now (refs .entry))) (b .refs)) (now (constants .entry)) (now (asked .entry)) (b .asked)) (b .relocs) (now (labels .entry)) (now (relocs .entry)) (now (segments .entry)) (now (output .entry))) ⌝ }
@@ -164,6 +171,7 @@ pub(crate) fn relax_and_write(
     let recorded = b.events as usize;
     let pooled = b.asked as usize;
     let all = recorded + pooled;
+    let shift = lookup::shift_for(pool::pool_end(b.code, constants, asked, pooled));
     let laid = layout::relax_jumps(
         segments,
         events,
@@ -171,17 +179,19 @@ pub(crate) fn relax_and_write(
         constants,
         asked,
         long,
+        index,
+        shift,
         recorded,
         pooled,
         b.code,
     );
-    let reach = emit::refs_reach(refs, labels, segments, b.refs as usize, all);
+    let reach = emit::refs_reach(refs, labels, segments, index, shift, b.refs as usize, all);
     let why = why_not_written(reach, laid.len, output.len());
     if why != 0 {
         return refused(why);
     }
-    emit::map_words(labels, segments, 1, b.labels as usize, all);
-    emit::map_words(relocs, segments, 6, b.relocs as usize, all);
+    emit::map_words(labels, segments, index, shift, 1, b.labels as usize, all);
+    emit::map_words(relocs, segments, index, shift, 6, b.relocs as usize, all);
     write_relaxed(
         b,
         output,
@@ -193,12 +203,24 @@ pub(crate) fn relax_and_write(
         asked,
         long,
         segments,
+        index,
+        shift,
     );
     Outcome {
         refusal: 0,
         len: laid.len,
         layouts: laid.layouts,
     }
+}
+
+// How long an index of so many starts is: none where it does not pay.
+fn index_size(all: usize) -> usize
+    ensures { λ r. ⌜ r ≤ indexSize ⌝ }
+{
+    if lookup::pays(all, all) {
+        return lookup::SIZE;
+    }
+    0
 }
 
 // With few events and constants a few marks are enough.
@@ -219,6 +241,8 @@ pub(crate) fn small_relaxed(
 {
     let all = b.events as usize + b.asked as usize;
     let mut long = [false; checks::entries::FEW_MARKS];
+    let mut index = [0; lookup::SIZE];
+    let size = index_size(all);
     relax_and_write(
         b,
         code,
@@ -231,6 +255,7 @@ pub(crate) fn small_relaxed(
         segments,
         output,
         &mut long[0..all],
+        &mut index[0..size],
     )
 }
 
@@ -251,6 +276,7 @@ pub(crate) fn large_relaxed(
 {
     let all = b.events as usize + b.asked as usize;
     let mut long = [false; buffer::MOST_ENTRIES];
+    let mut index = [0; lookup::SIZE];
     relax_and_write(
         b,
         code,
@@ -263,6 +289,7 @@ pub(crate) fn large_relaxed(
         segments,
         output,
         &mut long[0..all],
+        &mut index,
     )
 }
 

@@ -12,10 +12,10 @@ use Rattle.emit.proofs.patch_refs.Statement.{statement}
 use Rattle.emit.proofs.patch_refs.Proof.Tie as tie
 
 abbrev Inv-loop : tie.InvT-loop
-Inv-loop output₀ refs labels segments count n i₀ output i = (i ≤ count) × (length output ≡ length output₀) × (output ≡ refsFilled output₀ refs labels segments n i)
+Inv-loop output₀ refs labels segments index shift count n i₀ output i = (i ≤ count) × (length output ≡ length output₀) × (output ≡ refsFilled output₀ refs labels segments n i)
 
 abbrev μ-loop : tie.MeasureT-loop
-μ-loop output₀ refs labels segments count n i₀ output i = count - i
+μ-loop output₀ refs labels segments index shift count n i₀ output i = count - i
 
 loop-holds : tie.Need-loop-holds Inv-loop μ-loop
 unfolding refsFilled
@@ -24,18 +24,18 @@ loop-holds c = (omega arith, refl, refl)
 word-at-requires : tie.Need-word-at-requires Inv-loop μ-loop
 word-at-requires c κs =
     let start : tie.Start Inv-loop μ-loop = search in
-    omega (arith, start .pre .1 .each _ (c .loop-test .taken) .entry)
+    omega (arith, start .pre .1 .1 .each _ (c .loop-test .taken) .entry)
 
 mul-word-at : tie.Need-mul-word-at Inv-loop μ-loop
 mul-word-at c =
     let start : tie.Start Inv-loop μ-loop = search in
-    omega (arith, start .pre .1 .each _ (c .loop-test .taken) .entry)
+    omega (arith, start .pre .1 .1 .each _ (c .loop-test .taken) .entry)
 
 map-requires : tie.Need-map-requires Inv-loop μ-loop
 map-requires c κs =
     let in-loop : tie.In-loop Inv-loop μ-loop = search in
     let start : tie.Start Inv-loop μ-loop = search in
-    (start .pre .0, rw (c .word-at .ensures) (start .pre .1 .recorded _ (in-loop .loop-test .taken)))
+    (start .pre .0, (start .pre .1 .0, rw (c .word-at .ensures) (start .pre .1 .1 .recorded _ (in-loop .loop-test .taken))))
 
 patch-ref-requires : tie.Need-patch-ref-requires Inv-loop μ-loop
 patch-ref-requires c κs =
@@ -44,7 +44,7 @@ patch-ref-requires c κs =
     let in-loop : tie.In-loop Inv-loop μ-loop = search in
     let at-loop : tie.At-loop Inv-loop μ-loop = search in
     let start : tie.Start Inv-loop μ-loop = search in
-    rw (at-loop .loop .inv .1, after-map .map .ensures, after-word-at .word-at .ensures) (start .pre .1 .each _ (in-loop .loop-test .taken))
+    rw (at-loop .loop .inv .1, after-map .map .ensures, after-word-at .word-at .ensures) (start .pre .1 .1 .each _ (in-loop .loop-test .taken))
 
 loop-again : tie.Need-loop-again Inv-loop μ-loop
 loop-again c =

@@ -9,44 +9,44 @@ use Rattle.emit.proofs.refs_reach.Statement.{statement}
 use Rattle.emit.proofs.refs_reach.Proof.Tie as tie
 
 abbrev Inv-loop : tie.InvT-loop
-Inv-loop refs labels segments count n i₀ i = AllPassed (refReaches refs labels segments n) count i
+Inv-loop refs labels segments index shift count n i₀ i = AllPassed (refReaches refs labels segments n) count i
 
 abbrev μ-loop : tie.MeasureT-loop
-μ-loop refs labels segments count n i₀ i = count - i
+μ-loop refs labels segments index shift count n i₀ i = count - i
 
 mul-word-at : tie.Need-mul-word-at Inv-loop μ-loop
 mul-word-at c =
     let start : tie.Start Inv-loop μ-loop = search in
-    omega (arith, start .pre .1 .each _ (c .loop-test .taken) .entry)
+    omega (arith, start .pre .1 .1 .each _ (c .loop-test .taken) .entry)
 
 word-at-requires : tie.Need-word-at-requires Inv-loop μ-loop
 word-at-requires c κs =
     let start : tie.Start Inv-loop μ-loop = search in
-    omega (arith, start .pre .1 .each _ (c .loop-test .taken) .entry)
+    omega (arith, start .pre .1 .1 .each _ (c .loop-test .taken) .entry)
 
 map-requires : tie.Need-map-requires Inv-loop μ-loop
 map-requires c κs =
     let in-loop : tie.In-loop Inv-loop μ-loop = search in
     let start : tie.Start Inv-loop μ-loop = search in
-    (start .pre .0, rw (c .word-at .ensures) (start .pre .1 .each _ (in-loop .loop-test .taken) .recorded))
+    (start .pre .0, (start .pre .1 .0, rw (c .word-at .ensures) (start .pre .1 .1 .each _ (in-loop .loop-test .taken) .recorded)))
 
 ref-label-requires : tie.Need-ref-label-requires Inv-loop μ-loop
 ref-label-requires c κs =
     let in-loop : tie.In-loop Inv-loop μ-loop = search in
     let start : tie.Start Inv-loop μ-loop = search in
-    let known = start .pre .1 .each _ (in-loop .loop-test .taken) in (known .entry, known .known)
+    let known = start .pre .1 .1 .each _ (in-loop .loop-test .taken) in (known .entry, known .known)
 
 map-requires-2 : tie.Need-map-requires-2 Inv-loop μ-loop
 map-requires-2 c κs =
     let in-loop : tie.In-loop Inv-loop μ-loop = search in
     let start : tie.Start Inv-loop μ-loop = search in
-    (start .pre .0, rw (c .ref-label .ensures) (start .pre .1 .each _ (in-loop .loop-test .taken) .bound))
+    (start .pre .0, (start .pre .1 .0, rw (c .ref-label .ensures) (start .pre .1 .1 .each _ (in-loop .loop-test .taken) .bound)))
 
 ref-reaches-requires : tie.Need-ref-reaches-requires Inv-loop μ-loop
 ref-reaches-requires c κs =
     let in-loop : tie.In-loop Inv-loop μ-loop = search in
     let start : tie.Start Inv-loop μ-loop = search in
-    start .pre .1 .each _ (in-loop .loop-test .taken) .entry
+    start .pre .1 .1 .each _ (in-loop .loop-test .taken) .entry
 
 returns : tie.Need-returns Inv-loop μ-loop
 unfolding refsReach

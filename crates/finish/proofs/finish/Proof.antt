@@ -1,6 +1,6 @@
 -- `finish` meets its contract: what it begins, relaxes and concludes.
 mod Tie
-use mathlib.Core.Path.{refl, _∙_}
+use mathlib.Core.Path.{refl}
 use native.Mathlib.Omega.{arith}
 use borrow.Author.Needs.{needs}
 use borrow.Author.Tests.{not-true, not-false}

@@ -1,13 +1,12 @@
 -- `fill_index` meets its contract: after i turns the first i starts are marked.
 mod Tie
-use mathlib.Core.Path.{_≡_, refl, _∙_, ap}
+use mathlib.Core.Path.{_≡_, refl, _∙_}
 use Prim.Native.Nat.{_-_, _≤_}
 use native.Mathlib.Omega.{arith}
 use lib.ListN.{length}
 use borrow.Author.Needs.{needs}
 use Rattle.lookup.specs.steps.Index.{Filled}
 use Rattle.lookup.proofs.Index.{filled-none, filled-one, filled-all}
-use Rattle.relax.specs.declared.Segment.{Segment}
 use Rattle.layout.specs.steps.Layout.{startAt}
 use Rattle.layout.proofs.Search.{sorted-rises}
 use Rattle.layout.proofs.fill_index.Statement.{statement}

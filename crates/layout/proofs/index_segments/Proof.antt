@@ -1,7 +1,5 @@
 -- `index_segments` meets its contract.
 mod Tie
-use mathlib.Core.Path.{refl}
-use native.Mathlib.Omega.{arith}
 use borrow.Author.Needs.{needs}
 use Rattle.lookup.proofs.Index.{indexed-none}
 use Rattle.layout.proofs.index_segments.Statement.{statement}

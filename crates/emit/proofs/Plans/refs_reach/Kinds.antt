@@ -12,8 +12,11 @@ use mathlib.Core.List.{[], _∷_}
 abbrev pub e0· : RT·.RattleType
 e0· = Referent.rtF (Referent.fInt Syntax.w8)
 
-abbrev pub ps : List.List (Kinds.PK 3)
-ps = (ShrSlice.pShrS e0· 0 tt) ∷ (ShrSlice.pShrS e0· 1 tt) ∷ (ShrSlice.pShrS ROW·.the-row 2 tt) ∷ (Kinds.pNum Syntax.w64) ∷ (Kinds.pNum Syntax.w64) ∷ []
+abbrev pub e1· : RT·.RattleType
+e1· = Referent.rtF (Referent.fInt Syntax.w32)
 
-abbrev pub r : Kinds.RK 3
+abbrev pub ps : List.List (Kinds.PK 4)
+ps = (ShrSlice.pShrS e0· 0 tt) ∷ (ShrSlice.pShrS e0· 1 tt) ∷ (ShrSlice.pShrS ROW·.the-row 2 tt) ∷ (ShrSlice.pShrS e1· 3 tt) ∷ (Kinds.pNum Syntax.w32) ∷ (Kinds.pNum Syntax.w64) ∷ (Kinds.pNum Syntax.w64) ∷ []
+
+abbrev pub r : Kinds.RK 4
 r = Kinds.rBool

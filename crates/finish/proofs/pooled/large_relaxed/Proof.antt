@@ -26,6 +26,7 @@ large-relaxed-spec =
     (λ c. search needs)
     (λ c. search needs)
     part-long-end
+    (λ c. search needs)
     relax-and-write-requires
     (λ c. search needs)
     (λ c. search needs)

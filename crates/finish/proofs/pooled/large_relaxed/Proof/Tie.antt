@@ -60,6 +60,9 @@ After-relax-and-write-arg4 = Lts.After-relax-and-write-arg4 (Reads'.Asked, Reads
 abbrev pub After-long : Type 0
 After-long = Lts.After-long (Reads'.Asked, Reads'.Learnt) Reads.Pre Reads.Post
 
+abbrev pub After-index : Type 0
+After-index = Lts.After-index (Reads'.Asked, Reads'.Learnt) Reads.Pre Reads.Post
+
 abbrev pub After-relax-and-write : Type 0
 After-relax-and-write = Lts.After-relax-and-write (Reads'.Asked, Reads'.Learnt) Reads.Pre Reads.Post
 
@@ -87,6 +90,9 @@ After-slice-known6 = Lts.After-slice-known6 (Reads'.Asked, Reads'.Learnt) Reads.
 abbrev pub After-long2 : Type 0
 After-long2 = Lts.After-long2 (Reads'.Asked, Reads'.Learnt) Reads.Pre Reads.Post
 
+abbrev pub After-index2 : Type 0
+After-index2 = Lts.After-index2 (Reads'.Asked, Reads'.Learnt) Reads.Pre Reads.Post
+
 abbrev pub Need-cast-all : Type 0
 Need-cast-all = Lts.Need-cast-all (Reads'.Asked, Reads'.Learnt) Reads.Pre Reads.Post
 
@@ -104,6 +110,9 @@ Need-part-long-start = Lts.Need-part-long-start (Reads'.Asked, Reads'.Learnt) Re
 
 abbrev pub Need-part-long-end : Type 0
 Need-part-long-end = Lts.Need-part-long-end (Reads'.Asked, Reads'.Learnt) Reads.Pre Reads.Post
+
+abbrev pub Need-slice-aggregate-relax-and-write : Type 0
+Need-slice-aggregate-relax-and-write = Lts.Need-slice-aggregate-relax-and-write (Reads'.Asked, Reads'.Learnt) Reads.Pre Reads.Post
 
 abbrev pub Need-relax-and-write-requires : Type 0
 Need-relax-and-write-requires = Lts.Need-relax-and-write-requires (Reads'.Asked, Reads'.Learnt) Reads.Pre Reads.Post
@@ -124,8 +133,8 @@ abbrev pub Need-returns : Type 0
 Need-returns = Lts.Need-returns (Reads'.Asked, Reads'.Learnt) Reads.Pre Reads.Post
 
 module _ {M : Type 1} where
-  pub spec : (answer : Need-cast-all) → (answer : Need-cast-all-2) → (answer : Need-add-all) → (answer : Need-sub-relax-and-write) → (answer : Need-part-long-start) → (answer : Need-part-long-end) → (answer : Need-relax-and-write-requires) → (answer : Need-same-length) → (answer : Need-same-length-2) → (answer : Need-same-length-3) → (answer : Need-same-length-4) → (answer : Need-returns) → Lts.Closed (Reads'.Asked, Reads'.Learnt) Reads.Pre Reads.Post M
-  spec = λ answer answer' answer'' answer'3 answer'4 answer'5 answer'6 answer'7 answer'8 answer'9 answer'10 answer'11. Lts.spec (Reads'.Asked, Reads'.Learnt) Reads.Pre Reads.Post answer answer' answer'' answer'3 answer'4 answer'5 answer'6 answer'7 answer'8 answer'9 answer'10 answer'11
+  pub spec : (answer : Need-cast-all) → (answer : Need-cast-all-2) → (answer : Need-add-all) → (answer : Need-sub-relax-and-write) → (answer : Need-part-long-start) → (answer : Need-part-long-end) → (answer : Need-slice-aggregate-relax-and-write) → (answer : Need-relax-and-write-requires) → (answer : Need-same-length) → (answer : Need-same-length-2) → (answer : Need-same-length-3) → (answer : Need-same-length-4) → (answer : Need-returns) → Lts.Closed (Reads'.Asked, Reads'.Learnt) Reads.Pre Reads.Post M
+  spec = λ answer answer' answer'' answer'3 answer'4 answer'5 answer'6 answer'7 answer'8 answer'9 answer'10 answer'11 answer'12. Lts.spec (Reads'.Asked, Reads'.Learnt) Reads.Pre Reads.Post answer answer' answer'' answer'3 answer'4 answer'5 answer'6 answer'7 answer'8 answer'9 answer'10 answer'11 answer'12
 
   pub close : Lts.Closed (Reads'.Asked, Reads'.Learnt) Reads.Pre Reads.Post M → Statement.statement M
   unfolding Code.routine Running.tablesOf

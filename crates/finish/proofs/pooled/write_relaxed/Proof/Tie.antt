@@ -54,6 +54,9 @@ After-shared-slice-known6 = Lts.After-shared-slice-known6 (Reads.Asked, Reads.Le
 abbrev pub After-shared-slice-known7 : Type 0
 After-shared-slice-known7 = Lts.After-shared-slice-known7 (Reads.Asked, Reads.Learnt, Reads'4.Asked, Reads'4.Learnt, Reads'5.Asked, Reads'5.Learnt, Reads''.Asked, Reads''.Learnt, Reads'.Asked, Reads'.Learnt, Reads'6.Asked, Reads'6.Learnt) Reads'3.Pre Reads'3.Post
 
+abbrev pub After-shared-slice-known8 : Type 0
+After-shared-slice-known8 = Lts.After-shared-slice-known8 (Reads.Asked, Reads.Learnt, Reads'4.Asked, Reads'4.Learnt, Reads'5.Asked, Reads'5.Learnt, Reads''.Asked, Reads''.Learnt, Reads'.Asked, Reads'.Learnt, Reads'6.Asked, Reads'6.Learnt) Reads'3.Pre Reads'3.Post
+
 abbrev pub After-struct-known : Type 0
 After-struct-known = Lts.After-struct-known (Reads.Asked, Reads.Learnt, Reads'4.Asked, Reads'4.Learnt, Reads'5.Asked, Reads'5.Learnt, Reads''.Asked, Reads''.Learnt, Reads'.Asked, Reads'.Learnt, Reads'6.Asked, Reads'6.Learnt) Reads'3.Pre Reads'3.Post
 
@@ -74,6 +77,9 @@ After-output = Lts.After-output (Reads.Asked, Reads.Learnt, Reads'4.Asked, Reads
 
 abbrev pub After-slice-known2 : Type 0
 After-slice-known2 = Lts.After-slice-known2 (Reads.Asked, Reads.Learnt, Reads'4.Asked, Reads'4.Learnt, Reads'5.Asked, Reads'5.Learnt, Reads''.Asked, Reads''.Learnt, Reads'.Asked, Reads'.Learnt, Reads'6.Asked, Reads'6.Learnt) Reads'3.Pre Reads'3.Post
+
+abbrev pub After-map-arg : Type 0
+After-map-arg = Lts.After-map-arg (Reads.Asked, Reads.Learnt, Reads'4.Asked, Reads'4.Learnt, Reads'5.Asked, Reads'5.Learnt, Reads''.Asked, Reads''.Learnt, Reads'.Asked, Reads'.Learnt, Reads'6.Asked, Reads'6.Learnt) Reads'3.Pre Reads'3.Post
 
 abbrev pub After-map : Type 0
 After-map = Lts.After-map (Reads.Asked, Reads.Learnt, Reads'4.Asked, Reads'4.Learnt, Reads'5.Asked, Reads'5.Learnt, Reads''.Asked, Reads''.Learnt, Reads'.Asked, Reads'.Learnt, Reads'6.Asked, Reads'6.Learnt) Reads'3.Pre Reads'3.Post
@@ -141,6 +147,15 @@ Need-cast-emit-events = Lts.Need-cast-emit-events (Reads.Asked, Reads.Learnt, Re
 abbrev pub Need-emit-events-requires : Type 0
 Need-emit-events-requires = Lts.Need-emit-events-requires (Reads.Asked, Reads.Learnt, Reads'4.Asked, Reads'4.Learnt, Reads'5.Asked, Reads'5.Learnt, Reads''.Asked, Reads''.Learnt, Reads'.Asked, Reads'.Learnt, Reads'6.Asked, Reads'6.Learnt) Reads'3.Pre Reads'3.Post
 
+abbrev pub Need-sub-map : Type 0
+Need-sub-map = Lts.Need-sub-map (Reads.Asked, Reads.Learnt, Reads'4.Asked, Reads'4.Learnt, Reads'5.Asked, Reads'5.Learnt, Reads''.Asked, Reads''.Learnt, Reads'.Asked, Reads'.Learnt, Reads'6.Asked, Reads'6.Learnt) Reads'3.Pre Reads'3.Post
+
+abbrev pub Need-part-map-start : Type 0
+Need-part-map-start = Lts.Need-part-map-start (Reads.Asked, Reads.Learnt, Reads'4.Asked, Reads'4.Learnt, Reads'5.Asked, Reads'5.Learnt, Reads''.Asked, Reads''.Learnt, Reads'.Asked, Reads'.Learnt, Reads'6.Asked, Reads'6.Learnt) Reads'3.Pre Reads'3.Post
+
+abbrev pub Need-part-map-end : Type 0
+Need-part-map-end = Lts.Need-part-map-end (Reads.Asked, Reads.Learnt, Reads'4.Asked, Reads'4.Learnt, Reads'5.Asked, Reads'5.Learnt, Reads''.Asked, Reads''.Learnt, Reads'.Asked, Reads'.Learnt, Reads'6.Asked, Reads'6.Learnt) Reads'3.Pre Reads'3.Post
+
 abbrev pub Need-map-requires : Type 0
 Need-map-requires = Lts.Need-map-requires (Reads.Asked, Reads.Learnt, Reads'4.Asked, Reads'4.Learnt, Reads'5.Asked, Reads'5.Learnt, Reads''.Asked, Reads''.Learnt, Reads'.Asked, Reads'.Learnt, Reads'6.Asked, Reads'6.Learnt) Reads'3.Pre Reads'3.Post
 
@@ -169,9 +184,9 @@ abbrev pub Need-returns : Type 0
 Need-returns = Lts.Need-returns (Reads.Asked, Reads.Learnt, Reads'4.Asked, Reads'4.Learnt, Reads'5.Asked, Reads'5.Learnt, Reads''.Asked, Reads''.Learnt, Reads'.Asked, Reads'.Learnt, Reads'6.Asked, Reads'6.Learnt) Reads'3.Pre Reads'3.Post
 
 module _ {M : Type 1} where
-  pub spec : (answer : Need-cast-recorded) → (answer : Need-cast-pooled) → (answer : Need-cast-emit-events) → (answer : Need-emit-events-requires) → (answer : Need-map-requires) → (answer : Need-emit-requires) → (answer : Need-cast-patch-refs) → (answer : Need-add-patch-refs) → (answer : Need-patch-refs-requires) → (answer : Need-patch-jumps-requires) → (answer : Need-write-requires) → (answer : Need-same-length) → (answer : Need-returns) → Lts.Closed (Reads.Asked, Reads.Learnt, Reads'4.Asked, Reads'4.Learnt, Reads'5.Asked, Reads'5.Learnt, Reads''.Asked, Reads''.Learnt, Reads'.Asked, Reads'.Learnt, Reads'6.Asked, Reads'6.Learnt) Reads'3.Pre Reads'3.Post M
-  spec = λ answer answer' answer'' answer'3 answer'4 answer'5 answer'6 answer'7 answer'8 answer'9 answer'10 answer'11 answer'12. Lts.spec (Reads.Asked, Reads.Learnt, Reads'4.Asked, Reads'4.Learnt, Reads'5.Asked, Reads'5.Learnt, Reads''.Asked, Reads''.Learnt, Reads'.Asked, Reads'.Learnt, Reads'6.Asked, Reads'6.Learnt) Reads'3.Pre Reads'3.Post answer answer' answer'' answer'3 answer'4 answer'5 answer'6 answer'7 answer'8 answer'9 answer'10 answer'11 answer'12
+  pub spec : (answer : Need-cast-recorded) → (answer : Need-cast-pooled) → (answer : Need-cast-emit-events) → (answer : Need-emit-events-requires) → (answer : Need-sub-map) → (answer : Need-part-map-start) → (answer : Need-part-map-end) → (answer : Need-map-requires) → (answer : Need-emit-requires) → (answer : Need-cast-patch-refs) → (answer : Need-add-patch-refs) → (answer : Need-patch-refs-requires) → (answer : Need-patch-jumps-requires) → (answer : Need-write-requires) → (answer : Need-same-length) → (answer : Need-returns) → Lts.Closed (Reads.Asked, Reads.Learnt, Reads'4.Asked, Reads'4.Learnt, Reads'5.Asked, Reads'5.Learnt, Reads''.Asked, Reads''.Learnt, Reads'.Asked, Reads'.Learnt, Reads'6.Asked, Reads'6.Learnt) Reads'3.Pre Reads'3.Post M
+  spec = λ answer answer' answer'' answer'3 answer'4 answer'5 answer'6 answer'7 answer'8 answer'9 answer'10 answer'11 answer'12 answer'13 answer'14 answer'15. Lts.spec (Reads.Asked, Reads.Learnt, Reads'4.Asked, Reads'4.Learnt, Reads'5.Asked, Reads'5.Learnt, Reads''.Asked, Reads''.Learnt, Reads'.Asked, Reads'.Learnt, Reads'6.Asked, Reads'6.Learnt) Reads'3.Pre Reads'3.Post answer answer' answer'' answer'3 answer'4 answer'5 answer'6 answer'7 answer'8 answer'9 answer'10 answer'11 answer'12 answer'13 answer'14 answer'15
 
   pub close : Lts.Closed (Reads.Asked, Reads.Learnt, Reads'4.Asked, Reads'4.Learnt, Reads'5.Asked, Reads'5.Learnt, Reads''.Asked, Reads''.Learnt, Reads'.Asked, Reads'.Learnt, Reads'6.Asked, Reads'6.Learnt) Reads'3.Pre Reads'3.Post M → Statement.statement M
   unfolding Code.routine Running.tablesOf
-  close = λ closed 𝓤 H 𝓜 𝓖 𝓡. Written.close 9 Kinds.ps Kinds.r Reads'3.Ghost Reads'3.requires Reads'3.ensures Reads'3.pre-read Reads'3.Pinned Reads'3.Owned Reads'3.post-read record { M = M; 𝓤 = 𝓤; H = H; 𝓜 = 𝓜; 𝓖 = 𝓖; 𝓡 = 𝓡 } Code.env Key.name Code.function (Code.unfolded 𝓤 H 𝓜 𝓡) (λ κs a g. tt) (λ κs. Reads'3.owns κs record { M = M; 𝓤 = 𝓤; H = H; 𝓜 = 𝓜; 𝓖 = 𝓖; 𝓡 = 𝓡 }) (Reads'3.passes record { M = M; 𝓤 = 𝓤; H = H; 𝓜 = 𝓜; 𝓖 = 𝓖; 𝓡 = 𝓡 }) λ g. closed 𝓤 H (𝓖 .A) (Running.givenOf 𝓤 H 𝓜 𝓖) (Run.Over 𝓤 H 𝓜 𝓖 𝓡 Code.env) (Reads.known record { M = M; 𝓤 = 𝓤; H = H; 𝓜 = 𝓜; 𝓖 = 𝓖; 𝓡 = 𝓡 } Code.env Symbol.name Symbol.routine Code.calls-emit·emit-events (Met.met 𝓤 H 𝓜 𝓖 𝓡)) (Reads'4.known record { M = M; 𝓤 = 𝓤; H = H; 𝓜 = 𝓜; 𝓖 = 𝓖; 𝓡 = 𝓡 } Code.env Symbol'3.name Symbol'3.routine Code.calls-layout·map (Met'3.met 𝓤 H 𝓜 𝓖 𝓡)) (Reads'5.known record { M = M; 𝓤 = 𝓤; H = H; 𝓜 = 𝓜; 𝓖 = 𝓖; 𝓡 = 𝓡 } Code.env Symbol'4.name Symbol'4.routine Code.calls-pool·emit (Met'4.met 𝓤 H 𝓜 𝓖 𝓡)) (Reads''.known record { M = M; 𝓤 = 𝓤; H = H; 𝓜 = 𝓜; 𝓖 = 𝓖; 𝓡 = 𝓡 } Code.env Symbol''.name Symbol''.routine Code.calls-emit·patch-refs (Met''.met 𝓤 H 𝓜 𝓖 𝓡)) (Reads'.known record { M = M; 𝓤 = 𝓤; H = H; 𝓜 = 𝓜; 𝓖 = 𝓖; 𝓡 = 𝓡 } Code.env Symbol'.name Symbol'.routine Code.calls-emit·patch-jumps (Met'.met 𝓤 H 𝓜 𝓖 𝓡)) (Reads'6.known record { M = M; 𝓤 = 𝓤; H = H; 𝓜 = 𝓜; 𝓖 = 𝓖; 𝓡 = 𝓡 } Code.env Symbol'5.name Symbol'5.routine Code.calls-pool·write (Met'5.met 𝓤 H 𝓜 𝓖 𝓡))
+  close = λ closed 𝓤 H 𝓜 𝓖 𝓡. Written.close 10 Kinds.ps Kinds.r Reads'3.Ghost Reads'3.requires Reads'3.ensures Reads'3.pre-read Reads'3.Pinned Reads'3.Owned Reads'3.post-read record { M = M; 𝓤 = 𝓤; H = H; 𝓜 = 𝓜; 𝓖 = 𝓖; 𝓡 = 𝓡 } Code.env Key.name Code.function (Code.unfolded 𝓤 H 𝓜 𝓡) (λ κs a g. tt) (λ κs. Reads'3.owns κs record { M = M; 𝓤 = 𝓤; H = H; 𝓜 = 𝓜; 𝓖 = 𝓖; 𝓡 = 𝓡 }) (Reads'3.passes record { M = M; 𝓤 = 𝓤; H = H; 𝓜 = 𝓜; 𝓖 = 𝓖; 𝓡 = 𝓡 }) λ g. closed 𝓤 H (𝓖 .A) (Running.givenOf 𝓤 H 𝓜 𝓖) (Run.Over 𝓤 H 𝓜 𝓖 𝓡 Code.env) (Reads.known record { M = M; 𝓤 = 𝓤; H = H; 𝓜 = 𝓜; 𝓖 = 𝓖; 𝓡 = 𝓡 } Code.env Symbol.name Symbol.routine Code.calls-emit·emit-events (Met.met 𝓤 H 𝓜 𝓖 𝓡)) (Reads'4.known record { M = M; 𝓤 = 𝓤; H = H; 𝓜 = 𝓜; 𝓖 = 𝓖; 𝓡 = 𝓡 } Code.env Symbol'3.name Symbol'3.routine Code.calls-layout·map (Met'3.met 𝓤 H 𝓜 𝓖 𝓡)) (Reads'5.known record { M = M; 𝓤 = 𝓤; H = H; 𝓜 = 𝓜; 𝓖 = 𝓖; 𝓡 = 𝓡 } Code.env Symbol'4.name Symbol'4.routine Code.calls-pool·emit (Met'4.met 𝓤 H 𝓜 𝓖 𝓡)) (Reads''.known record { M = M; 𝓤 = 𝓤; H = H; 𝓜 = 𝓜; 𝓖 = 𝓖; 𝓡 = 𝓡 } Code.env Symbol''.name Symbol''.routine Code.calls-emit·patch-refs (Met''.met 𝓤 H 𝓜 𝓖 𝓡)) (Reads'.known record { M = M; 𝓤 = 𝓤; H = H; 𝓜 = 𝓜; 𝓖 = 𝓖; 𝓡 = 𝓡 } Code.env Symbol'.name Symbol'.routine Code.calls-emit·patch-jumps (Met'.met 𝓤 H 𝓜 𝓖 𝓡)) (Reads'6.known record { M = M; 𝓤 = 𝓤; H = H; 𝓜 = 𝓜; 𝓖 = 𝓖; 𝓡 = 𝓡 } Code.env Symbol'5.name Symbol'5.routine Code.calls-pool·write (Met'5.met 𝓤 H 𝓜 𝓖 𝓡))
