@@ -41,7 +41,7 @@ use Rattle.buffer.specs.Refusals.{
 }
 use Rattle.buffer.proofs.Standing.{stands, count-fits}
 use Rattle.buffer.specs.Tables.{mostEntries, mostCode, lastOffset, mostConstant, lastReloc, labelSize}
-use Rattle.buffer.specs.State.{keepsEvents}
+use Rattle.buffer.specs.State.{none, keepsEvents}
 
 pub record BytesAccepted (b : CodeBuffer) (lent n : ℕ) : Type 0 where
   pub room : b .code + n ≤ lent
@@ -70,15 +70,19 @@ label-accepted {b} {room} h =
 pub record BindAccepted (b : CodeBuffer) (labels : List ℕ) (label : ℕ) : Type 0 where
   pub known : label < b .labels
   pub room : b .labels ≤ length labels / labelSize
+  pub unbound : wordAt labels label ≡ none
 
 pub bind-accepted : {b : CodeBuffer} {labels : List ℕ} {label : ℕ} → whyBind b labels label ≡ 0 → BindAccepted b labels label
 unfolding whyBind
 bind-accepted {b} {labels} {label} h =
     let room = length labels / labelSize in
     let w = neither (standing b (leb (b .labels) room) (leb room mostEntries)) _ h in
+    let one = passed (leb (b .labels) label) refusals.unknownNumber _ (λ e. omega arith) (w .1) in
+    let two = passed (not (eqb (wordAt labels label) none)) refusals.alreadyBound 0 (λ e. omega arith) (one .1) in
     record {
-      known = leb-false (b .labels) label (passed (leb (b .labels) label) refusals.unknownNumber _ (λ e. omega arith) (w .1) .0);
+      known = leb-false (b .labels) label (one .0);
       room = count-fits b (b .labels) room _ (w .0);
+      unbound = eqb-true (wordAt labels label) none (not-false _ (two .0));
     }
 
 pub record UseAccepted (b : CodeBuffer) (room label code : ℕ) : Type 0 where

@@ -2,3 +2,4 @@ pub mod Standing
 pub mod Accepted
 pub mod Appends
 pub mod Scan
+pub mod Below

@@ -2,13 +2,14 @@
 use mathlib.Core.Path.{_≡_, sym, _∙_}
 use mathlib.Core.Bool.{false, not, _&&_, _||_}
 use mathlib.Core.List.{List}
-use borrow.Author.Tests.{eqb-true, not-false}
-use Prim.Native.Nat.{ℕ, _+_}
+use borrow.Author.Tests.{eqb-true, not-false, le-ltb}
+use Prim.Native.Nat.{ℕ, _+_, _≤_}
 use native.Mathlib.Numerals.{add-one}
 use lib.Dec.{eqb, ltb}
 use Rattle.seqs.proofs.Booleans.{both-false}
 use Rattle.words.specs.Words.{wordAt}
-use Rattle.buffer.specs.Refusals.{labelInside, jumpMalformed}
+use Rattle.buffer.specs.declared.CodeBuffer.{CodeBuffer}
+use Rattle.buffer.specs.Refusals.{lastEnd, labelInside, jumpMalformed, jumpUnfit}
 
 -- one more label is looked at
 pub scan-step : (labels : List ℕ) (i start end : ℕ)
@@ -24,3 +25,10 @@ ends-here code start len cc h =
     let b = both-false _ _ (a .0) in
     let c = both-false _ _ (b .0) in
     eqb-true (start + len) code (not-false (eqb (start + len) code) (c .0))
+
+-- where it also starts no earlier than the last event ends, a label inside alone makes it unfit
+pub unfit-by-label : (b : CodeBuffer) (labels events : List ℕ) (start len cc : ℕ) → jumpMalformed (b .code) start len cc ≡ false
+    → lastEnd events (b .events) ≤ start → jumpUnfit b labels events start len cc ≡ labelInside labels (b .labels) start (b .code)
+unfolding jumpUnfit
+unfit-by-label b labels events start len cc formed late =
+    rw (formed, ends-here (b .code) start len cc formed, le-ltb start (lastEnd events (b .events)) late)

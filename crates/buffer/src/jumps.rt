@@ -5,10 +5,12 @@ ghost use lib.ListN.{length};
 ghost use Rattle.buffer.specs.Refusals.{lastEnd, labelInside, jumpMalformed, jumpUnfit, whyJump};
 ghost use Rattle.buffer.specs.Calls.{recordJump};
 ghost use Rattle.buffer.specs.Tables.{labelSize};
+ghost use Rattle.buffer.specs.steps.Below.{Told};
 ghost use Rattle.relax.specs.Events.{eventSize};
 use crate::CodeBuffer;
 use crate::LABEL_SIZE;
 use crate::MOST_ENTRIES;
+use crate::NONE;
 use crate::Recorded;
 use crate::both;
 use crate::either;
@@ -56,8 +58,17 @@ fn is_malformed(code: u32, start: u32, len: u32, cc: u32) -> bool
 }
 
 impl CodeBuffer {
-    fn is_unfit(self, labels: &[u8], events: &[u8], start: u32, len: u32, cc: u32) -> bool
-        requires { ⌜ (self .labels * labelSize ≤ length (now labels)) × (self .events * eventSize ≤ length (now events)) ⌝ }
+    // `nearest`: the greatest offset of a label below the current offset, or `NONE` where the labels are to be looked at.
+    fn is_unfit(
+        self,
+        labels: &[u8],
+        events: &[u8],
+        start: u32,
+        len: u32,
+        cc: u32,
+        nearest: u32,
+    ) -> bool
+        requires { ⌜ (self .labels * labelSize ≤ length (now labels)) × (self .events * eventSize ≤ length (now events)) × Told (now labels) (self .labels) (self .code) nearest ⌝ }
         ensures { λ r. ⌜ r ≡ jumpUnfit self (now (labels .entry)) (now (events .entry)) start len cc ⌝ }
     {
         if is_malformed(self.code, start, len, cc) {
@@ -65,6 +76,9 @@ impl CodeBuffer {
         }
         if (start as u64) < last_end(events, self.events as usize) {
             return true;
+        }
+        if nearest != NONE {
+            return start < nearest;
         }
         label_inside(labels, self.labels as usize, start, self.code)
     }
@@ -77,7 +91,9 @@ impl CodeBuffer {
         len: u32,
         label: u32,
         cc: u32,
+        nearest: u32,
     ) -> u32
+        requires { ⌜ Told (now labels) (self .labels) (self .code) nearest ⌝ }
         ensures { λ r. ⌜ r ≡ whyJump self (now (labels .entry)) (now (events .entry)) start len label cc ⌝ }
     {
         let known = labels.len() / LABEL_SIZE;
@@ -95,7 +111,7 @@ impl CodeBuffer {
         if self.labels <= label {
             return refusals::UNKNOWN_NUMBER;
         }
-        if self.is_unfit(labels, events, start, len, cc) {
+        if self.is_unfit(labels, events, start, len, cc, nearest) {
             return refusals::BAD_ENTRY;
         }
         if room <= self.events as usize {
@@ -104,8 +120,8 @@ impl CodeBuffer {
         0
     }
 
-    // Records a jump that ends at the current offset. Off X64 it is accepted unread.
-    pub fn record_relaxable_jump(
+    // Records a jump, told of the labels what `is_unfit` is.
+    pub fn record_jump(
         mut self,
         labels: &[u8],
         events: &mut [u8],
@@ -113,10 +129,12 @@ impl CodeBuffer {
         len: u32,
         label: u32,
         cc: u32,
+        nearest: u32,
     ) -> Recorded
+        requires { ⌜ Told (now labels) (self .labels) (self .code) nearest ⌝ }
         ensures { λ r. ⌜ (r, now (events .exit)) ≡ recordJump self (now (labels .entry)) (now (events .entry)) start len label cc ⌝ }
     {
-        let why = self.why_not_jump(labels, events, start, len, label, cc);
+        let why = self.why_not_jump(labels, events, start, len, label, cc, nearest);
         if why != 0 {
             return self.turn_down(why);
         }
@@ -133,5 +151,20 @@ impl CodeBuffer {
             buffer: self,
             refusal: 0,
         }
+    }
+
+    // Records a jump that ends at the current offset. Off X64 it is accepted unread.
+    pub fn record_relaxable_jump(
+        self,
+        labels: &[u8],
+        events: &mut [u8],
+        start: u32,
+        len: u32,
+        label: u32,
+        cc: u32,
+    ) -> Recorded
+        ensures { λ r. ⌜ (r, now (events .exit)) ≡ recordJump self (now (labels .entry)) (now (events .entry)) start len label cc ⌝ }
+    {
+        self.record_jump(labels, events, start, len, label, cc, NONE)
     }
 }

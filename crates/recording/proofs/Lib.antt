@@ -8,3 +8,4 @@ pub mod Words
 pub mod Views
 pub mod Laws
 pub mod Alignments
+pub mod Bound

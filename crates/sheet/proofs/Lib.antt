@@ -1,5 +1,6 @@
 pub mod Forming
 pub mod Parts
 pub mod Calling
+pub mod Bounds
 pub mod Running
 pub mod Sheets

@@ -8,6 +8,7 @@ ghost use Prim.Native.Nat.{ℕ, min};
 ghost use lib.Dec.{eqb};
 ghost use lib.ListN.{length};
 ghost use Rattle.words.specs.Words.{wordAt};
+ghost use Rattle.buffer.specs.steps.Below.{Told};
 ghost use Rattle.checks.specs.Lent.{recordingOf};
 ghost use Rattle.sheet.specs.Run.{callOf, called};
 ghost use Rattle.sheet.specs.Form.{bytesCall, newLabelCall, bindCall, alignCall, jumpCall, constantCall, constantLabelCall, argumentSize, mostBytes};
@@ -58,15 +59,16 @@ fn call_code(
     b.try_align_to(code, events, words::word_at(arguments, 0))
 }
 
-// Labels and jumps.
+// Labels and jumps. `nearest` is what a jump is told of the labels.
 fn call_labels(
     b: CodeBuffer,
     kind: u8,
     arguments: &[u8],
+    nearest: u32,
     labels: &mut [u8],
     events: &mut [u8],
 ) -> Recorded
-    requires { ⌜ (length (now arguments) ≡ argumentSize) × ((kind ≡ newLabelCall) ⊎ (kind ≡ bindCall) ⊎ (kind ≡ jumpCall)) ⌝ }
+    requires { ⌜ (length (now arguments) ≡ argumentSize) × ((kind ≡ newLabelCall) ⊎ (kind ≡ bindCall) ⊎ (kind ≡ jumpCall)) × Told (now labels) (b .labels) (b .code) nearest ⌝ }
     ensures { λ r. ⌜ ((code uses refs constants asked relocs : List ℕ) → (r .refusal, recordingOf (r .buffer) code (now (labels .exit)) (now (events .exit)) uses refs constants asked relocs) ≡ called (callOf kind (now (arguments .entry))) (recordingOf b code (now (labels .entry)) (now (events .entry)) uses refs constants asked relocs)) ⌝ }
 {
     if kind == kinds::NEW_LABEL {
@@ -75,13 +77,14 @@ fn call_labels(
     if kind == kinds::BIND {
         return b.try_bind_label(labels, words::word_at(arguments, 0));
     }
-    b.record_relaxable_jump(
+    b.record_jump(
         labels,
         events,
         words::word_at(arguments, 0),
         words::word_at(arguments, 1),
         words::word_at(arguments, 2),
         words::word_at(arguments, 3),
+        nearest,
     )
 }
 
@@ -164,6 +167,7 @@ pub(crate) fn call(
     b: CodeBuffer,
     kind: u8,
     arguments: &[u8],
+    nearest: u32,
     code: &mut [u8],
     labels: &mut [u8],
     events: &mut [u8],
@@ -173,14 +177,14 @@ pub(crate) fn call(
     asked: &mut [u8],
     relocs: &mut [u8],
 ) -> Recorded
-    requires { ⌜ length (now arguments) ≡ argumentSize ⌝ }
+    requires { ⌜ (length (now arguments) ≡ argumentSize) × Told (now labels) (b .labels) (b .code) nearest ⌝ }
     ensures { λ r. ⌜ (r .refusal, recordingOf (r .buffer) (now (code .exit)) (now (labels .exit)) (now (events .exit)) (now (uses .exit)) (now (refs .exit)) (now (constants .exit)) (now (asked .exit)) (now (relocs .exit))) ≡ called (callOf kind (now (arguments .entry))) (recordingOf b (now (code .entry)) (now (labels .entry)) (now (events .entry)) (now (uses .entry)) (now (refs .entry)) (now (constants .entry)) (now (asked .entry)) (now (relocs .entry))) ⌝ }
 {
     if is_code(kind) {
         return call_code(b, kind, arguments, code, events);
     }
     if is_label(kind) {
-        return call_labels(b, kind, arguments, labels, events);
+        return call_labels(b, kind, arguments, nearest, labels, events);
     }
     if is_constant(kind) {
         return call_constants(b, kind, arguments, labels, constants, asked);

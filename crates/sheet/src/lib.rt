@@ -5,8 +5,11 @@ ghost use lib.ListN.{length};
 ghost use Rattle.checks.specs.Lent.{recordingOf};
 ghost use Rattle.sheet.specs.Run.{callsOf, runCalls, runSheet};
 ghost use Rattle.sheet.specs.Form.{argumentSize};
+use bound::Bound;
 use buffer::CodeBuffer;
+use buffer::NONE;
 
+mod bound;
 mod calls;
 mod form;
 mod kinds;
@@ -41,14 +44,22 @@ fn run(
     ensures { λ r. ⌜ ((r .refusal, r .index), recordingOf (r .buffer) (now (code .exit)) (now (labels .exit)) (now (events .exit)) (now (uses .exit)) (now (refs .exit)) (now (constants .exit)) (now (asked .exit)) (now (relocs .exit))) ≡ runCalls (callsOf (now (kinds .entry)) (now (arguments .entry))) 0 (recordingOf b (now (code .entry)) (now (labels .entry)) (now (events .entry)) (now (uses .entry)) (now (refs .entry)) (now (constants .entry)) (now (asked .entry)) (now (relocs .entry))) ⌝ }
 {
     let mut last = b;
+    let mut bound = Bound {
+        greatest: NONE,
+        second: NONE,
+    };
     let mut i: usize = 0;
     while i < kinds.len() {
         let at = i * ARGUMENT_SIZE;
         let end = at + ARGUMENT_SIZE;
+        let kind = kinds[i];
+        bound = bound.before_call(last, kind, labels);
+        let nearest = bound.nearest(last.code);
         let answer = calls::call(
             last,
-            kinds[i],
+            kind,
             &arguments[at..end],
+            nearest,
             code,
             labels,
             events,
@@ -59,14 +70,15 @@ fn run(
             relocs,
         );
         let buffer = answer.buffer;
-        last = buffer;
         if answer.refusal != 0 {
             return Ran {
-                buffer: last,
+                buffer,
                 refusal: answer.refusal,
                 index: i as u32,
             };
         }
+        bound = bound.after_call(kind, last.code);
+        last = buffer;
         i += 1;
     }
     Ran {

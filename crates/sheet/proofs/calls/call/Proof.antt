@@ -10,7 +10,7 @@ call-code-requires c κs =
     let then1 : tie.Then1 = search in
     let after-is-code : tie.After-is-code = search in
     let start : tie.Start = search in
-    (start .pre, either-is _ 1 4 (sym (after-is-code .is-code .ensures) ∙ then1 .if1 .taken))
+    (start .pre .0, either-is _ 1 4 (sym (after-is-code .is-code .ensures) ∙ then1 .if1 .taken))
 
 returns : tie.Need-returns
 returns c =
@@ -22,7 +22,7 @@ call-labels-requires c κs =
     let then2 : tie.Then2 = search in
     let after-is-label : tie.After-is-label = search in
     let start : tie.Start = search in
-    (start .pre, one-of-three _ 2 3 7 (sym (after-is-label .is-label .ensures) ∙ then2 .if2 .taken))
+    (start .pre .0, one-of-three _ 2 3 7 (sym (after-is-label .is-label .ensures) ∙ then2 .if2 .taken), start .pre .1)
 
 returns-2 : tie.Need-returns-2
 returns-2 c =
@@ -34,7 +34,7 @@ call-constants-requires c κs =
     let then3 : tie.Then3 = search in
     let after-is-constant : tie.After-is-constant = search in
     let start : tie.Start = search in
-    (start .pre, either-is _ 8 9 (sym (after-is-constant .is-constant .ensures) ∙ then3 .if3 .taken))
+    (start .pre .0, either-is _ 8 9 (sym (after-is-constant .is-constant .ensures) ∙ then3 .if3 .taken))
 
 returns-3 : tie.Need-returns-3
 returns-3 c =
@@ -53,7 +53,7 @@ call-fields-requires c κs =
     let else1 : tie.Else1 = search in
     let after-is-code : tie.After-is-code = search in
     let start = start-from-after-is-code after-is-code in
-    let code = neither-is _ 1 4 (sym (after-is-code .is-code .ensures) ∙ else1 .if1 .left) in let label = none-of-three _ 2 3 7 (sym (after-is-label .is-label .ensures) ∙ else2 .if2 .left) in let constant = neither-is _ 8 9 (sym (after-is-constant .is-constant .ensures) ∙ else3 .if3 .left) in (start .pre, (code .0, label .0, label .1, code .1, label .2, constant .0, constant .1))
+    let code = neither-is _ 1 4 (sym (after-is-code .is-code .ensures) ∙ else1 .if1 .left) in let label = none-of-three _ 2 3 7 (sym (after-is-label .is-label .ensures) ∙ else2 .if2 .left) in let constant = neither-is _ 8 9 (sym (after-is-constant .is-constant .ensures) ∙ else3 .if3 .left) in (start .pre .0, (code .0, label .0, label .1, code .1, label .2, constant .0, constant .1))
 
 returns-4 : tie.Need-returns-4
 returns-4 c =

@@ -24,7 +24,7 @@ returns-2 c =
 
 returns-3 : tie.Need-returns-3
 returns-3 c =
-    let after-record-relaxable-jump : tie.After-record-relaxable-jump = search in
+    let after-record-jump : tie.After-record-jump = search in
     let after-word-at5 : tie.After-word-at5 = search in
     let after-word-at4 : tie.After-word-at4 = search in
     let after-word-at3 : tie.After-word-at3 = search in
@@ -33,7 +33,7 @@ returns-3 c =
     let else1 : tie.Else1 = search in
     let start : tie.Start = search in
     let a = start .args in
-    λ code uses refs constants asked relocs. jump-called (a .b) (a .kind) (a .arguments .now) code (a .labels .now) (a .events .now) uses refs constants asked relocs (the-other (the-other (start .pre .1) (else1 .if1 .left)) (else2 .if2 .left)) (as-word (after-word-at2 .word-at2 .result) _ 0 (after-word-at2 .word-at2 .ensures) (omega arith)) (as-word (after-word-at3 .word-at3 .result) _ 1 (after-word-at3 .word-at3 .ensures) (omega arith)) (as-word (after-word-at4 .word-at4 .result) _ 2 (after-word-at4 .word-at4 .ensures) (omega arith)) (as-word (after-word-at5 .word-at5 .result) _ 3 (after-word-at5 .word-at5 .ensures) (omega arith)) (after-record-relaxable-jump .record-relaxable-jump .ensures)
+    λ code uses refs constants asked relocs. jump-called (a .b) (a .kind) (a .arguments .now) code (a .labels .now) (a .events .now) uses refs constants asked relocs (the-other (the-other (start .pre .1) (else1 .if1 .left)) (else2 .if2 .left)) (as-word (after-word-at2 .word-at2 .result) _ 0 (after-word-at2 .word-at2 .ensures) (omega arith)) (as-word (after-word-at3 .word-at3 .result) _ 1 (after-word-at3 .word-at3 .ensures) (omega arith)) (as-word (after-word-at4 .word-at4 .result) _ 2 (after-word-at4 .word-at4 .ensures) (omega arith)) (as-word (after-word-at5 .word-at5 .result) _ 3 (after-word-at5 .word-at5 .ensures) (omega arith)) (after-record-jump .record-jump .ensures)
 
 pub call-labels-spec : {M : Type 1} → statement M
 call-labels-spec =

@@ -1,12 +1,12 @@
--- `record_relaxable_jump` meets its contract: on X64 the event is written after the last, and fits where no test refuses.
+-- `record_jump` meets its contract: on X64 the event is written after the last, and fits where no test refuses.
 use borrow.Author.Needs.{needs}
 use mathlib.Core.Path.{sym, _∙_}
 use native.Mathlib.Omega.{arith}
 use Rattle.seqs.proofs.Picking.{yes-eq, no-eq}
 use Rattle.buffer.specs.Calls.{recordJump}
 use Rattle.buffer.proofs.Accepted.{jump-accepted}
-use Rattle.buffer.proofs.CodeBuffer.record_relaxable_jump.Statement.{statement}
-use Rattle.buffer.proofs.CodeBuffer.record_relaxable_jump.Tie as tie
+use Rattle.buffer.proofs.CodeBuffer.record_jump.Statement.{statement}
+use Rattle.buffer.proofs.CodeBuffer.record_jump.Tie as tie
 
 returns : tie.Need-returns
 unfolding recordJump
@@ -47,8 +47,8 @@ returns-3 c =
     rw (after-put-event .put-event .ensures)
     (sym (yes-eq _ 0 _ _ (sym (after-why-not-jump .why-not-jump .ensures) ∙ one .if1 .left) ∙ yes-eq _ 2 _ _ (two .if2 .left)))
 
-pub record-relaxable-jump-spec : {M : Type 1} → statement M
-record-relaxable-jump-spec =
+pub record-jump-spec : {M : Type 1} → statement M
+record-jump-spec =
     tie.close
     (tie.spec
     (λ c κs. search needs)
