@@ -2,7 +2,7 @@
 
 use std::fmt;
 
-use crate::call::sheet_of;
+use crate::call::{argument, one_call_sheet, words};
 use crate::explain::{explain_call, explain_finish};
 use crate::ffi::Segment;
 use crate::finalized::CodeBufferFinalized;
@@ -10,8 +10,8 @@ use crate::recording::{
     AsmReloc, Constant, Label, LayoutEvent, Recording, RelaxableJump, RelocTarget,
     constant_alignment,
 };
-use crate::sheet::Sheet;
-use crate::tables::{Room, Tables};
+use crate::sheet::{Sheet, extended};
+use crate::tables::{TableName, Tables};
 use crate::unpatched::unpatched;
 use crate::verified::{self, Record};
 use crate::{
@@ -429,18 +429,10 @@ impl CodeBuffer {
                 target,
                 addend,
             } => {
-                self.tables.make_room(&Room {
-                    relocs: 1,
-                    ..Room::default()
-                });
+                self.tables.make_room(TableName::Relocs, 1);
                 verified::add_reloc(&mut self.tables, *offset, *kind, *target, *addend)
             }
-            other => {
-                let sheet = sheet_of(other).expect("its argument is four words");
-                let room = Room::of_sheet(self.arch(), &sheet);
-                self.tables.make_room(&room);
-                verified::run_sheet(&mut self.tables, &sheet).0
-            }
+            other => self.run_one(other),
         };
         if number == 0 {
             self.note_unread(call);
@@ -455,19 +447,24 @@ impl CodeBuffer {
         }
     }
 
-    fn append(&mut self, bytes: &[u8]) -> u32 {
-        self.tables.make_room(&Room {
-            code: bytes.len(),
-            ..Room::default()
+    /// Makes a call whose argument is four words, by a sheet of its own.
+    fn run_one(&mut self, call: &Call) -> u32 {
+        let argument = argument(call).expect("its argument is four words");
+        let [first, ..] = words(&argument);
+        let tables = &mut self.tables;
+        extended(tables.arch(), call.kind(), first, |table, more| {
+            tables.make_room(table, more);
         });
+        verified::run_sheet(tables, &one_call_sheet(call.kind(), &argument)).0
+    }
+
+    fn append(&mut self, bytes: &[u8]) -> u32 {
+        self.tables.make_room(TableName::Code, bytes.len());
         verified::put_bytes(&mut self.tables, bytes)
     }
 
     fn append_constant(&mut self, bytes: &[u8]) -> (u32, u32) {
-        self.tables.make_room(&Room {
-            constants: 1,
-            ..Room::default()
-        });
+        self.tables.make_room(TableName::Constants, 1);
         verified::add_constant(&mut self.tables, bytes)
     }
 
@@ -515,7 +512,7 @@ impl CodeBuffer {
         let read = Sheet::read(sheet);
         if let Ok(sheet) = &read {
             let room = sheet.room(self.arch());
-            self.tables.make_room(&room);
+            self.tables.make_all_room(&room);
         }
         let (number, index) = verified::run_sheet(&mut self.tables, sheet);
         if let Ok(sheet) = &read {
@@ -582,20 +579,20 @@ impl CodeBuffer {
     /// A recorded refusal, number 4, or one of 13 to 23; the buffer is then as it was before.
     pub fn finish(&mut self) -> Result<CodeBufferFinalized, Error> {
         let mut segments = vec![Segment::default(); self.most_segments()];
-        let mut data = vec![0; self.most_finished()];
-        let (number, record) = verified::finish(&mut self.tables, &mut segments, &mut data);
-        if number != 0 {
-            return Err(self.refused_finish(number, &segments));
+        let most = self.most_finished();
+        match verified::finish(&mut self.tables, &mut segments, most) {
+            Ok((data, record)) => Ok(self.finalized(data, segments, &record)),
+            Err(number) => Err(self.refused_finish(number, &segments)),
         }
-        data.truncate(record.code_len());
-        if record.layouts() == 0 {
-            segments.clear();
-        }
-        Ok(self.finalized(data, segments, &record))
     }
 
+    /// One for each event, those of the pool too; without a jump finish needs none.
     fn most_segments(&self) -> usize {
-        MOST_ENTRIES.min(self.tables.event_count() + self.tables.asked_count())
+        if self.tables.has_jump() {
+            MOST_ENTRIES.min(self.tables.event_count() + self.tables.asked_count())
+        } else {
+            0
+        }
     }
 
     /// What the finished code cannot exceed, as `wargnifla_output_bound` of include/wargnifla.h has it: every jump long, every padding one less than

@@ -50,13 +50,13 @@ pub(crate) fn broken_form(call: &Call) -> Option<String> {
     }
 }
 
-/// The sheet of one call alone; nothing if it does not fit one.
-pub(crate) fn sheet_of(call: &Call) -> Option<[u8; 21]> {
+/// The sheet of one call alone: its count, its kind, its argument.
+pub(crate) fn one_call_sheet(kind: u8, argument: &[u8; 16]) -> [u8; 21] {
     let mut sheet = [0; 21];
     sheet[0] = 1;
-    sheet[4] = call.kind();
-    sheet[5..].copy_from_slice(&argument(call)?);
-    Some(sheet)
+    sheet[4] = kind;
+    sheet[5..].copy_from_slice(argument);
+    sheet
 }
 
 pub(crate) fn bytes_argument(bytes: &[u8]) -> Option<[u8; 16]> {
@@ -72,6 +72,12 @@ pub(crate) fn words_argument(words: [u32; 4]) -> [u8; 16] {
         bytes.copy_from_slice(&word.to_le_bytes());
     }
     argument
+}
+
+/// An argument as words, whatever its call means by them.
+pub(crate) fn words(argument: &[u8; 16]) -> [u32; 4] {
+    let (words, _) = argument.as_chunks::<4>();
+    std::array::from_fn(|i| u32::from_le_bytes(words[i]))
 }
 
 /// A code, if there is such a kind of field.

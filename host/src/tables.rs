@@ -32,10 +32,42 @@ impl Counts {
         self.word(3)
     }
 
-    fn count(&self, index: usize) -> usize {
-        self.word(index) as usize
+    /// How many entries of a table the recording counts as its own.
+    fn of(&self, table: TableName) -> usize {
+        self.word(4 + table as usize) as usize
     }
 }
+
+/// The tables, in the order of their counts.
+#[derive(Clone, Copy)]
+pub(crate) enum TableName {
+    Code,
+    Labels,
+    Events,
+    Uses,
+    Refs,
+    Constants,
+    Asked,
+    Relocs,
+}
+
+impl TableName {
+    pub const COUNT: usize = 8;
+
+    const ALL: [Self; Self::COUNT] = [
+        Self::Code,
+        Self::Labels,
+        Self::Events,
+        Self::Uses,
+        Self::Refs,
+        Self::Constants,
+        Self::Asked,
+        Self::Relocs,
+    ];
+}
+
+/// The bytes that a table has at the least, once it has any: enough for a small rule, so that its tables are allocated once.
+const FIRST_BYTES: usize = 512;
 
 /// A table: whole entries, of which a recording counts the first ones as its own.
 pub(crate) struct Table {
@@ -53,14 +85,21 @@ impl Table {
         }
     }
 
-    /// Grows, if need be, to hold `more` entries beyond the `used` ones, as far as the limit lets it. Doubling keeps the cost of appending constant.
+    /// Grows, if need be, to hold `more` entries beyond the `used` ones, as far as the limit lets it.
     fn make_room(&mut self, used: usize, more: usize) {
-        let capacity = self.bytes.len() / self.entry_size;
-        let needed = used.saturating_add(more).min(self.most_entries);
-        if needed > capacity {
-            let entries = needed.max(2 * capacity).min(self.most_entries);
-            self.bytes.resize(entries * self.entry_size, 0);
+        let needed = used.saturating_add(more);
+        if needed.saturating_mul(self.entry_size) > self.bytes.len() {
+            self.grow(needed);
         }
+    }
+
+    /// Apart from the test above, which stands before every call. Doubling keeps the cost of appending constant.
+    #[cold]
+    fn grow(&mut self, needed: usize) {
+        let capacity = self.bytes.len() / self.entry_size;
+        let first = FIRST_BYTES / self.entry_size;
+        let entries = needed.max(2 * capacity).max(first).min(self.most_entries);
+        self.bytes.resize(entries * self.entry_size, 0);
     }
 
     fn entries(&self, used: usize) -> impl Iterator<Item = &[u8]> {
@@ -70,15 +109,16 @@ impl Table {
 
 /// How many entries some calls may add to each table, at the most.
 #[derive(Clone, Copy, Default)]
-pub(crate) struct Room {
-    pub code: usize,
-    pub labels: usize,
-    pub events: usize,
-    pub uses: usize,
-    pub refs: usize,
-    pub constants: usize,
-    pub asked: usize,
-    pub relocs: usize,
+pub(crate) struct Room([usize; TableName::COUNT]);
+
+impl Room {
+    pub fn add(&mut self, table: TableName, more: usize) {
+        self.0[table as usize] += more;
+    }
+
+    pub fn of(&self, table: TableName) -> usize {
+        self.0[table as usize]
+    }
 }
 
 /// A recording as the C functions see it.
@@ -113,16 +153,27 @@ impl Tables {
         }
     }
 
-    pub fn make_room(&mut self, room: &Room) {
-        let counts = &self.counts;
-        self.code.make_room(counts.count(4), room.code);
-        self.labels.make_room(counts.count(5), room.labels);
-        self.events.make_room(counts.count(6), room.events);
-        self.uses.make_room(counts.count(7), room.uses);
-        self.refs.make_room(counts.count(8), room.refs);
-        self.constants.make_room(counts.count(9), room.constants);
-        self.asked.make_room(counts.count(10), room.asked);
-        self.relocs.make_room(counts.count(11), room.relocs);
+    /// Makes room in one table, as far as its limit lets it.
+    pub fn make_room(&mut self, table: TableName, more: usize) {
+        let used = self.counts.of(table);
+        let table = match table {
+            TableName::Code => &mut self.code,
+            TableName::Labels => &mut self.labels,
+            TableName::Events => &mut self.events,
+            TableName::Uses => &mut self.uses,
+            TableName::Refs => &mut self.refs,
+            TableName::Constants => &mut self.constants,
+            TableName::Asked => &mut self.asked,
+            TableName::Relocs => &mut self.relocs,
+        };
+        table.make_room(used, more);
+    }
+
+    /// Makes room in all tables.
+    pub fn make_all_room(&mut self, room: &Room) {
+        for table in TableName::ALL {
+            self.make_room(table, room.of(table));
+        }
     }
 
     /// All that the tables hold, but for the bytes of code.
@@ -146,23 +197,36 @@ impl Tables {
     }
 
     pub fn code(&self) -> &[u8] {
-        &self.code.bytes[..self.counts.count(4)]
+        &self.code.bytes[..self.counts.of(TableName::Code)]
     }
 
     pub fn label_count(&self) -> usize {
-        self.counts.count(5)
+        self.counts.of(TableName::Labels)
     }
 
     pub fn event_count(&self) -> usize {
-        self.counts.count(6)
+        self.counts.of(TableName::Events)
+    }
+
+    pub fn use_count(&self) -> usize {
+        self.counts.of(TableName::Uses)
+    }
+
+    pub fn ref_count(&self) -> usize {
+        self.counts.of(TableName::Refs)
     }
 
     pub fn constant_count(&self) -> usize {
-        self.counts.count(9)
+        self.counts.of(TableName::Constants)
     }
 
     pub fn asked_count(&self) -> usize {
-        self.counts.count(10)
+        self.counts.of(TableName::Asked)
+    }
+
+    /// Whether a jump stands, so that finish lays the code out anew.
+    pub fn has_jump(&self) -> bool {
+        self.events.entries(self.event_count()).any(is_jump)
     }
 
     pub fn labels(&self) -> impl Iterator<Item = u32> {
@@ -183,24 +247,20 @@ impl Tables {
     }
 
     pub fn uses(&self) -> impl Iterator<Item = AsmFixup> {
-        self.uses
-            .entries(self.counts.count(7))
-            .map(|entry| AsmFixup {
-                offset: word(entry, 0),
-                label: Label::from_id(word(entry, 1)),
-                kind: label_use(word(entry, 2)),
-            })
+        self.uses.entries(self.use_count()).map(|entry| AsmFixup {
+            offset: word(entry, 0),
+            label: Label::from_id(word(entry, 1)),
+            kind: label_use(word(entry, 2)),
+        })
     }
 
     pub fn refs(&self) -> impl Iterator<Item = LabelRef> {
-        self.refs
-            .entries(self.counts.count(8))
-            .map(|entry| LabelRef {
-                offset: word(entry, 0),
-                label: Label::from_id(word(entry, 1)),
-                kind: label_use(word(entry, 2)),
-                addend: word(entry, 3).cast_signed(),
-            })
+        self.refs.entries(self.ref_count()).map(|entry| LabelRef {
+            offset: word(entry, 0),
+            label: Label::from_id(word(entry, 1)),
+            kind: label_use(word(entry, 2)),
+            addend: word(entry, 3).cast_signed(),
+        })
     }
 
     pub fn constants(&self) -> impl Iterator<Item = AsmConstant> {
@@ -231,7 +291,7 @@ impl Tables {
 
     pub fn relocs(&self) -> impl Iterator<Item = AsmReloc> {
         self.relocs
-            .entries(self.counts.count(11))
+            .entries(self.counts.of(TableName::Relocs))
             .map(|entry| AsmReloc {
                 offset: word(entry, 0),
                 kind: Reloc::from_number(word(entry, 1)).expect("recordings keep known kinds only"),
@@ -254,21 +314,26 @@ fn label_use(code: u32) -> LabelUse {
     LabelUse::from_code(code).expect("recordings keep known codes only")
 }
 
-fn event(entry: &[u8]) -> LayoutEvent {
+fn is_jump(event: &[u8]) -> bool {
     const JUMP: u32 = 1;
+    word(event, 0) == JUMP
+}
+
+fn event(entry: &[u8]) -> LayoutEvent {
     let (start, len) = (word(entry, 1), word(entry, 2));
-    match word(entry, 0) {
-        JUMP => LayoutEvent::Jump(RelaxableJump {
+    if is_jump(entry) {
+        LayoutEvent::Jump(RelaxableJump {
             start,
             len: u8::try_from(len).expect("recorded jumps have at most 15 bytes"),
             label: Label::from_id(word(entry, 3)),
             cc: Condition::from_number(word(entry, 4)),
-        }),
-        _ => LayoutEvent::Align {
+        })
+    } else {
+        LayoutEvent::Align {
             start,
             len,
             align: word(entry, 3),
-        },
+        }
     }
 }
 
@@ -286,24 +351,39 @@ mod tests {
     use super::*;
 
     #[test]
-    fn room_doubles_and_stops_at_the_limit() {
-        let mut table = Table::new(4, 10);
+    fn room_starts_small_doubles_and_stops_at_the_limit() {
+        let mut table = Table::new(20, 100);
+        table.make_room(0, 0);
+        assert_eq!(table.bytes.capacity(), 0);
         table.make_room(0, 3);
-        assert_eq!(table.bytes.len(), 4 * 3);
-        table.make_room(3, 1);
-        assert_eq!(table.bytes.len(), 4 * 6);
-        table.make_room(6, usize::MAX);
-        assert_eq!(table.bytes.len(), 4 * 10);
-        table.make_room(10, 1);
-        assert_eq!(table.bytes.len(), 4 * 10);
+        assert_eq!(table.bytes.len(), 20 * 25);
+        table.make_room(25, 1);
+        assert_eq!(table.bytes.len(), 20 * 50);
+        table.make_room(50, 13);
+        assert_eq!(table.bytes.len(), 20 * 100);
+        table.make_room(100, 1);
+        table.make_room(100, usize::MAX);
+        assert_eq!(table.bytes.len(), 20 * 100);
+        let mut small = Table::new(4, 10);
+        small.make_room(0, 1);
+        assert_eq!(small.bytes.len(), 4 * 10);
+    }
+
+    #[test]
+    fn room_is_what_is_needed_where_that_is_more() {
+        let mut table = Table::new(1, 10_000);
+        table.make_room(0, 3_000);
+        assert_eq!(table.bytes.len(), 3_000);
+        table.make_room(3_000, 4_000);
+        assert_eq!(table.bytes.len(), 7_000);
     }
 
     #[test]
     fn growing_keeps_what_stands_in_a_table() {
-        let mut table = Table::new(1, 100);
+        let mut table = Table::new(1, 2_000);
         table.make_room(0, 2);
-        table.bytes.copy_from_slice(&[7, 8]);
-        table.make_room(2, 50);
+        table.bytes[..2].copy_from_slice(&[7, 8]);
+        table.make_room(2, 1_000);
         assert_eq!(table.bytes[..3], [7, 8, 0]);
     }
 }
