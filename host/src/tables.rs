@@ -69,26 +69,21 @@ impl TableName {
 /// The bytes that a table has at the least, once it has any: enough for a small rule, so that its tables are allocated once.
 const FIRST_BYTES: usize = 512;
 
-/// A table: whole entries, of which a recording counts the first ones as its own.
-pub(crate) struct Table {
+/// A table: whole entries of a size, of which a recording counts the first ones as its own, up to a limit.
+pub(crate) struct Table<const SIZE: usize, const MOST: usize = MOST_ENTRIES> {
     pub bytes: Vec<u8>,
-    entry_size: usize,
-    most_entries: usize,
 }
 
-impl Table {
-    const fn new(entry_size: usize, most_entries: usize) -> Self {
-        Self {
-            bytes: Vec::new(),
-            entry_size,
-            most_entries,
-        }
+impl<const SIZE: usize, const MOST: usize> Table<SIZE, MOST> {
+    const fn new() -> Self {
+        Self { bytes: Vec::new() }
     }
 
     /// Grows, if need be, to hold `more` entries beyond the `used` ones, as far as the limit lets it.
+    #[inline]
     fn make_room(&mut self, used: usize, more: usize) {
         let needed = used.saturating_add(more);
-        if needed.saturating_mul(self.entry_size) > self.bytes.len() {
+        if needed.saturating_mul(SIZE) > self.bytes.len() {
             self.grow(needed);
         }
     }
@@ -96,14 +91,18 @@ impl Table {
     /// Apart from the test above, which stands before every call. Doubling keeps the cost of appending constant.
     #[cold]
     fn grow(&mut self, needed: usize) {
-        let capacity = self.bytes.len() / self.entry_size;
-        let first = FIRST_BYTES / self.entry_size;
-        let entries = needed.max(2 * capacity).max(first).min(self.most_entries);
-        self.bytes.resize(entries * self.entry_size, 0);
+        let capacity = self.bytes.len() / SIZE;
+        let first = FIRST_BYTES / SIZE;
+        let entries = needed.max(2 * capacity).max(first).min(MOST);
+        self.bytes.resize(entries * SIZE, 0);
     }
 
-    fn entries(&self, used: usize) -> impl Iterator<Item = &[u8]> {
-        self.bytes[..used * self.entry_size].chunks_exact(self.entry_size)
+    fn entries(&self, used: usize) -> impl DoubleEndedIterator<Item = &[u8]> {
+        self.bytes[..used * SIZE].chunks_exact(SIZE)
+    }
+
+    fn entry(&self, number: usize) -> Option<&[u8]> {
+        self.bytes.get(number * SIZE..(number + 1) * SIZE)
     }
 }
 
@@ -124,14 +123,16 @@ impl Room {
 /// A recording as the C functions see it.
 pub(crate) struct Tables {
     pub counts: Counts,
-    pub code: Table,
-    pub labels: Table,
-    pub events: Table,
-    pub uses: Table,
-    pub refs: Table,
-    pub constants: Table,
-    pub asked: Table,
-    pub relocs: Table,
+    /// That of the counts, which no call changes.
+    pub arch: Arch,
+    pub code: Table<1, MOST_CODE>,
+    pub labels: Table<4>,
+    pub events: Table<20>,
+    pub uses: Table<12>,
+    pub refs: Table<16>,
+    pub constants: Table<72>,
+    pub asked: Table<4>,
+    pub relocs: Table<24>,
     /// The host's own: no C function is lent them.
     pub names: LabelNames,
 }
@@ -139,34 +140,36 @@ pub(crate) struct Tables {
 impl Tables {
     /// Empty tables, beside the counts that start wrote.
     pub fn new(counts: Counts) -> Self {
+        let arch = Arch::from_number(counts.arch());
         Self {
+            arch: arch.expect("start knows the architectures of Arch only"),
             counts,
-            code: Table::new(1, MOST_CODE),
-            labels: Table::new(4, MOST_ENTRIES),
-            events: Table::new(20, MOST_ENTRIES),
-            uses: Table::new(12, MOST_ENTRIES),
-            refs: Table::new(16, MOST_ENTRIES),
-            constants: Table::new(72, MOST_ENTRIES),
-            asked: Table::new(4, MOST_ENTRIES),
-            relocs: Table::new(24, MOST_ENTRIES),
+            code: Table::new(),
+            labels: Table::new(),
+            events: Table::new(),
+            uses: Table::new(),
+            refs: Table::new(),
+            constants: Table::new(),
+            asked: Table::new(),
+            relocs: Table::new(),
             names: LabelNames::default(),
         }
     }
 
     /// Makes room in one table, as far as its limit lets it.
+    #[inline(always)]
     pub fn make_room(&mut self, table: TableName, more: usize) {
         let used = self.counts.of(table);
-        let table = match table {
-            TableName::Code => &mut self.code,
-            TableName::Labels => &mut self.labels,
-            TableName::Events => &mut self.events,
-            TableName::Uses => &mut self.uses,
-            TableName::Refs => &mut self.refs,
-            TableName::Constants => &mut self.constants,
-            TableName::Asked => &mut self.asked,
-            TableName::Relocs => &mut self.relocs,
-        };
-        table.make_room(used, more);
+        match table {
+            TableName::Code => self.code.make_room(used, more),
+            TableName::Labels => self.labels.make_room(used, more),
+            TableName::Events => self.events.make_room(used, more),
+            TableName::Uses => self.uses.make_room(used, more),
+            TableName::Refs => self.refs.make_room(used, more),
+            TableName::Constants => self.constants.make_room(used, more),
+            TableName::Asked => self.asked.make_room(used, more),
+            TableName::Relocs => self.relocs.make_room(used, more),
+        }
     }
 
     /// Makes room in all tables.
@@ -179,7 +182,7 @@ impl Tables {
     /// All that the tables hold, but for the bytes of code.
     pub fn recording(&self) -> Recording {
         Recording {
-            arch: self.arch(),
+            arch: self.arch,
             code_len: u32::try_from(self.code().len()).expect("code is below 2^32 bytes"),
             labels: self.labels().collect(),
             events: self.events().collect(),
@@ -190,10 +193,6 @@ impl Tables {
             relocs: self.relocs().collect(),
             names: self.names.clone(),
         }
-    }
-
-    pub fn arch(&self) -> Arch {
-        Arch::from_number(self.counts.arch()).expect("start knows the architectures of Arch only")
     }
 
     pub fn code(&self) -> &[u8] {
@@ -240,10 +239,7 @@ impl Tables {
     }
 
     pub fn events(&self) -> impl DoubleEndedIterator<Item = LayoutEvent> {
-        let used = self.event_count() * self.events.entry_size;
-        self.events.bytes[..used]
-            .chunks_exact(self.events.entry_size)
-            .map(event)
+        self.events.entries(self.event_count()).map(event)
     }
 
     pub fn uses(&self) -> impl Iterator<Item = AsmFixup> {
@@ -270,12 +266,8 @@ impl Tables {
     /// The label of a constant that is known and was asked for.
     pub fn constant_label(&self, number: u32) -> Option<Label> {
         let number = number as usize;
-        let size = self.constants.entry_size;
-        let entry = self
-            .constants
-            .bytes
-            .get(number * size..(number + 1) * size)?;
-        (number < self.constant_count()).then(|| constant(entry).label)?
+        let entry = self.constants.entry(number)?;
+        (number < self.constant_count()).then(|| constant_label(entry))?
     }
 
     pub fn asked(&self) -> impl Iterator<Item = u32> {
@@ -284,9 +276,10 @@ impl Tables {
 
     /// The sizes of the constants that were asked for, in order.
     pub fn asked_sizes(&self) -> impl Iterator<Item = usize> {
-        let words = self.constants.entry_size / 4;
-        self.asked()
-            .map(move |number| word(&self.constants.bytes, number as usize * words) as usize)
+        self.asked().map(|number| {
+            let entry = self.constants.entry(number as usize);
+            first_word(entry.expect("constants that were asked for are known")) as usize
+        })
     }
 
     pub fn relocs(&self) -> impl Iterator<Item = AsmReloc> {
@@ -339,11 +332,15 @@ fn event(entry: &[u8]) -> LayoutEvent {
 
 fn constant(entry: &[u8]) -> AsmConstant {
     let size = word(entry, 0) as usize;
-    let label = word(entry, 1);
     AsmConstant {
         data: entry[8..8 + size].to_vec(),
-        label: (label != u32::MAX).then(|| Label::from_id(label)),
+        label: constant_label(entry),
     }
+}
+
+fn constant_label(entry: &[u8]) -> Option<Label> {
+    let label = word(entry, 1);
+    (label != u32::MAX).then(|| Label::from_id(label))
 }
 
 #[cfg(test)]
@@ -352,7 +349,7 @@ mod tests {
 
     #[test]
     fn room_starts_small_doubles_and_stops_at_the_limit() {
-        let mut table = Table::new(20, 100);
+        let mut table = Table::<20, 100>::new();
         table.make_room(0, 0);
         assert_eq!(table.bytes.capacity(), 0);
         table.make_room(0, 3);
@@ -364,14 +361,14 @@ mod tests {
         table.make_room(100, 1);
         table.make_room(100, usize::MAX);
         assert_eq!(table.bytes.len(), 20 * 100);
-        let mut small = Table::new(4, 10);
+        let mut small = Table::<4, 10>::new();
         small.make_room(0, 1);
         assert_eq!(small.bytes.len(), 4 * 10);
     }
 
     #[test]
     fn room_is_what_is_needed_where_that_is_more() {
-        let mut table = Table::new(1, 10_000);
+        let mut table = Table::<1, 10_000>::new();
         table.make_room(0, 3_000);
         assert_eq!(table.bytes.len(), 3_000);
         table.make_room(3_000, 4_000);
@@ -380,7 +377,7 @@ mod tests {
 
     #[test]
     fn growing_keeps_what_stands_in_a_table() {
-        let mut table = Table::new(1, 2_000);
+        let mut table = Table::<1, 2_000>::new();
         table.make_room(0, 2);
         table.bytes[..2].copy_from_slice(&[7, 8]);
         table.make_room(2, 1_000);
