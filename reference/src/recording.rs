@@ -213,6 +213,15 @@ impl Recording {
         Ok(Finished { finalized, layouts })
     }
 
+    /// `CodeBuffer::finish_owned`, which hands out its vectors in place of
+    /// copies and leaves the buffer empty.
+    pub fn finish_owned(&mut self) -> Result<Finished, Error> {
+        relax::take_layouts();
+        let finalized = self.buffer.finish_owned()?;
+        let layouts = relax::take_layouts();
+        Ok(Finished { finalized, layouts })
+    }
+
     /// The bytes recorded so far.
     pub fn code(&self) -> &[u8] {
         self.buffer.data()
