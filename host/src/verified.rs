@@ -81,12 +81,12 @@ pub(crate) fn finish(
     most_code: usize,
 ) -> Result<(Vec<u8>, Record), u32> {
     let mut record = Record([0; 24]);
-    // Finish writes the code from the first byte on, so nothing is to be cleared.
+    // Not cleared: finish writes the code from the first byte on.
     let mut output = Vec::with_capacity(most_code);
     // SAFETY: every pointer and length are those of one slice, but for `output`, which has room for `most_code` bytes; `segments` counts segments,
     // as the function does. Counts, labels, relocations, segments, output and record are distinct places, borrowed mutably, and the tables that are
-    // only read overlap none. The function is no part of this program's compilation, so the bytes of `output` may be any; what it makes of the rest
-    // does not depend on them, by its contract.
+    // only read overlap none. That the output's bytes were never written does no harm: they are lent to another language's code, and by its contract
+    // neither the answer nor anything that it writes depends on what stood there.
     let number = unsafe {
         ffi::wargnifla_finish(
             tables.counts.0.as_mut_ptr(),
@@ -119,8 +119,8 @@ pub(crate) fn finish(
         return Err(number);
     }
     assert!(record.code_len() <= most_code);
-    // SAFETY: where finish accepts, it has written as many bytes of the output as it reports: by its contract they are the finished code, whatever
-    // stood there. They are within what was lent, by the line above.
+    // SAFETY: where finish accepts, the output's first bytes, as many as it reports, are the finished code, by its contract: so it has written them.
+    // They are within the vector's room, by the line above.
     unsafe { output.set_len(record.code_len()) };
     Ok((output, record))
 }
