@@ -2,7 +2,7 @@
 
 use std::fmt;
 
-use crate::call::sheet_of;
+use crate::call::{one_call_sheet, words_of};
 use crate::explain::{explain_call, explain_finish};
 use crate::ffi::Segment;
 use crate::finalized::CodeBufferFinalized;
@@ -10,8 +10,8 @@ use crate::recording::{
     AsmReloc, Constant, Label, LayoutEvent, Recording, RelaxableJump, RelocTarget,
     constant_alignment,
 };
-use crate::sheet::Sheet;
-use crate::tables::{Room, Tables};
+use crate::sheet::{Sheet, extended};
+use crate::tables::{Counts, TableName, Tables};
 use crate::unpatched::unpatched;
 use crate::verified::{self, Record};
 use crate::{
@@ -61,7 +61,7 @@ impl CodeBuffer {
     /// Starts a recording whose relocations may name the symbols below a number.
     #[must_use]
     pub fn with_symbols(arch: Arch, symbols: u32) -> Self {
-        Self::start(arch.number(), symbols).expect("start takes every Arch")
+        Self::empty(verified::start(arch.number(), symbols).expect("start takes every Arch"))
     }
 
     /// Starts a recording for an architecture given by number.
@@ -70,22 +70,28 @@ impl CodeBuffer {
     ///
     /// Number 2, where it is none of [`Arch`].
     pub fn start(arch: u32, symbols: u32) -> Result<Self, Error> {
-        let counts = verified::start(arch, symbols).map_err(|number| {
-            let sentence =
-                format!("architecture {arch} is none of 1 (X86), 2 (X64) and 6 (AArch64)");
-            Error::new(number, Place::Start, sentence)
-        })?;
-        Ok(Self {
+        match verified::start(arch, symbols) {
+            Ok(counts) => Ok(Self::empty(counts)),
+            Err(number) => {
+                let sentence =
+                    format!("architecture {arch} is none of 1 (X86), 2 (X64) and 6 (AArch64)");
+                Err(Error::new(number, Place::Start, sentence))
+            }
+        }
+    }
+
+    fn empty(counts: Counts) -> Self {
+        Self {
             tables: Tables::new(counts),
             first_refusal: None,
             unread: Vec::new(),
-        })
+        }
     }
 
     /// The architecture.
     #[must_use]
     pub fn arch(&self) -> Arch {
-        self.tables.arch()
+        self.tables.arch
     }
 
     /// The refusal that this recording answers every call with, if one was recorded.
@@ -186,7 +192,7 @@ impl CodeBuffer {
     /// Number 4 or 11.
     pub fn get_label(&mut self) -> Result<Label, Error> {
         let label = Label::from_id(self.label_count());
-        self.call(&Call::NewLabel)?;
+        self.make(&Call::NewLabel)?;
         Ok(label)
     }
 
@@ -219,7 +225,7 @@ impl CodeBuffer {
     ///
     /// Number 4, 8 or 9; none of them is recorded.
     pub fn try_bind_label(&mut self, label: Label) -> Result<(), Error> {
-        self.call(&Call::Bind(label.id()))
+        self.make(&Call::Bind(label.id()))
     }
 
     /// Pads to a multiple, a power of two up to 4,096: with NOPs on x86, with zeros on AArch64.
@@ -240,7 +246,7 @@ impl CodeBuffer {
     ///
     /// Number 4, 5, 11 or 12.
     pub fn try_align_to(&mut self, align_to: CodeOffset) -> Result<(), Error> {
-        self.call(&Call::Align(align_to))
+        self.make(&Call::Align(align_to))
     }
 
     /// Records a field that a finish without a jump patches; one with a jump leaves it as it is. A field of [`LabelUse::X86JmpRel32`] adds the value
@@ -270,7 +276,7 @@ impl CodeBuffer {
         label: Label,
         kind: LabelUse,
     ) -> Result<(), Error> {
-        self.call(&Call::Use {
+        self.make(&Call::Use {
             offset,
             label: label.id(),
             code: kind.code(),
@@ -309,7 +315,7 @@ impl CodeBuffer {
         kind: LabelUse,
         addend: i32,
     ) -> Result<(), Error> {
-        self.call(&Call::Ref {
+        self.make(&Call::Ref {
             offset,
             label: label.id(),
             code: kind.code(),
@@ -324,7 +330,7 @@ impl CodeBuffer {
     ///
     /// Number 4, 8, 10 or 11.
     pub fn record_relaxable_jump(&mut self, jump: RelaxableJump) -> Result<(), Error> {
-        self.call(&Call::Jump {
+        self.make(&Call::Jump {
             start: jump.start,
             length: jump.len.into(),
             label: jump.label.id(),
@@ -362,7 +368,7 @@ impl CodeBuffer {
     ///
     /// Number 4, 8 or 11.
     pub fn get_label_for_constant(&mut self, constant: Constant) -> Result<Label, Error> {
-        self.call(&Call::ConstantLabel(constant.id()))?;
+        self.make(&Call::ConstantLabel(constant.id()))?;
         let label = self.tables.constant_label(constant.id());
         Ok(label.expect("a constant that was asked for has a label"))
     }
@@ -406,7 +412,7 @@ impl CodeBuffer {
         target: RelocTarget,
         addend: i64,
     ) -> Result<(), Error> {
-        self.call(&Call::Relocation {
+        self.make(&Call::Relocation {
             offset,
             kind: kind.number(),
             target: target.to_word(),
@@ -420,6 +426,12 @@ impl CodeBuffer {
     ///
     /// The call's, and number 1 for a code or kind that is none.
     pub fn call(&mut self, call: &Call) -> Result<(), Error> {
+        self.make(call)
+    }
+
+    /// As [`Self::call`]. Inlined, so that a method whose kind of call is known does only what that kind needs.
+    #[inline(always)]
+    fn make(&mut self, call: &Call) -> Result<(), Error> {
         let number = match call {
             Call::Bytes(bytes) => self.append(bytes),
             Call::Constant(bytes) => self.append_constant(bytes).0,
@@ -429,18 +441,10 @@ impl CodeBuffer {
                 target,
                 addend,
             } => {
-                self.tables.make_room(&Room {
-                    relocs: 1,
-                    ..Room::default()
-                });
+                self.tables.make_room(TableName::Relocs, 1);
                 verified::add_reloc(&mut self.tables, *offset, *kind, *target, *addend)
             }
-            other => {
-                let sheet = sheet_of(other).expect("its argument is four words");
-                let room = Room::of_sheet(self.arch(), &sheet);
-                self.tables.make_room(&room);
-                verified::run_sheet(&mut self.tables, &sheet).0
-            }
+            other => self.run_one(other),
         };
         if number == 0 {
             self.note_unread(call);
@@ -455,19 +459,25 @@ impl CodeBuffer {
         }
     }
 
-    fn append(&mut self, bytes: &[u8]) -> u32 {
-        self.tables.make_room(&Room {
-            code: bytes.len(),
-            ..Room::default()
+    /// Makes a call whose argument is four words, by a sheet of its own.
+    #[inline(always)]
+    fn run_one(&mut self, call: &Call) -> u32 {
+        let kind = call.kind();
+        let words = words_of(call).expect("its argument is four words");
+        let tables = &mut self.tables;
+        extended(tables.arch, kind, words[0], |table, more| {
+            tables.make_room(table, more);
         });
+        verified::run_sheet(tables, &one_call_sheet(kind, words)).0
+    }
+
+    fn append(&mut self, bytes: &[u8]) -> u32 {
+        self.tables.make_room(TableName::Code, bytes.len());
         verified::put_bytes(&mut self.tables, bytes)
     }
 
     fn append_constant(&mut self, bytes: &[u8]) -> (u32, u32) {
-        self.tables.make_room(&Room {
-            constants: 1,
-            ..Room::default()
-        });
+        self.tables.make_room(TableName::Constants, 1);
         verified::add_constant(&mut self.tables, bytes)
     }
 
@@ -479,6 +489,7 @@ impl CodeBuffer {
         Err(self.refused_call(number, &call, None))
     }
 
+    #[cold]
     fn refused_call(&mut self, number: u32, call: &Call, index: Option<usize>) -> Error {
         let place = Place::Call {
             name: call.name(),
@@ -515,7 +526,7 @@ impl CodeBuffer {
         let read = Sheet::read(sheet);
         if let Ok(sheet) = &read {
             let room = sheet.room(self.arch());
-            self.tables.make_room(&room);
+            self.tables.make_all_room(&room);
         }
         let (number, index) = verified::run_sheet(&mut self.tables, sheet);
         if let Ok(sheet) = &read {
@@ -582,20 +593,20 @@ impl CodeBuffer {
     /// A recorded refusal, number 4, or one of 13 to 23; the buffer is then as it was before.
     pub fn finish(&mut self) -> Result<CodeBufferFinalized, Error> {
         let mut segments = vec![Segment::default(); self.most_segments()];
-        let mut data = vec![0; self.most_finished()];
-        let (number, record) = verified::finish(&mut self.tables, &mut segments, &mut data);
-        if number != 0 {
-            return Err(self.refused_finish(number, &segments));
+        let most = self.most_finished();
+        match verified::finish(&mut self.tables, &mut segments, most) {
+            Ok((data, record)) => Ok(self.finalized(data, segments, &record)),
+            Err(number) => Err(self.refused_finish(number, &segments)),
         }
-        data.truncate(record.code_len());
-        if record.layouts() == 0 {
-            segments.clear();
-        }
-        Ok(self.finalized(data, segments, &record))
     }
 
+    /// One for each event, those of the pool too; without a jump finish needs none.
     fn most_segments(&self) -> usize {
-        MOST_ENTRIES.min(self.tables.event_count() + self.tables.asked_count())
+        if self.tables.has_jump() {
+            MOST_ENTRIES.min(self.tables.event_count() + self.tables.asked_count())
+        } else {
+            0
+        }
     }
 
     /// What the finished code cannot exceed, as `wargnifla_output_bound` of include/wargnifla.h has it: every jump long, every padding one less than

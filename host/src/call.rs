@@ -7,8 +7,17 @@ pub(crate) const MOST_BYTES: usize = 12;
 
 /// The argument of a call in a sheet; nothing if it does not fit one.
 pub(crate) fn argument(call: &Call) -> Option<[u8; 16]> {
-    let words = match *call {
-        Call::Bytes(ref bytes) | Call::Constant(ref bytes) => return bytes_argument(bytes),
+    match call {
+        Call::Bytes(bytes) | Call::Constant(bytes) => bytes_argument(bytes),
+        other => words_of(other).map(words_argument),
+    }
+}
+
+/// The argument of a call that carries words; nothing if it carries bytes, or if one of its words does not fit.
+#[inline(always)]
+pub(crate) fn words_of(call: &Call) -> Option<[u32; 4]> {
+    Some(match *call {
+        Call::Bytes(_) | Call::Constant(_) => return None,
         Call::NewLabel => [0; 4],
         Call::Bind(number) | Call::Align(number) | Call::ConstantLabel(number) => [number, 0, 0, 0],
         Call::Use {
@@ -37,8 +46,7 @@ pub(crate) fn argument(call: &Call) -> Option<[u8; 16]> {
             let addend = i32::try_from(addend).ok()?;
             [offset, kind, target, addend.cast_unsigned()]
         }
-    };
-    Some(words_argument(words))
+    })
 }
 
 /// How a call breaks the form of sheets, if it does.
@@ -50,13 +58,14 @@ pub(crate) fn broken_form(call: &Call) -> Option<String> {
     }
 }
 
-/// The sheet of one call alone; nothing if it does not fit one.
-pub(crate) fn sheet_of(call: &Call) -> Option<[u8; 21]> {
+/// The sheet of one call alone: its count, its kind, its argument, written where it stands.
+#[inline(always)]
+pub(crate) fn one_call_sheet(kind: u8, words: [u32; 4]) -> [u8; 21] {
     let mut sheet = [0; 21];
     sheet[0] = 1;
-    sheet[4] = call.kind();
-    sheet[5..].copy_from_slice(&argument(call)?);
-    Some(sheet)
+    sheet[4] = kind;
+    put_words(&mut sheet[5..], words);
+    sheet
 }
 
 pub(crate) fn bytes_argument(bytes: &[u8]) -> Option<[u8; 16]> {
@@ -68,10 +77,14 @@ pub(crate) fn bytes_argument(bytes: &[u8]) -> Option<[u8; 16]> {
 
 pub(crate) fn words_argument(words: [u32; 4]) -> [u8; 16] {
     let mut argument = [0; 16];
-    for (bytes, word) in argument.chunks_exact_mut(4).zip(words) {
+    put_words(&mut argument, words);
+    argument
+}
+
+fn put_words(bytes: &mut [u8], words: [u32; 4]) {
+    for (bytes, word) in bytes.chunks_exact_mut(4).zip(words) {
         bytes.copy_from_slice(&word.to_le_bytes());
     }
-    argument
 }
 
 /// A code, if there is such a kind of field.

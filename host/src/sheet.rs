@@ -6,7 +6,7 @@ use std::sync::Arc;
 use sheet_text::CALL_NAMES;
 
 use crate::call::{MOST_BYTES, argument, bytes_argument, known_code, known_kind};
-use crate::tables::Room;
+use crate::tables::{Room, TableName};
 use crate::{Arch, Call, RelocTarget};
 use sheet_text::counted;
 
@@ -214,43 +214,35 @@ impl<'a> Sheet<'a> {
     pub(crate) fn room(&self, arch: Arch) -> Room {
         let mut room = Room::default();
         for (index, kind) in self.kinds.iter().enumerate() {
-            room.add(arch, *kind, self.words(index)[0]);
+            let first = self.words(index)[0];
+            extended(arch, *kind, first, |table, more| room.add(table, more));
         }
         room
     }
 }
 
-impl Room {
-    /// Adds what a call of a kind may need, given the first word of its argument: a byte count or a multiple. Whatever a broken call asks for is
-    /// cut to what an accepted one could.
-    fn add(&mut self, arch: Arch, kind: u8, first: u32) {
-        let event = usize::from(arch.tracks_layout());
-        match kind {
-            1 => self.code += (first as usize).min(MOST_BYTES),
-            2 => self.labels += 1,
-            4 => {
-                self.events += event;
-                self.code += (first.clamp(1, 4096) - 1) as usize;
-            }
-            5 => self.uses += 1,
-            6 => self.refs += event,
-            7 => self.events += event,
-            8 => self.constants += 1,
-            9 => {
-                self.labels += 1;
-                self.asked += 1;
-            }
-            10 => self.relocs += 1,
-            _ => {}
+/// Names each table that a call of a kind extends, and the most entries that it may add, given the first word of its argument: a byte count or a
+/// multiple. Whatever a broken call asks for is cut to what an accepted one could.
+#[inline(always)]
+pub(crate) fn extended(arch: Arch, kind: u8, first: u32, mut extend: impl FnMut(TableName, usize)) {
+    let event = usize::from(arch.tracks_layout());
+    match kind {
+        1 => extend(TableName::Code, (first as usize).min(MOST_BYTES)),
+        2 => extend(TableName::Labels, 1),
+        4 => {
+            extend(TableName::Events, event);
+            extend(TableName::Code, (first.clamp(1, 4096) - 1) as usize);
         }
-    }
-
-    /// The most that a call of a one-call sheet may need.
-    pub(crate) fn of_sheet(arch: Arch, sheet: &[u8; 21]) -> Self {
-        let mut room = Self::default();
-        let first = u32::from_le_bytes([sheet[5], sheet[6], sheet[7], sheet[8]]);
-        room.add(arch, sheet[4], first);
-        room
+        5 => extend(TableName::Uses, 1),
+        6 => extend(TableName::Refs, event),
+        7 => extend(TableName::Events, event),
+        8 => extend(TableName::Constants, 1),
+        9 => {
+            extend(TableName::Labels, 1);
+            extend(TableName::Asked, 1);
+        }
+        10 => extend(TableName::Relocs, 1),
+        _ => {}
     }
 }
 
@@ -269,7 +261,7 @@ pub fn symbols_named<'a>(calls: impl IntoIterator<Item = &'a Call>) -> u32 {
 #[cfg(test)]
 mod tests {
     use super::*;
-    use crate::call::{sheet_of, words_argument};
+    use crate::call::{one_call_sheet, words_argument, words_of};
 
     fn one_of_each() -> Vec<Call> {
         vec![
@@ -319,7 +311,9 @@ mod tests {
     fn a_one_call_sheet_is_a_sheet() {
         for call in one_of_each() {
             let bytes = write_sheet(std::slice::from_ref(&call)).unwrap();
-            assert_eq!(bytes, sheet_of(&call).unwrap());
+            if let Some(words) = words_of(&call) {
+                assert_eq!(bytes, one_call_sheet(call.kind(), words));
+            }
         }
     }
 
@@ -382,15 +376,13 @@ mod tests {
     #[test]
     fn room_is_that_of_the_worst_case() {
         let bytes = write_sheet(&one_of_each()).unwrap();
-        let room = Sheet::read(&bytes).unwrap().room(Arch::X64);
-        assert_eq!(room.code, 3 + 15);
-        assert_eq!(
-            [room.labels, room.events, room.uses, room.refs],
-            [2, 2, 1, 1]
-        );
-        assert_eq!([room.constants, room.asked, room.relocs], [1, 1, 1]);
-        let room = Sheet::read(&bytes).unwrap().room(Arch::AArch64);
-        assert_eq!([room.events, room.refs], [0, 0]);
+        let room = |arch| Sheet::read(&bytes).unwrap().room(arch);
+        let of = |arch, tables: [TableName; 3]| tables.map(|table| room(arch).of(table));
+        use TableName::{Asked, Code, Constants, Events, Labels, Refs, Relocs, Uses};
+        assert_eq!(of(Arch::X64, [Code, Labels, Events]), [3 + 15, 2, 2]);
+        assert_eq!(of(Arch::X64, [Uses, Refs, Constants]), [1, 1, 1]);
+        assert_eq!(of(Arch::X64, [Asked, Relocs, Code]), [1, 1, 3 + 15]);
+        assert_eq!(of(Arch::AArch64, [Events, Refs, Uses]), [0, 0, 1]);
     }
 
     #[test]

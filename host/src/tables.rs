@@ -32,66 +32,107 @@ impl Counts {
         self.word(3)
     }
 
-    fn count(&self, index: usize) -> usize {
-        self.word(index) as usize
+    /// How many entries of a table the recording counts as its own.
+    fn of(&self, table: TableName) -> usize {
+        self.word(4 + table as usize) as usize
     }
 }
 
-/// A table: whole entries, of which a recording counts the first ones as its own.
-pub(crate) struct Table {
+/// The tables, in the order of their counts.
+#[derive(Clone, Copy)]
+pub(crate) enum TableName {
+    Code,
+    Labels,
+    Events,
+    Uses,
+    Refs,
+    Constants,
+    Asked,
+    Relocs,
+}
+
+impl TableName {
+    pub const COUNT: usize = 8;
+
+    const ALL: [Self; Self::COUNT] = [
+        Self::Code,
+        Self::Labels,
+        Self::Events,
+        Self::Uses,
+        Self::Refs,
+        Self::Constants,
+        Self::Asked,
+        Self::Relocs,
+    ];
+}
+
+/// The bytes that a table has at the least, once it has any: enough for a small rule, so that its tables are allocated once.
+const FIRST_BYTES: usize = 512;
+
+/// A table: whole entries of a size, of which a recording counts the first ones as its own, up to a limit.
+pub(crate) struct Table<const SIZE: usize, const MOST: usize = MOST_ENTRIES> {
     pub bytes: Vec<u8>,
-    entry_size: usize,
-    most_entries: usize,
 }
 
-impl Table {
-    const fn new(entry_size: usize, most_entries: usize) -> Self {
-        Self {
-            bytes: Vec::new(),
-            entry_size,
-            most_entries,
-        }
+impl<const SIZE: usize, const MOST: usize> Table<SIZE, MOST> {
+    const fn new() -> Self {
+        Self { bytes: Vec::new() }
     }
 
-    /// Grows, if need be, to hold `more` entries beyond the `used` ones, as far as the limit lets it. Doubling keeps the cost of appending constant.
+    /// Grows, if need be, to hold `more` entries beyond the `used` ones, as far as the limit lets it.
+    #[inline]
     fn make_room(&mut self, used: usize, more: usize) {
-        let capacity = self.bytes.len() / self.entry_size;
-        let needed = used.saturating_add(more).min(self.most_entries);
-        if needed > capacity {
-            let entries = needed.max(2 * capacity).min(self.most_entries);
-            self.bytes.resize(entries * self.entry_size, 0);
+        let needed = used.saturating_add(more);
+        if needed.saturating_mul(SIZE) > self.bytes.len() {
+            self.grow(needed);
         }
     }
 
-    fn entries(&self, used: usize) -> impl Iterator<Item = &[u8]> {
-        self.bytes[..used * self.entry_size].chunks_exact(self.entry_size)
+    /// Apart from the test above, which stands before every call. Doubling keeps the cost of appending constant.
+    #[cold]
+    fn grow(&mut self, needed: usize) {
+        let capacity = self.bytes.len() / SIZE;
+        let first = FIRST_BYTES / SIZE;
+        let entries = needed.max(2 * capacity).max(first).min(MOST);
+        self.bytes.resize(entries * SIZE, 0);
+    }
+
+    fn entries(&self, used: usize) -> impl DoubleEndedIterator<Item = &[u8]> {
+        self.bytes[..used * SIZE].chunks_exact(SIZE)
+    }
+
+    fn entry(&self, number: usize) -> Option<&[u8]> {
+        self.bytes.get(number * SIZE..(number + 1) * SIZE)
     }
 }
 
 /// How many entries some calls may add to each table, at the most.
 #[derive(Clone, Copy, Default)]
-pub(crate) struct Room {
-    pub code: usize,
-    pub labels: usize,
-    pub events: usize,
-    pub uses: usize,
-    pub refs: usize,
-    pub constants: usize,
-    pub asked: usize,
-    pub relocs: usize,
+pub(crate) struct Room([usize; TableName::COUNT]);
+
+impl Room {
+    pub fn add(&mut self, table: TableName, more: usize) {
+        self.0[table as usize] += more;
+    }
+
+    pub fn of(&self, table: TableName) -> usize {
+        self.0[table as usize]
+    }
 }
 
 /// A recording as the C functions see it.
 pub(crate) struct Tables {
     pub counts: Counts,
-    pub code: Table,
-    pub labels: Table,
-    pub events: Table,
-    pub uses: Table,
-    pub refs: Table,
-    pub constants: Table,
-    pub asked: Table,
-    pub relocs: Table,
+    /// That of the counts, which no call changes.
+    pub arch: Arch,
+    pub code: Table<1, MOST_CODE>,
+    pub labels: Table<4>,
+    pub events: Table<20>,
+    pub uses: Table<12>,
+    pub refs: Table<16>,
+    pub constants: Table<72>,
+    pub asked: Table<4>,
+    pub relocs: Table<24>,
     /// The host's own: no C function is lent them.
     pub names: LabelNames,
 }
@@ -99,36 +140,49 @@ pub(crate) struct Tables {
 impl Tables {
     /// Empty tables, beside the counts that start wrote.
     pub fn new(counts: Counts) -> Self {
+        let arch = Arch::from_number(counts.arch());
         Self {
+            arch: arch.expect("start knows the architectures of Arch only"),
             counts,
-            code: Table::new(1, MOST_CODE),
-            labels: Table::new(4, MOST_ENTRIES),
-            events: Table::new(20, MOST_ENTRIES),
-            uses: Table::new(12, MOST_ENTRIES),
-            refs: Table::new(16, MOST_ENTRIES),
-            constants: Table::new(72, MOST_ENTRIES),
-            asked: Table::new(4, MOST_ENTRIES),
-            relocs: Table::new(24, MOST_ENTRIES),
+            code: Table::new(),
+            labels: Table::new(),
+            events: Table::new(),
+            uses: Table::new(),
+            refs: Table::new(),
+            constants: Table::new(),
+            asked: Table::new(),
+            relocs: Table::new(),
             names: LabelNames::default(),
         }
     }
 
-    pub fn make_room(&mut self, room: &Room) {
-        let counts = &self.counts;
-        self.code.make_room(counts.count(4), room.code);
-        self.labels.make_room(counts.count(5), room.labels);
-        self.events.make_room(counts.count(6), room.events);
-        self.uses.make_room(counts.count(7), room.uses);
-        self.refs.make_room(counts.count(8), room.refs);
-        self.constants.make_room(counts.count(9), room.constants);
-        self.asked.make_room(counts.count(10), room.asked);
-        self.relocs.make_room(counts.count(11), room.relocs);
+    /// Makes room in one table, as far as its limit lets it.
+    #[inline(always)]
+    pub fn make_room(&mut self, table: TableName, more: usize) {
+        let used = self.counts.of(table);
+        match table {
+            TableName::Code => self.code.make_room(used, more),
+            TableName::Labels => self.labels.make_room(used, more),
+            TableName::Events => self.events.make_room(used, more),
+            TableName::Uses => self.uses.make_room(used, more),
+            TableName::Refs => self.refs.make_room(used, more),
+            TableName::Constants => self.constants.make_room(used, more),
+            TableName::Asked => self.asked.make_room(used, more),
+            TableName::Relocs => self.relocs.make_room(used, more),
+        }
+    }
+
+    /// Makes room in all tables.
+    pub fn make_all_room(&mut self, room: &Room) {
+        for table in TableName::ALL {
+            self.make_room(table, room.of(table));
+        }
     }
 
     /// All that the tables hold, but for the bytes of code.
     pub fn recording(&self) -> Recording {
         Recording {
-            arch: self.arch(),
+            arch: self.arch,
             code_len: u32::try_from(self.code().len()).expect("code is below 2^32 bytes"),
             labels: self.labels().collect(),
             events: self.events().collect(),
@@ -141,28 +195,37 @@ impl Tables {
         }
     }
 
-    pub fn arch(&self) -> Arch {
-        Arch::from_number(self.counts.arch()).expect("start knows the architectures of Arch only")
-    }
-
     pub fn code(&self) -> &[u8] {
-        &self.code.bytes[..self.counts.count(4)]
+        &self.code.bytes[..self.counts.of(TableName::Code)]
     }
 
     pub fn label_count(&self) -> usize {
-        self.counts.count(5)
+        self.counts.of(TableName::Labels)
     }
 
     pub fn event_count(&self) -> usize {
-        self.counts.count(6)
+        self.counts.of(TableName::Events)
+    }
+
+    pub fn use_count(&self) -> usize {
+        self.counts.of(TableName::Uses)
+    }
+
+    pub fn ref_count(&self) -> usize {
+        self.counts.of(TableName::Refs)
     }
 
     pub fn constant_count(&self) -> usize {
-        self.counts.count(9)
+        self.counts.of(TableName::Constants)
     }
 
     pub fn asked_count(&self) -> usize {
-        self.counts.count(10)
+        self.counts.of(TableName::Asked)
+    }
+
+    /// Whether a jump stands, so that finish lays the code out anew.
+    pub fn has_jump(&self) -> bool {
+        self.events.entries(self.event_count()).any(is_jump)
     }
 
     pub fn labels(&self) -> impl Iterator<Item = u32> {
@@ -176,31 +239,24 @@ impl Tables {
     }
 
     pub fn events(&self) -> impl DoubleEndedIterator<Item = LayoutEvent> {
-        let used = self.event_count() * self.events.entry_size;
-        self.events.bytes[..used]
-            .chunks_exact(self.events.entry_size)
-            .map(event)
+        self.events.entries(self.event_count()).map(event)
     }
 
     pub fn uses(&self) -> impl Iterator<Item = AsmFixup> {
-        self.uses
-            .entries(self.counts.count(7))
-            .map(|entry| AsmFixup {
-                offset: word(entry, 0),
-                label: Label::from_id(word(entry, 1)),
-                kind: label_use(word(entry, 2)),
-            })
+        self.uses.entries(self.use_count()).map(|entry| AsmFixup {
+            offset: word(entry, 0),
+            label: Label::from_id(word(entry, 1)),
+            kind: label_use(word(entry, 2)),
+        })
     }
 
     pub fn refs(&self) -> impl Iterator<Item = LabelRef> {
-        self.refs
-            .entries(self.counts.count(8))
-            .map(|entry| LabelRef {
-                offset: word(entry, 0),
-                label: Label::from_id(word(entry, 1)),
-                kind: label_use(word(entry, 2)),
-                addend: word(entry, 3).cast_signed(),
-            })
+        self.refs.entries(self.ref_count()).map(|entry| LabelRef {
+            offset: word(entry, 0),
+            label: Label::from_id(word(entry, 1)),
+            kind: label_use(word(entry, 2)),
+            addend: word(entry, 3).cast_signed(),
+        })
     }
 
     pub fn constants(&self) -> impl Iterator<Item = AsmConstant> {
@@ -210,12 +266,8 @@ impl Tables {
     /// The label of a constant that is known and was asked for.
     pub fn constant_label(&self, number: u32) -> Option<Label> {
         let number = number as usize;
-        let size = self.constants.entry_size;
-        let entry = self
-            .constants
-            .bytes
-            .get(number * size..(number + 1) * size)?;
-        (number < self.constant_count()).then(|| constant(entry).label)?
+        let entry = self.constants.entry(number)?;
+        (number < self.constant_count()).then(|| constant_label(entry))?
     }
 
     pub fn asked(&self) -> impl Iterator<Item = u32> {
@@ -224,14 +276,15 @@ impl Tables {
 
     /// The sizes of the constants that were asked for, in order.
     pub fn asked_sizes(&self) -> impl Iterator<Item = usize> {
-        let words = self.constants.entry_size / 4;
-        self.asked()
-            .map(move |number| word(&self.constants.bytes, number as usize * words) as usize)
+        self.asked().map(|number| {
+            let entry = self.constants.entry(number as usize);
+            first_word(entry.expect("constants that were asked for are known")) as usize
+        })
     }
 
     pub fn relocs(&self) -> impl Iterator<Item = AsmReloc> {
         self.relocs
-            .entries(self.counts.count(11))
+            .entries(self.counts.of(TableName::Relocs))
             .map(|entry| AsmReloc {
                 offset: word(entry, 0),
                 kind: Reloc::from_number(word(entry, 1)).expect("recordings keep known kinds only"),
@@ -254,31 +307,40 @@ fn label_use(code: u32) -> LabelUse {
     LabelUse::from_code(code).expect("recordings keep known codes only")
 }
 
-fn event(entry: &[u8]) -> LayoutEvent {
+fn is_jump(event: &[u8]) -> bool {
     const JUMP: u32 = 1;
+    word(event, 0) == JUMP
+}
+
+fn event(entry: &[u8]) -> LayoutEvent {
     let (start, len) = (word(entry, 1), word(entry, 2));
-    match word(entry, 0) {
-        JUMP => LayoutEvent::Jump(RelaxableJump {
+    if is_jump(entry) {
+        LayoutEvent::Jump(RelaxableJump {
             start,
             len: u8::try_from(len).expect("recorded jumps have at most 15 bytes"),
             label: Label::from_id(word(entry, 3)),
             cc: Condition::from_number(word(entry, 4)),
-        }),
-        _ => LayoutEvent::Align {
+        })
+    } else {
+        LayoutEvent::Align {
             start,
             len,
             align: word(entry, 3),
-        },
+        }
     }
 }
 
 fn constant(entry: &[u8]) -> AsmConstant {
     let size = word(entry, 0) as usize;
-    let label = word(entry, 1);
     AsmConstant {
         data: entry[8..8 + size].to_vec(),
-        label: (label != u32::MAX).then(|| Label::from_id(label)),
+        label: constant_label(entry),
     }
+}
+
+fn constant_label(entry: &[u8]) -> Option<Label> {
+    let label = word(entry, 1);
+    (label != u32::MAX).then(|| Label::from_id(label))
 }
 
 #[cfg(test)]
@@ -286,24 +348,39 @@ mod tests {
     use super::*;
 
     #[test]
-    fn room_doubles_and_stops_at_the_limit() {
-        let mut table = Table::new(4, 10);
+    fn room_starts_small_doubles_and_stops_at_the_limit() {
+        let mut table = Table::<20, 100>::new();
+        table.make_room(0, 0);
+        assert_eq!(table.bytes.capacity(), 0);
         table.make_room(0, 3);
-        assert_eq!(table.bytes.len(), 4 * 3);
-        table.make_room(3, 1);
-        assert_eq!(table.bytes.len(), 4 * 6);
-        table.make_room(6, usize::MAX);
-        assert_eq!(table.bytes.len(), 4 * 10);
-        table.make_room(10, 1);
-        assert_eq!(table.bytes.len(), 4 * 10);
+        assert_eq!(table.bytes.len(), 20 * 25);
+        table.make_room(25, 1);
+        assert_eq!(table.bytes.len(), 20 * 50);
+        table.make_room(50, 13);
+        assert_eq!(table.bytes.len(), 20 * 100);
+        table.make_room(100, 1);
+        table.make_room(100, usize::MAX);
+        assert_eq!(table.bytes.len(), 20 * 100);
+        let mut small = Table::<4, 10>::new();
+        small.make_room(0, 1);
+        assert_eq!(small.bytes.len(), 4 * 10);
+    }
+
+    #[test]
+    fn room_is_what_is_needed_where_that_is_more() {
+        let mut table = Table::<1, 10_000>::new();
+        table.make_room(0, 3_000);
+        assert_eq!(table.bytes.len(), 3_000);
+        table.make_room(3_000, 4_000);
+        assert_eq!(table.bytes.len(), 7_000);
     }
 
     #[test]
     fn growing_keeps_what_stands_in_a_table() {
-        let mut table = Table::new(1, 100);
+        let mut table = Table::<1, 2_000>::new();
         table.make_room(0, 2);
-        table.bytes.copy_from_slice(&[7, 8]);
-        table.make_room(2, 50);
+        table.bytes[..2].copy_from_slice(&[7, 8]);
+        table.make_room(2, 1_000);
         assert_eq!(table.bytes[..3], [7, 8, 0]);
     }
 }

@@ -30,7 +30,15 @@ pub enum WhyUnpatched {
 
 /// What a finish of these tables does not write, in the order of recording; `unread` are the calls that the tables did not keep.
 pub(crate) fn unpatched(tables: &Tables, unread: &[Call]) -> Vec<Unpatched> {
-    let has_jump = tables.events().any(|event| jump_end(&event).is_some());
+    let has_jump = tables.has_jump();
+    let dropped = if has_jump {
+        tables.use_count()
+    } else {
+        tables.ref_count()
+    };
+    if unread.is_empty() && dropped == 0 {
+        return Vec::new();
+    }
     let filled = Filled::new(tables, has_jump);
     let entry = |call: Call, why| Unpatched {
         filled: filled.covers(&call),

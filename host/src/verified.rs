@@ -1,7 +1,7 @@
 //! The C functions on tables: the only unsafe code of the host.
 //!
-//! What they ask of a caller (include/wargnifla.h) holds of every call here for one reason. Each pointer and length come from a slice, so it is valid
-//! for its length; and what is written is borrowed mutably, so nothing else that is lent overlaps it.
+//! What they ask of a caller (include/wargnifla.h) holds of every call here for one reason. Each pointer and length come from a slice, or from a
+//! vector's room, so it is valid for its length; and what is written is borrowed mutably, so nothing else that is lent overlaps it.
 
 #![allow(unsafe_code)]
 
@@ -74,15 +74,19 @@ pub(crate) fn run_sheet(tables: &mut Tables, sheet: &[u8]) -> (u32, u32) {
     (number, index)
 }
 
-/// Finishes a recording: its refusal, or 0, and what it reports.
+/// Finishes a recording, into at most so many bytes: its code and what it reports, or the number of a refusal.
 pub(crate) fn finish(
     tables: &mut Tables,
     segments: &mut [Segment],
-    output: &mut [u8],
-) -> (u32, Record) {
+    most_code: usize,
+) -> Result<(Vec<u8>, Record), u32> {
     let mut record = Record([0; 24]);
-    // SAFETY: every pointer and length are those of one slice; `segments` counts segments, as the function does. Counts, labels, relocations,
-    // segments, output and record are distinct places, borrowed mutably, and the tables that are only read overlap none.
+    // Not cleared: finish writes the code from the first byte on.
+    let mut output = Vec::with_capacity(most_code);
+    // SAFETY: every pointer and length are those of one slice, but for `output`, which has room for `most_code` bytes; `segments` counts segments,
+    // as the function does. Counts, labels, relocations, segments, output and record are distinct places, borrowed mutably, and the tables that are
+    // only read overlap none. That the output's bytes were never written does no harm: they are lent to another language's code, and by its contract
+    // neither the answer nor anything that it writes depends on what stood there.
     let number = unsafe {
         ffi::wargnifla_finish(
             tables.counts.0.as_mut_ptr(),
@@ -106,12 +110,19 @@ pub(crate) fn finish(
             segments.as_mut_ptr(),
             segments.len(),
             output.as_mut_ptr(),
-            output.len(),
+            most_code,
             record.0.as_mut_ptr(),
             record.0.len(),
         )
     };
-    (number, record)
+    if number != 0 {
+        return Err(number);
+    }
+    assert!(record.code_len() <= most_code);
+    // SAFETY: where finish accepts, the output's first bytes, as many as it reports, are the finished code, by its contract: so it has written them.
+    // They are within the vector's room, by the line above.
+    unsafe { output.set_len(record.code_len()) };
+    Ok((output, record))
 }
 
 /// Appends bytes: the refusal, or 0.

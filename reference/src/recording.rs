@@ -79,6 +79,7 @@ impl Recording {
     ///
     /// Besides 1, 2 and 6 the architectures 3 and 4 (RISC-V) are taken, for
     /// docs/DIFFERENCES.md alone: the Rust's buffer does not refuse them.
+    #[inline]
     pub fn new(arch: u32, symbols: u32) -> Result<Self, Error> {
         let named = match arch {
             1 => Arch::X86,
@@ -205,10 +206,22 @@ impl Recording {
         self.answer(())
     }
 
-    /// `CodeBuffer::finish`, with the layouts that it made.
+    /// `CodeBuffer::finish`, with the layouts that it made. Inlined, as `new`
+    /// is: to move what they answer once more would show in a benchmark.
+    #[inline]
     pub fn finish(&mut self) -> Result<Finished, Error> {
         relax::take_layouts();
         let finalized = self.buffer.finish()?;
+        let layouts = relax::take_layouts();
+        Ok(Finished { finalized, layouts })
+    }
+
+    /// `CodeBuffer::finish_owned`, which hands out its vectors in place of
+    /// copies and leaves the buffer empty.
+    #[inline]
+    pub fn finish_owned(&mut self) -> Result<Finished, Error> {
+        relax::take_layouts();
+        let finalized = self.buffer.finish_owned()?;
         let layouts = relax::take_layouts();
         Ok(Finished { finalized, layouts })
     }

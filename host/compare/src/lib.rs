@@ -10,7 +10,7 @@ pub mod random;
 pub use boundary::{Boundary, Reply};
 pub use lent::{Lent, Part};
 pub use model::Model;
-pub use ours::Ours;
+pub use ours::{Lending, Ours};
 pub use random::Random;
 
 /// `Arch::X86`.

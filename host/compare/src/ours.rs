@@ -1,5 +1,7 @@
 //! The C functions, lent memory that stands between guards.
 
+use std::marker::PhantomData;
+
 use wargnifla::ffi::{self, Segment};
 
 use crate::{Boundary, Lent, Part, Reply};
@@ -91,60 +93,12 @@ impl Ours {
         &mut self.parts[part as usize]
     }
 
-    /// Runs the sheet that [`Self::lend_to_read`] took last.
-    pub fn run_lent_sheet(&mut self) -> Reply {
-        let mut index = 0;
-        let (sheet, sheet_len) = (self.read.as_mut_ptr().cast_const(), self.read.len);
-        let [
-            (counts, counts_len),
-            (code, code_len),
-            (labels, labels_len),
-            (events, events_len),
-            (uses, uses_len),
-            (refs, refs_len),
-            (constants, constants_len),
-            (asked, asked_len),
-            (relocs, relocs_len),
-        ] = RECORDING.map(|part| self.pointer(part));
-        // SAFETY: see `Ours`.
-        let refusal = unsafe {
-            ffi::wargnifla_run_sheet(
-                sheet,
-                sheet_len,
-                &mut index,
-                counts,
-                counts_len,
-                code,
-                code_len,
-                labels,
-                labels_len,
-                events,
-                events_len,
-                uses,
-                uses_len,
-                refs,
-                refs_len,
-                constants,
-                constants_len,
-                asked,
-                asked_len,
-                relocs,
-                relocs_len,
-            )
-        };
-        Reply::new(refusal, index)
-    }
-
-    /// Appends the bytes that [`Self::lend_to_read`] took last.
-    pub fn put_lent_bytes(&mut self) -> Reply {
-        let (bytes, bytes_len) = (self.read.as_mut_ptr().cast_const(), self.read.len);
-        let (counts, counts_len) = self.pointer(Part::Counts);
-        let (code, code_len) = self.pointer(Part::Code);
-        // SAFETY: see `Ours`.
-        let refusal = unsafe {
-            ffi::wargnifla_put_bytes(counts, counts_len, code, code_len, bytes, bytes_len)
-        };
-        Reply::new(refusal, 0)
+    /// Looks up where everything that is lent stands, once for many calls.
+    pub fn lending(&mut self) -> Lending<'_> {
+        Lending {
+            pointers: Part::ALL.map(|part| self.pointer(part)),
+            lent: PhantomData,
+        }
     }
 
     /// What the last call was lent to be read alone.
@@ -162,7 +116,7 @@ impl Ours {
     }
 
     /// Takes a copy of what is lent to be read alone.
-    pub fn lend_to_read(&mut self, bytes: &[u8]) -> (*const u8, usize) {
+    fn lend_to_read(&mut self, bytes: &[u8]) -> (*const u8, usize) {
         self.read.set(bytes, bytes.len() % 8);
         (self.read.as_mut_ptr().cast_const(), bytes.len())
     }
@@ -170,20 +124,17 @@ impl Ours {
 
 impl Boundary for Ours {
     fn start(&mut self, arch: u32, symbols: u32) -> Reply {
-        let (counts, counts_len) = self.pointer(Part::Counts);
-        // SAFETY: see `Ours`.
-        let refusal = unsafe { ffi::wargnifla_start(arch, symbols, counts, counts_len) };
-        Reply::new(refusal, 0)
+        self.lending().start(arch, symbols)
     }
 
     fn run_sheet(&mut self, sheet: &[u8]) -> Reply {
-        self.lend_to_read(sheet);
-        self.run_lent_sheet()
+        let sheet = self.lend_to_read(sheet);
+        self.lending().run_sheet_at(sheet)
     }
 
     fn put_bytes(&mut self, bytes: &[u8]) -> Reply {
-        self.lend_to_read(bytes);
-        self.put_lent_bytes()
+        let bytes = self.lend_to_read(bytes);
+        self.lending().put_bytes_at(bytes)
     }
 
     fn add_constant(&mut self, bytes: &[u8]) -> Reply {
@@ -226,6 +177,39 @@ impl Boundary for Ours {
     }
 
     fn finish(&mut self) -> Reply {
+        self.lending().finish()
+    }
+}
+
+/// Pointers to all that [`Ours`] lends, which it does not move as long as this
+/// lives.
+pub struct Lending<'a> {
+    pointers: [(*mut u8, usize); Part::COUNT],
+    lent: PhantomData<&'a mut Ours>,
+}
+
+impl Lending<'_> {
+    pub fn content(&self, part: Part) -> &[u8] {
+        let (bytes, len) = self.pointers[part as usize];
+        // SAFETY: the part has so many bytes and is written by the calls below
+        // alone, each of which borrows `self` mutably.
+        unsafe { std::slice::from_raw_parts(bytes, len) }
+    }
+
+    pub fn start(&mut self, arch: u32, symbols: u32) -> Reply {
+        let [(counts, counts_len), ..] = self.pointers;
+        // SAFETY: see `Ours`.
+        let refusal = unsafe { ffi::wargnifla_start(arch, symbols, counts, counts_len) };
+        Reply::new(refusal, 0)
+    }
+
+    /// Runs a sheet where it stands, which is apart from all that is lent.
+    pub fn run_sheet(&mut self, sheet: &[u8]) -> Reply {
+        self.run_sheet_at((sheet.as_ptr(), sheet.len()))
+    }
+
+    fn run_sheet_at(&mut self, (sheet, sheet_len): (*const u8, usize)) -> Reply {
+        let mut index = 0;
         let [
             (counts, counts_len),
             (code, code_len),
@@ -236,10 +220,66 @@ impl Boundary for Ours {
             (constants, constants_len),
             (asked, asked_len),
             (relocs, relocs_len),
-        ] = RECORDING.map(|part| self.pointer(part));
-        let (segments, segments_bytes) = self.pointer(Part::Segments);
-        let (output, output_len) = self.pointer(Part::Output);
-        let (record, record_len) = self.pointer(Part::Record);
+            ..,
+        ] = self.pointers;
+        // SAFETY: see `Ours`.
+        let refusal = unsafe {
+            ffi::wargnifla_run_sheet(
+                sheet,
+                sheet_len,
+                &mut index,
+                counts,
+                counts_len,
+                code,
+                code_len,
+                labels,
+                labels_len,
+                events,
+                events_len,
+                uses,
+                uses_len,
+                refs,
+                refs_len,
+                constants,
+                constants_len,
+                asked,
+                asked_len,
+                relocs,
+                relocs_len,
+            )
+        };
+        Reply::new(refusal, index)
+    }
+
+    /// Appends bytes that stand apart from all that is lent.
+    pub fn put_bytes(&mut self, bytes: &[u8]) -> Reply {
+        self.put_bytes_at((bytes.as_ptr(), bytes.len()))
+    }
+
+    fn put_bytes_at(&mut self, (bytes, bytes_len): (*const u8, usize)) -> Reply {
+        let [(counts, counts_len), (code, code_len), ..] = self.pointers;
+        // SAFETY: see `Ours`.
+        let refusal = unsafe {
+            ffi::wargnifla_put_bytes(counts, counts_len, code, code_len, bytes, bytes_len)
+        };
+        Reply::new(refusal, 0)
+    }
+
+    pub fn finish(&mut self) -> Reply {
+        let [
+            (counts, counts_len),
+            (code, code_len),
+            (labels, labels_len),
+            (events, events_len),
+            (uses, uses_len),
+            (refs, refs_len),
+            (constants, constants_len),
+            (asked, asked_len),
+            (relocs, relocs_len),
+            (segments, segments_bytes),
+            (output, output_len),
+            (record, record_len),
+        ] = self.pointers;
         // SAFETY: see `Ours`.
         let refusal = unsafe {
             ffi::wargnifla_finish(
@@ -272,16 +312,3 @@ impl Boundary for Ours {
         Reply::new(refusal, 0)
     }
 }
-
-/// The counts and tables of a recording, in the order of the C functions.
-const RECORDING: [Part; 9] = [
-    Part::Counts,
-    Part::Code,
-    Part::Labels,
-    Part::Events,
-    Part::Uses,
-    Part::Refs,
-    Part::Constants,
-    Part::Asked,
-    Part::Relocations,
-];

@@ -46,7 +46,7 @@ fn foreign_kind(tables: &Tables, call: &Call) -> Option<String> {
         }
         _ => return None,
     };
-    Some(format!("{kind} is foreign to {}", tables.arch()))
+    Some(format!("{kind} is foreign to {}", tables.arch))
 }
 
 fn unknown_number(tables: &Tables, call: &Call) -> Option<String> {

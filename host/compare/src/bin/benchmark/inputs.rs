@@ -1,40 +1,74 @@
 //! What is measured: recordings, as a host would hand them over.
 
 use std::borrow::Cow;
+use std::slice;
 
 use compare::{LABEL_TARGET, MOST_CODE, MOST_ENTRIES, Random};
 use reference::{Call, write_sheet};
+use wargnifla::Condition;
+
+/// The most bytes of a sheet's call.
+const MOST_BYTES: usize = 12;
 
 /// One step of a recording; the architecture is X64.
+#[derive(Clone)]
 pub enum Step {
     Sheet(Vec<u8>),
     Bytes(Vec<u8>),
+    /// Calls made one at a time.
+    Calls(Vec<OneCall>),
+}
+
+/// A call, and the same as the C functions and the host's wrapper take it.
+#[derive(Clone)]
+pub struct OneCall {
+    pub call: Call<'static>,
+    /// A sheet of it alone.
+    pub sheet: Vec<u8>,
+    /// The condition of a jump.
+    pub condition: Option<Condition>,
 }
 
 /// Calls in the making.
 #[derive(Default)]
-struct Draft {
+pub struct Draft {
     calls: Vec<Call<'static>>,
     offset: u32,
     labels: u32,
 }
 
 impl Draft {
-    fn label(&mut self) -> u32 {
+    pub fn label(&mut self) -> u32 {
         self.calls.push(Call::NewLabel);
         self.labels += 1;
         self.labels - 1
     }
 
+    pub fn bind(&mut self, label: u32) {
+        self.calls.push(Call::Bind(label));
+    }
+
+    fn put(&mut self, bytes: Cow<'static, [u8]>) {
+        self.offset += bytes.len() as u32;
+        self.calls.push(Call::Bytes(bytes));
+    }
+
+    /// Bytes as they are.
+    pub fn copy(&mut self, bytes: &[u8]) {
+        for part in bytes.chunks(MOST_BYTES) {
+            self.put(Cow::Owned(part.to_vec()));
+        }
+    }
+
+    /// So many bytes of plain code.
     fn bytes(&mut self, count: u32) {
-        const BYTES: [u8; 12] = [
+        const BYTES: [u8; MOST_BYTES] = [
             0x48, 0x89, 0xD8, 0x48, 0x01, 0xC8, 0x0F, 0xAF, 0xC1, 0x50, 0x58, 0x90,
         ];
-        self.offset += count;
         let mut left = count as usize;
         while left > 0 {
             let part = left.min(BYTES.len());
-            self.calls.push(Call::Bytes(Cow::Borrowed(&BYTES[..part])));
+            self.put(Cow::Borrowed(&BYTES[..part]));
             left -= part;
         }
     }
@@ -44,7 +78,8 @@ impl Draft {
         self.offset = self.offset.next_multiple_of(multiple);
     }
 
-    fn jump(&mut self, label: u32, condition: u32) {
+    /// A jump in its long form; the condition 16 is none.
+    pub fn jump(&mut self, label: u32, condition: u32) {
         let start = self.offset;
         let length = if condition == 16 { 5 } else { 6 };
         self.bytes(length);
@@ -56,42 +91,111 @@ impl Draft {
         });
     }
 
-    fn sheet(self) -> Step {
+    pub fn sheet(self) -> Step {
         Step::Sheet(write_sheet(&self.calls).expect("the calls of a sheet fit one"))
+    }
+
+    fn one_by_one(self) -> Step {
+        let calls = self.calls.into_iter().map(|call| OneCall {
+            sheet: write_sheet(slice::from_ref(&call)).expect("a call fits a sheet"),
+            condition: match call {
+                Call::Jump { condition, .. } => Condition::from_number(condition),
+                _ => None,
+            },
+            call,
+        });
+        Step::Calls(calls.collect())
+    }
+}
+
+/// How the numbers of labels lie to their offsets.
+#[derive(Clone, Copy)]
+enum Labels {
+    Rising,
+    Shuffled,
+}
+
+impl Labels {
+    /// The number of the label that is bound first, second and so on.
+    fn numbers(self, count: u32) -> Vec<u32> {
+        let mut numbers: Vec<u32> = (0..count).collect();
+        if let Self::Shuffled = self {
+            let mut random = Random::new(4);
+            for end in (1..count).rev() {
+                numbers.swap(end as usize, random.below(end + 1) as usize);
+            }
+        }
+        numbers
     }
 }
 
 /// A rule: jumps with labels near them and now and then far away, alignments
 /// and plain code between.
-fn rule(jumps: u32, alignments: u32, plain: u32) -> Draft {
+fn rule(jumps: u32, alignments: u32, plain: u32, labels: Labels) -> Draft {
     let mut random = Random::new(1);
     let mut draft = Draft::default();
     for _ in 0..jumps {
         draft.label();
     }
+    let labels = labels.numbers(jumps);
     for jump in 0..jumps {
-        draft.calls.push(Call::Bind(jump));
+        draft.bind(labels[jump as usize]);
         draft.bytes(plain);
         let near = (jump + random.below(13)).saturating_sub(6);
         let far = random.below(jumps);
         let label = if random.chance(10) { far } else { near };
         let condition = random.below(17);
-        draft.jump(label.min(jumps - 1), condition);
-        if jump % (jumps / alignments) == 0 {
+        draft.jump(labels[label.min(jumps - 1) as usize], condition);
+        if alignments > 0 && jump % (jumps / alignments) == 0 {
             draft.align(16);
         }
     }
     draft
 }
 
+/// Few jumps, an alignment for five of them.
+fn small_rule(jumps: u32) -> Draft {
+    rule(jumps, jumps / 5, 9, Labels::Rising)
+}
+
+pub fn small(jumps: u32) -> Vec<Step> {
+    vec![small_rule(jumps).sheet()]
+}
+
+/// As [`small`], call by call.
+pub fn small_calls(jumps: u32) -> Vec<Step> {
+    vec![small_rule(jumps).one_by_one()]
+}
+
+fn typical_rule(labels: Labels) -> Draft {
+    rule(1_000, 200, 9, labels)
+}
+
 /// 1,000 jumps and 200 alignments in 16 KiB.
 pub fn typical() -> Vec<Step> {
-    vec![rule(1_000, 200, 9).sheet()]
+    vec![typical_rule(Labels::Rising).sheet()]
+}
+
+pub fn typical_shuffled() -> Vec<Step> {
+    vec![typical_rule(Labels::Shuffled).sheet()]
+}
+
+/// As [`typical`], call by call.
+pub fn typical_calls() -> Vec<Step> {
+    vec![typical_rule(Labels::Rising).one_by_one()]
+}
+
+fn large_rule(labels: Labels) -> Vec<Step> {
+    vec![rule(50_000, 10_000, 76, labels).sheet()]
 }
 
 /// 60,000 events in 4 MiB.
 pub fn large() -> Vec<Step> {
-    vec![rule(50_000, 10_000, 76).sheet()]
+    large_rule(Labels::Rising)
+}
+
+pub fn large_shuffled() -> Vec<Step> {
+    large_rule(Labels::Shuffled)
 }
 
 /// 16 MiB with one jump, which becomes long.
@@ -103,10 +207,8 @@ pub fn one_jump() -> Vec<Step> {
     };
     let label = jump.label();
     jump.jump(label, 16);
-    let end = Draft {
-        calls: vec![Call::Bind(label)],
-        ..Draft::default()
-    };
+    let mut end = Draft::default();
+    end.bind(label);
     vec![
         Step::Bytes(half.clone()),
         jump.sheet(),
@@ -121,7 +223,7 @@ pub fn uses() -> Vec<Step> {
     let mut draft = Draft::default();
     for _ in 0..1_000 {
         let label = draft.label();
-        draft.calls.push(Call::Bind(label));
+        draft.bind(label);
         draft.bytes(264);
     }
     for number in 0..MOST_ENTRIES as u32 {
@@ -134,13 +236,13 @@ pub fn uses() -> Vec<Step> {
     vec![draft.sheet()]
 }
 
-/// 65,536 relocations over a typical rule, in the order of the code.
-pub fn relocations() -> Vec<Step> {
+/// 65,536 relocations over a typical rule, at the offsets of their numbers.
+fn relocations_at(offset: impl Fn(u32, &mut Random) -> u32) -> Vec<Step> {
     let mut random = Random::new(3);
-    let mut draft = rule(1_000, 200, 9);
+    let mut draft = typical_rule(Labels::Rising);
     for number in 0..MOST_ENTRIES as u32 {
         draft.calls.push(Call::Relocation {
-            offset: number / 4,
+            offset: offset(number, &mut random),
             kind: 1,
             target: random.below(1_000) + LABEL_TARGET,
             addend: 8,
@@ -149,11 +251,20 @@ pub fn relocations() -> Vec<Step> {
     vec![draft.sheet()]
 }
 
+/// Relocations in the order of the code, as a recorder makes them.
+pub fn relocations() -> Vec<Step> {
+    relocations_at(|number, _| number / 4)
+}
+
+pub fn relocations_at_random() -> Vec<Step> {
+    relocations_at(|_, random| random.below(MOST_ENTRIES as u32 / 4))
+}
+
 /// Constants of 1 to 12 bytes, all asked for, after one jump.
 pub fn constants(count: u32) -> Vec<Step> {
     let mut draft = Draft::default();
     let label = draft.label();
-    draft.calls.push(Call::Bind(label));
+    draft.bind(label);
     draft.jump(label, 16);
     for number in 0..count {
         let bytes = vec![number as u8; number as usize % 12 + 1];
@@ -165,7 +276,7 @@ pub fn constants(count: u32) -> Vec<Step> {
 
 /// 65,536 calls of most kinds, a typical rule first.
 pub fn calls() -> Vec<Step> {
-    let mut draft = rule(1_000, 200, 9);
+    let mut draft = typical_rule(Labels::Rising);
     while draft.calls.len() < MOST_ENTRIES {
         let number = draft.calls.len() as u32;
         let label = number % 1_000;
@@ -205,12 +316,12 @@ pub fn chain(jumps: u32) -> Vec<Step> {
         draft.jump(jump, 16);
         draft.bytes(57);
         if jump > 0 {
-            draft.calls.push(Call::Bind(jump - 1));
+            draft.bind(jump - 1);
         }
         draft.bytes(11);
     }
     draft.bytes(60);
-    draft.calls.push(Call::Bind(jumps - 1));
+    draft.bind(jumps - 1);
     vec![draft.sheet()]
 }
 
@@ -219,7 +330,7 @@ pub fn labels_and_jumps(count: u32) -> Vec<Step> {
     let mut draft = Draft::default();
     for _ in 0..count {
         let label = draft.label();
-        draft.calls.push(Call::Bind(label));
+        draft.bind(label);
     }
     for jump in 0..count {
         draft.jump(jump, 16);

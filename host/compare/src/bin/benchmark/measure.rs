@@ -1,10 +1,35 @@
-//! Medians of runs that take turns.
+//! Clocks, and medians of runs that take turns.
 
-use std::hint::black_box;
 use std::time::{Duration, Instant};
 
-/// The processor time that this thread has used. On a machine that does other
-/// things too it tells more than a clock on the wall.
+/// What a run is timed by.
+#[derive(Clone, Copy)]
+pub enum Clock {
+    /// The processor time that this thread has used: on a machine that does
+    /// other things too it tells more than a clock on the wall.
+    Processor,
+    /// The clock on the wall, which is read faster: for batches of short runs.
+    Wall,
+}
+
+impl Clock {
+    /// The time that something takes.
+    pub fn time(self, work: impl FnOnce()) -> Duration {
+        match self {
+            Self::Processor => {
+                let begun = processor_time();
+                work();
+                processor_time() - begun
+            }
+            Self::Wall => {
+                let begun = Instant::now();
+                work();
+                begun.elapsed()
+            }
+        }
+    }
+}
+
 fn processor_time() -> Duration {
     #[repr(C)]
     struct Time {
@@ -26,13 +51,6 @@ fn processor_time() -> Duration {
     Duration::new(time.seconds as u64, time.nanoseconds as u32)
 }
 
-/// The processor time that something takes, and what it answers.
-pub fn timed<T>(work: impl FnOnce() -> T) -> (T, Duration) {
-    let begun = processor_time();
-    let answer = black_box(work());
-    (answer, processor_time() - begun)
-}
-
 /// How long and how often something is measured.
 #[derive(Clone, Copy)]
 pub struct Effort {
@@ -41,28 +59,51 @@ pub struct Effort {
     pub most: usize,
 }
 
-/// The medians of two measurements that take turns after one run of each that
-/// is not counted, and how many runs there were.
-pub fn medians(
+/// What measuring two things in turn gave.
+pub struct Measured {
+    /// The medians, in nanoseconds.
+    pub first: f64,
+    pub second: f64,
+    /// The quartiles of the first by the second, each run by the one beside
+    /// it, since a machine is faster at one time than at another.
+    pub ratio: [f64; 3],
+    pub runs: usize,
+}
+
+/// Measures two things that take turns. One run of each is not counted, unless
+/// two are enough.
+pub fn take_turns(
     effort: Effort,
     mut first: impl FnMut() -> Duration,
     mut second: impl FnMut() -> Duration,
-) -> (Duration, Duration, usize) {
-    first();
-    second();
-    let begun = Instant::now();
-    let (mut firsts, mut seconds) = (Vec::new(), Vec::new());
-    while firsts.len() < effort.fewest
-        || (firsts.len() < effort.most && begun.elapsed() < effort.time)
-    {
-        firsts.push(first());
-        seconds.push(second());
+) -> Measured {
+    if effort.fewest > 2 {
+        first();
+        second();
     }
-    let runs = firsts.len();
-    (median(firsts), median(seconds), runs)
+    let begun = Instant::now();
+    let mut pairs = Vec::new();
+    while pairs.len() < effort.fewest
+        || (pairs.len() < effort.most && begun.elapsed() < effort.time)
+    {
+        pairs.push([first(), second()].map(|time| time.as_nanos() as f64));
+    }
+    let quartiles = |of: fn(&[f64; 2]) -> f64| quartiles(pairs.iter().map(of).collect());
+    Measured {
+        first: quartiles(|[first, _]| *first)[1],
+        second: quartiles(|[_, second]| *second)[1],
+        ratio: quartiles(|[first, second]| first / second),
+        runs: pairs.len(),
+    }
 }
 
-fn median(mut times: Vec<Duration>) -> Duration {
-    times.sort_unstable();
-    times[times.len() / 2]
+/// The lower quartile, the median and the upper quartile of some numbers.
+fn quartiles(mut numbers: Vec<f64>) -> [f64; 3] {
+    numbers.sort_unstable_by(f64::total_cmp);
+    let last = numbers.len() - 1;
+    [1, 2, 3].map(|quarters| {
+        let (at, past) = (last * quarters / 4, last * quarters % 4);
+        let next = numbers[(at + 1).min(last)];
+        numbers[at] + (next - numbers[at]) * past as f64 / 4.0
+    })
 }

@@ -1,121 +1,323 @@
-//! The two that are measured.
+//! What is measured: the C functions, the host's wrapper, the Rust, a copy.
 
-use std::time::Duration;
+use std::hint::black_box;
 
-use compare::{Boundary, Lent, MOST_CODE, MOST_ENTRIES, Ours, Part, Reply, X64};
-use reference::{Finished, Recording, Sheet};
+use compare::{Lending, Lent, MOST_CODE, MOST_ENTRIES, Ours, Part, Reply, X64};
+use reference::{Call, Finished, Recording, Sheet};
+use wargnifla::{Arch, CodeBuffer, CodeBufferFinalized, Error, Label, RelaxableJump};
 
-use crate::inputs::Step;
-use crate::measure::timed;
+use crate::inputs::{OneCall, Step};
 
-/// Ours, lent memory as large as the limits allow, before anything is timed.
-pub struct OurSide(Ours);
+/// One that records and finishes, some recordings at a time.
+pub trait Side {
+    /// Forgets what was recorded and finished.
+    fn clear(&mut self);
+    fn record(&mut self, steps: &[Step]);
+    fn finish(&mut self);
+    /// What the first recording finished to.
+    fn code(&self) -> &[u8];
+    /// Records, finishes and forgets one recording, a local variable if it owns
+    /// memory.
+    fn whole(&mut self, steps: &[Step]) {
+        self.record(steps);
+        self.finish();
+    }
+}
 
-impl OurSide {
-    pub fn new() -> Self {
-        let mut lent = Lent::default();
-        for part in Part::ALL {
-            let entries = match part {
-                Part::Counts | Part::Record => 1,
-                Part::Code | Part::Output => MOST_CODE,
-                _ => MOST_ENTRIES,
-            };
-            lent[part] = vec![0; entries * part.entry_bytes()];
-        }
+/// Memory for as many recordings, lent to the C functions before anything is
+/// timed: as large as the limits allow, where there is one recording.
+pub fn memory(recordings: usize) -> Vec<Ours> {
+    let (most_code, most_entries) = match recordings {
+        1 => (MOST_CODE, MOST_ENTRIES),
+        _ => (4_096, 256),
+    };
+    let mut lent = Lent::default();
+    for part in Part::ALL {
+        let entries = match part {
+            Part::Counts | Part::Record => 1,
+            Part::Code | Part::Output => most_code,
+            _ => most_entries,
+        };
+        lent[part] = vec![0; entries * part.entry_bytes()];
+    }
+    let one = || {
         let mut ours = Ours::default();
         ours.lend(&lent, 0);
-        Self(ours)
+        ours
+    };
+    (0..recordings).map(|_| one()).collect()
+}
+
+/// The C functions. Nothing is cleared between runs.
+pub struct Verified<'a>(Vec<Lending<'a>>);
+
+impl<'a> Verified<'a> {
+    pub fn new(memory: &'a mut [Ours]) -> Self {
+        Self(memory.iter_mut().map(Ours::lending).collect())
     }
 
-    /// The time of start and of all steps; copying a sheet to where it is lent
-    /// is left out.
-    pub fn record(&mut self, steps: &[Step]) -> Duration {
-        let (start, mut time) = timed(|| self.0.start(X64, 1));
-        assert!(is_accepted(&start), "ours refuses a start");
-        for step in steps {
-            let bytes = match step {
-                Step::Sheet(bytes) | Step::Bytes(bytes) => bytes,
-            };
-            self.0.lend_to_read(bytes);
-            let (reply, more) = timed(|| match step {
-                Step::Sheet(_) => self.0.run_lent_sheet(),
-                Step::Bytes(_) => self.0.put_lent_bytes(),
-            });
-            assert!(is_accepted(&reply), "ours refuses a call: {reply:?}");
-            time += more;
-        }
-        time
+    /// A word of what the first recording's finish reports.
+    fn record_word(&self, number: usize) -> u32 {
+        word(self.0[0].content(Part::Record), number)
     }
 
-    /// The time of finish alone.
-    pub fn finish(&mut self) -> Duration {
-        let (reply, time) = timed(|| self.0.finish());
-        assert!(is_accepted(&reply), "ours refuses a finish: {reply:?}");
-        time
+    pub fn layouts(&self) -> u32 {
+        self.record_word(3)
     }
 
-    /// All bytes of code that are lent.
-    pub fn lent_code(&self) -> &[u8] {
-        self.0.part(Part::Code).content()
-    }
-
-    /// What finish wrote.
-    pub fn code(&self) -> &[u8] {
-        let record = self.0.part(Part::Record).content();
-        let length = record[4..8].try_into().expect("a word has four bytes");
-        &self.0.part(Part::Output).content()[..u32::from_le_bytes(length) as usize]
+    /// The length of each event of the first recording, as finish laid it out.
+    pub fn event_lengths(&self) -> impl Iterator<Item = u32> {
+        let events = word(self.0[0].content(Part::Counts), 6) as usize;
+        let segments = self.0[0].content(Part::Segments);
+        let segments = segments.chunks_exact(Part::Segments.entry_bytes());
+        segments
+            .take(events)
+            .map(|segment| word(segment, 3) - word(segment, 2))
     }
 }
 
-fn is_accepted(reply: &Reply) -> bool {
-    reply.refusal == 0
+fn word(bytes: &[u8], number: usize) -> u32 {
+    let bytes = bytes[4 * number..][..4].try_into();
+    u32::from_le_bytes(bytes.expect("a word has four bytes"))
 }
 
-/// The Rust. Its recording grows its vectors, and its finish hands out copies.
-#[derive(Default)]
-pub struct RustSide {
-    recording: Option<Recording>,
-    finished: Option<Finished>,
-}
+impl Side for Verified<'_> {
+    fn clear(&mut self) {}
 
-impl RustSide {
-    /// The time of a new recording and of all steps; dropping what was before
-    /// is left out.
-    pub fn record(&mut self, steps: &[Step]) -> Duration {
-        self.recording = None;
-        let (recording, time) = timed(|| {
-            let mut recording = Recording::new(X64, 1).expect("the Rust knows X64");
+    fn record(&mut self, steps: &[Step]) {
+        for lending in &mut self.0 {
+            accepted(lending.start(X64, 0));
             for step in steps {
-                make(&mut recording, step);
+                record_by_verified(lending, step);
             }
-            recording
-        });
-        self.recording = Some(recording);
-        time
+        }
     }
 
-    /// The time of finish alone.
-    pub fn finish(&mut self) -> Duration {
-        self.finished = None;
-        let recording = self.recording.as_mut().expect("something was recorded");
-        let (finished, time) = timed(|| recording.finish());
-        self.finished = Some(finished.expect("the Rust finishes"));
-        time
+    fn finish(&mut self) {
+        for lending in &mut self.0 {
+            accepted(lending.finish());
+        }
     }
 
-    pub fn code(&self) -> &[u8] {
-        self.finished.as_ref().map_or(&[], Finished::code)
+    fn code(&self) -> &[u8] {
+        let length = self.record_word(1) as usize;
+        &self.0[0].content(Part::Output)[..length]
     }
 }
 
-fn make(recording: &mut Recording, step: &Step) {
+fn record_by_verified(lending: &mut Lending<'_>, step: &Step) {
     match step {
-        Step::Bytes(bytes) => recording.bytes(bytes).expect("the Rust takes bytes"),
-        Step::Sheet(bytes) => {
-            let sheet = Sheet::read(bytes).expect("the sheet is well formed");
-            for call in sheet.calls() {
-                recording.call(&call).expect("the Rust takes the call");
+        Step::Sheet(sheet) => accepted(lending.run_sheet(sheet)),
+        Step::Bytes(bytes) => accepted(lending.put_bytes(bytes)),
+        Step::Calls(calls) => {
+            for one in calls {
+                accepted(match &one.call {
+                    Call::Bytes(bytes) => lending.put_bytes(bytes),
+                    _ => lending.run_sheet(&one.sheet),
+                });
             }
         }
+    }
+}
+
+fn accepted(reply: Reply) {
+    assert_eq!(reply.refusal, 0, "ours refuses a call: {reply:?}");
+}
+
+/// The host's safe wrapper, call by call.
+#[derive(Default)]
+pub struct Wrapper {
+    buffer: Option<CodeBuffer>,
+    finished: Option<CodeBufferFinalized>,
+}
+
+impl Side for Wrapper {
+    fn clear(&mut self) {
+        *self = Self::default();
+    }
+
+    fn record(&mut self, steps: &[Step]) {
+        let buffer = self.buffer.insert(CodeBuffer::new(Arch::X64));
+        record_by_wrapper(buffer, steps);
+    }
+
+    fn finish(&mut self) {
+        let buffer = self.buffer.as_mut().expect("something was recorded");
+        self.finished = Some(buffer.finish().expect("the wrapper finishes"));
+    }
+
+    fn code(&self) -> &[u8] {
+        let finished = self.finished.as_ref();
+        finished.map_or(&[], CodeBufferFinalized::data)
+    }
+
+    fn whole(&mut self, steps: &[Step]) {
+        let mut buffer = CodeBuffer::new(Arch::X64);
+        record_by_wrapper(&mut buffer, steps);
+        black_box(buffer.finish()).expect("the wrapper finishes");
+    }
+}
+
+fn record_by_wrapper(buffer: &mut CodeBuffer, steps: &[Step]) {
+    for step in steps {
+        let made = match step {
+            Step::Sheet(sheet) => buffer.run_sheet(sheet),
+            Step::Bytes(bytes) => buffer.put_bytes(bytes),
+            Step::Calls(calls) => calls.iter().try_for_each(|one| make(buffer, one)),
+        };
+        made.expect("the wrapper takes every step");
+    }
+}
+
+/// One call by its method.
+fn make(buffer: &mut CodeBuffer, one: &OneCall) -> Result<(), Error> {
+    match one.call {
+        Call::Bytes(ref bytes) => buffer.put_bytes(bytes),
+        Call::NewLabel => buffer.get_label().map(|_| ()),
+        Call::Bind(label) => buffer.try_bind_label(Label::from_id(label)),
+        Call::Align(multiple) => buffer.try_align_to(multiple),
+        Call::Jump {
+            start,
+            length,
+            label,
+            ..
+        } => buffer.record_relaxable_jump(RelaxableJump {
+            start,
+            len: length as u8,
+            label: Label::from_id(label),
+            cc: one.condition,
+        }),
+        _ => unreachable!("a rule has no other calls"),
+    }
+}
+
+/// How the Rust hands out what it finished.
+#[derive(Clone, Copy)]
+pub enum HandOut {
+    /// `finish`, which copies its vectors.
+    Copies,
+    /// `finish_owned`, which moves them.
+    Owned,
+}
+
+impl HandOut {
+    fn finish(self, recording: &mut Recording) -> Result<Finished, reference::Error> {
+        match self {
+            Self::Copies => recording.finish(),
+            Self::Owned => recording.finish_owned(),
+        }
+    }
+}
+
+/// The Rust. Its recordings grow their vectors.
+pub struct Rust {
+    hand_out: HandOut,
+    count: usize,
+    recordings: Vec<Recording>,
+    finished: Vec<Result<Finished, reference::Error>>,
+}
+
+impl Rust {
+    pub fn new(count: usize, hand_out: HandOut) -> Self {
+        Self {
+            hand_out,
+            count,
+            recordings: Vec::with_capacity(count),
+            finished: Vec::with_capacity(count),
+        }
+    }
+}
+
+impl Side for Rust {
+    fn clear(&mut self) {
+        self.recordings.clear();
+        self.finished.clear();
+    }
+
+    fn record(&mut self, steps: &[Step]) {
+        for _ in 0..self.count {
+            self.recordings.push(new_recording());
+            let recording = self.recordings.last_mut().expect("one was pushed");
+            record_by_rust(recording, steps);
+        }
+    }
+
+    fn finish(&mut self) {
+        for recording in &mut self.recordings {
+            self.finished.push(self.hand_out.finish(recording));
+        }
+    }
+
+    fn code(&self) -> &[u8] {
+        let [first, ..] = &self.finished[..] else {
+            return &[];
+        };
+        first.as_ref().expect("the Rust finishes").code()
+    }
+
+    fn whole(&mut self, steps: &[Step]) {
+        let mut recording = new_recording();
+        record_by_rust(&mut recording, steps);
+        let finished = self.hand_out.finish(&mut recording);
+        assert!(black_box(finished).is_ok(), "the Rust finishes");
+    }
+}
+
+fn new_recording() -> Recording {
+    Recording::new(X64, 0).expect("the Rust knows X64")
+}
+
+fn record_by_rust(recording: &mut Recording, steps: &[Step]) {
+    for step in steps {
+        match step {
+            Step::Bytes(bytes) => recording.bytes(bytes).expect("the Rust takes bytes"),
+            Step::Calls(calls) => {
+                for one in calls {
+                    call_rust(recording, &one.call);
+                }
+            }
+            Step::Sheet(bytes) => {
+                let sheet = Sheet::read(bytes).expect("the sheet is well formed");
+                for one in sheet.calls() {
+                    call_rust(recording, &one);
+                }
+            }
+        }
+    }
+}
+
+fn call_rust(recording: &mut Recording, call: &Call<'_>) {
+    recording.call(call).expect("the Rust takes every call");
+}
+
+/// A copy of as many bytes as may be recorded, in the place of a finish.
+pub struct Copy {
+    from: Vec<u8>,
+    to: Vec<u8>,
+}
+
+impl Copy {
+    pub fn new() -> Self {
+        Self {
+            from: vec![0x90; MOST_CODE],
+            to: vec![0; MOST_CODE],
+        }
+    }
+}
+
+impl Side for Copy {
+    fn clear(&mut self) {}
+
+    fn record(&mut self, _: &[Step]) {
+        black_box(&mut self.from).fill(0x90);
+    }
+
+    fn finish(&mut self) {
+        self.to.copy_from_slice(black_box(&self.from));
+        black_box(&mut self.to);
+    }
+
+    fn code(&self) -> &[u8] {
+        &self.to
     }
 }

@@ -1,0 +1,298 @@
+//! The rows: what of which input is timed, and beside what.
+
+use crate::inputs::{self, Step};
+use crate::library::library;
+use crate::sides::HandOut;
+
+/// What of a recording is timed.
+#[derive(Clone, Copy, PartialEq, Eq)]
+pub enum Timed {
+    Record,
+    Finish,
+    /// Recording, finishing and forgetting.
+    Whole,
+}
+
+/// Which two are measured.
+#[derive(Clone, Copy)]
+pub enum Sides {
+    /// The C functions, and the Rust.
+    Verified(HandOut),
+    /// The host's wrapper, and the Rust.
+    Wrapper(HandOut),
+    /// The C functions, and a copy of as many bytes as may be recorded.
+    Copy,
+}
+
+/// Where the steps of a recording come from.
+#[derive(Clone, Copy)]
+pub enum Input {
+    Made(fn() -> Vec<Step>),
+    Library,
+}
+
+#[derive(Clone, Copy)]
+pub struct Row {
+    pub name: &'static str,
+    pub about: &'static str,
+    pub timed: Timed,
+    pub sides: Sides,
+    pub input: Input,
+    /// So many recordings are timed together; by the clock on the wall, if
+    /// there is more than one.
+    pub batch: usize,
+    /// The fewest runs that are enough.
+    pub fewest: usize,
+}
+
+/// What most rows are, but for their names and inputs.
+const FINISH: Row = Row {
+    name: "",
+    about: "",
+    timed: Timed::Finish,
+    sides: Sides::Verified(HandOut::Copies),
+    input: Input::Library,
+    batch: 1,
+    fewest: 15,
+};
+
+/// A finish of a recording that is made here.
+const fn row(name: &'static str, about: &'static str, input: fn() -> Vec<Step>) -> Row {
+    let input = Input::Made(input);
+    Row {
+        name,
+        about,
+        input,
+        ..FINISH
+    }
+}
+
+impl Row {
+    /// How many recordings are held at a time: those of a batch, unless each
+    /// is forgotten before the next.
+    pub fn recordings(&self) -> usize {
+        match self.timed {
+            Timed::Whole => 1,
+            _ => self.batch,
+        }
+    }
+
+    const fn recording(self) -> Self {
+        let timed = Timed::Record;
+        Self { timed, ..self }
+    }
+
+    const fn whole(self) -> Self {
+        let timed = Timed::Whole;
+        Self { timed, ..self }
+    }
+
+    const fn beside(self, sides: Sides) -> Self {
+        Self { sides, ..self }
+    }
+
+    const fn batched(self, batch: usize) -> Self {
+        Self { batch, ..self }
+    }
+
+    const fn at_least(self, fewest: usize) -> Self {
+        Self { fewest, ..self }
+    }
+}
+
+const OWNED: Sides = Sides::Verified(HandOut::Owned);
+const WRAPPER: Sides = Sides::Wrapper(HandOut::Copies);
+
+pub const ROWS: [Row; 37] = [
+    row("jumps-1", "finish: 1 jump", || inputs::small(1)).batched(16),
+    row("jumps-10", "finish: 10 jumps", || inputs::small(10)).batched(16),
+    row("jumps-20", "finish: 20 jumps", || inputs::small(20)).batched(16),
+    row("jumps-100", "finish: 100 jumps", || inputs::small(100)).batched(16),
+    row(
+        "typical",
+        "finish: 1,000 jumps, 200 alignments, 16 KiB",
+        inputs::typical,
+    ),
+    row(
+        "typical-owned",
+        "the same; the Rust by finish_owned",
+        inputs::typical,
+    )
+    .beside(OWNED),
+    row(
+        "typical-shuffled",
+        "finish: the typical rule, its labels shuffled",
+        inputs::typical_shuffled,
+    ),
+    row("large", "finish: 60,000 events, 4 MiB", inputs::large),
+    row(
+        "large-shuffled",
+        "finish: 60,000 events, 4 MiB, labels shuffled",
+        inputs::large_shuffled,
+    ),
+    Row {
+        name: "library",
+        about: "finish: the jumps of the machine's C library",
+        ..FINISH
+    },
+    row("one-jump", "finish: 16 MiB, one jump", inputs::one_jump),
+    row(
+        "one-jump-owned",
+        "the same; the Rust by finish_owned",
+        inputs::one_jump,
+    )
+    .beside(OWNED),
+    row(
+        "one-jump-copy",
+        "finish: 16 MiB, one jump; in the Rust's place a copy",
+        inputs::one_jump,
+    )
+    .beside(Sides::Copy),
+    row("uses", "finish: 65,536 uses, no jump", inputs::uses),
+    row(
+        "relocations",
+        "finish: 65,536 relocations, 1,200 events",
+        inputs::relocations,
+    ),
+    row(
+        "relocations-owned",
+        "the same; the Rust by finish_owned",
+        inputs::relocations,
+    )
+    .beside(OWNED),
+    row(
+        "relocations-random",
+        "finish: 65,536 relocations at random offsets",
+        inputs::relocations_at_random,
+    ),
+    row(
+        "relocations-random-owned",
+        "the same; the Rust by finish_owned",
+        inputs::relocations_at_random,
+    )
+    .beside(OWNED),
+    row(
+        "constants-10000",
+        "finish: 10,000 pooled constants, one jump",
+        || inputs::constants(10_000),
+    ),
+    row(
+        "constants-65000",
+        "finish: 65,000 pooled constants, one jump",
+        || inputs::constants(65_000),
+    ),
+    row("chain-2500", "finish: a chain of 2,500 jumps", || {
+        inputs::chain(2_500)
+    })
+    .at_least(7),
+    row("chain-5000", "finish: a chain of 5,000 jumps", || {
+        inputs::chain(5_000)
+    })
+    .at_least(5),
+    row("chain-10000", "finish: a chain of 10,000 jumps", || {
+        inputs::chain(10_000)
+    })
+    .at_least(3),
+    row("chain-20000", "finish: a chain of 20,000 jumps", || {
+        inputs::chain(20_000)
+    })
+    .at_least(2),
+    row(
+        "record-typical",
+        "record: the typical rule, from its sheet",
+        inputs::typical,
+    )
+    .recording(),
+    row(
+        "record-typical-shuffled",
+        "record: the typical rule, its labels shuffled",
+        inputs::typical_shuffled,
+    )
+    .recording(),
+    row(
+        "record-large",
+        "record: 60,000 events, 4 MiB, from a sheet",
+        inputs::large,
+    )
+    .recording(),
+    Row {
+        name: "record-library",
+        about: "record: the jumps of the machine's C library, from a sheet",
+        ..FINISH
+    }
+    .recording(),
+    row(
+        "record-calls",
+        "record: 65,536 calls, from a sheet",
+        inputs::calls,
+    )
+    .recording(),
+    row(
+        "record-labels",
+        "record: 8,192 jumps among 8,192 labels",
+        || inputs::labels_and_jumps(8_192),
+    )
+    .recording(),
+    row(
+        "wrapper-1",
+        "wrapper, a rule of 1 jump recorded, finished, dropped",
+        || inputs::small_calls(1),
+    )
+    .whole()
+    .beside(WRAPPER)
+    .batched(16),
+    row(
+        "wrapper-10",
+        "wrapper, a rule of 10 jumps recorded, finished, dropped",
+        || inputs::small_calls(10),
+    )
+    .whole()
+    .beside(WRAPPER)
+    .batched(16),
+    row(
+        "calls-10",
+        "the same; in the wrapper's place the C functions alone",
+        || inputs::small_calls(10),
+    )
+    .whole()
+    .batched(16),
+    row(
+        "wrapper-10-owned",
+        "wrapper, a rule of 10 jumps; the Rust by finish_owned",
+        || inputs::small_calls(10),
+    )
+    .whole()
+    .beside(Sides::Wrapper(HandOut::Owned))
+    .batched(16),
+    row(
+        "wrapper-100",
+        "wrapper, a rule of 100 jumps recorded, finished, dropped",
+        || inputs::small_calls(100),
+    )
+    .whole()
+    .beside(WRAPPER)
+    .batched(16),
+    row(
+        "wrapper-typical",
+        "wrapper, the typical rule recorded, finished, dropped",
+        inputs::typical_calls,
+    )
+    .whole()
+    .beside(WRAPPER),
+    row(
+        "calls-typical",
+        "the same; in the wrapper's place the C functions alone",
+        inputs::typical_calls,
+    )
+    .whole(),
+];
+
+impl Input {
+    /// The steps, or why there are none.
+    pub fn steps(self) -> Result<Vec<Step>, String> {
+        match self {
+            Self::Made(make) => Ok(make()),
+            Self::Library => Ok(library()?.steps.clone()),
+        }
+    }
+}
