@@ -5,6 +5,7 @@ const STRIP = 36;
 const LETTER = 6.6;
 const WITH_FIELDS = new Set(DATA.fields.map(([before]) => before));
 const NAME_ROWS = 3;
+const MOST_NAMES = 60;
 const ROW = 15;
 const ABOVE = jumps().some(isAhead) ? 150 : 8;
 const BELOW = jumps().some(jump => !isAhead(jump)) ? 110 : 0;
@@ -128,23 +129,29 @@ class Drawing {
 
     labels() {
         const { x, shows } = this.frame;
-        const rows = Array(NAME_ROWS).fill(-Infinity);
         const bound = [...DATA.labels.keys()].filter(label => DATA.labels[label] !== 0);
-        const placed = bound.map(label => [this.layout.label(label), label]).sort((a, b) => a[0] - b[0]);
-        for (const [at, label] of placed) {
-            if (!shows(x(at), x(at)) || !this.isNew("label", Math.round(x(at) * 2))) continue;
-            const name = labelName(label), half = name.length * LETTER / 2 + 5;
+        const placed = bound.map(label => [this.layout.label(label), label]).filter(([at]) => shows(x(at), x(at)));
+        // Where there are too many to name, one row names some of them.
+        const isCrowded = placed.length > MOST_NAMES;
+        const rows = Array(isCrowded ? 1 : NAME_ROWS).fill(-Infinity), room = isCrowded ? 30 : 5;
+        for (const [at, label] of placed.sort((a, b) => a[0] - b[0])) {
+            const half = labelName(label).length * LETTER / 2 + room;
             const row = rows.findIndex(end => end < x(at) - half);
-            const group = this.choice(`label${label}`, "label", `${labelText(label)} at ${offset(at)}`);
-            const bottom = row < 0 ? BOTTOM + 8 : NAMES + row * ROW - 11;
-            this.add("path", { class: "tick", d: `M${x(at)} ${TOP - 4}V${bottom}` }, group);
-            this.add("path", { class: "hit", d: `M${x(at)} ${TOP}V${bottom}` }, group);
-            this.push(label, at, group);
-            if (row < 0) continue;
-            rows[row] = x(at) + half;
-            this.bottom = Math.max(this.bottom, NAMES + row * ROW + 6);
-            this.add("text", { class: "name", x: x(at), y: NAMES + row * ROW }, group, name);
+            if (row >= 0) rows[row] = x(at) + half;
+            if (row >= 0 || !isCrowded) this.label(label, at, row);
         }
+    }
+
+    // A label's tick, with its name if it has a row.
+    label(label, at, row) {
+        const { x } = this.frame, y = NAMES + row * ROW, bottom = row < 0 ? BOTTOM + 8 : y - 11;
+        const group = this.choice(`label${label}`, "label", `${labelText(label)} at ${offset(at)}`);
+        this.add("path", { class: "tick", d: `M${x(at)} ${TOP - 4}V${bottom}` }, group);
+        this.add("path", { class: "hit", d: `M${x(at)} ${TOP}V${bottom}` }, group);
+        this.push(label, at, group);
+        if (row < 0) return;
+        this.add("text", { class: "name", x: x(at), y }, group, labelName(label));
+        this.bottom = Math.max(this.bottom, y + 6);
     }
 
     // An arrow from where a label stood in the round before.

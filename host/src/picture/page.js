@@ -59,8 +59,9 @@ function go(step) {
     draw();
 }
 
-// Scrolls to the first jump that becomes long, if none of them is in view.
+// Scrolls to the first jump that becomes long, if none of them is in view and nothing else is chosen.
 function showChange() {
+    if (chosen !== null) return;
     const grown = [...layout.current.grown];
     const places = grown.map(jump => MARGIN + layout.ends[jump] * scale - view.scrollLeft);
     if (grown.length === 0 || places.some(x => x > 0 && x < view.clientWidth)) return;
@@ -98,7 +99,7 @@ function select(pick) {
     choose();
 }
 
-// Scrolls the strip to what was chosen in the table.
+// Scrolls the strip to what was chosen elsewhere.
 function reveal(pick) {
     const event = eventOf(pick), label = labelOf(pick);
     const byte = event !== null ? layout.start(event) : layout.label(label);
@@ -144,6 +145,7 @@ function fromAddress() {
     const pick = wanted.get("pick");
     if (pick !== null && isKnown(pick)) chosen = pick;
     go(Number(wanted.get("step")) || 0);
+    if (chosen !== null) reveal(chosen);
 }
 
 // Which steps are printed: all, or the first and the last of many.

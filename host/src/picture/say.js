@@ -124,7 +124,7 @@ function crossedByText(event) {
     if (by.length === 0) return "No jump crosses it.";
     const names = by.slice(0, MOST_SAID).map(eventText).join(", ");
     const more = by.length > MOST_SAID ? ` and ${by.length - MOST_SAID} more` : "";
-    return `Crossed by ${names}${more}: if it grows, they have farther to go.`;
+    return `Crossed by ${names}${more}; what it grows by is added to their distance.`;
 }
 
 function sayJump(layout, jump) {
@@ -137,7 +137,8 @@ function sayJump(layout, jump) {
 
 function sayPadding(layout, event) {
     const start = layout.start(event), end = layout.ends[event];
-    const now = `${count(end - start, "byte")} of padding, from ${offset(start)} to ${offset(end)}; ${EVENTS[event].length} when recorded.`;
+    const first = layout.step > 1 && DATA.of > 1 ? `${DATA.first[event]} in round 1, ` : "";
+    const now = `${count(end - start, "byte")} of padding, from ${offset(start)} to ${offset(end)}; ${first}${EVENTS[event].length} recorded.`;
     const changes = changesUpTo(event, layout.step).map(changeText);
     const said = [element("h2", eventText(event)), element("p", now)];
     if (changes.length > 0) said.push(element("p", "What moved in front of it changed what it needs:"), list(changes, "change"));

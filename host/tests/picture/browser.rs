@@ -2,13 +2,17 @@
 
 use std::env;
 use std::fs::{self, File};
+use std::io::{self, Write};
 use std::path::{Path, PathBuf};
 use std::process::{Child, Command, Stdio};
+use std::sync::Once;
 use std::sync::atomic::{AtomicU32, Ordering};
 use std::thread::sleep;
 use std::time::{Duration, Instant};
 
 const NAMES: [&str; 3] = ["chromium", "chromium-browser", "google-chrome"];
+
+static SAID: Once = Once::new();
 
 /// What one look at a page may take.
 const LIMIT: Duration = Duration::from_secs(120);
@@ -21,9 +25,18 @@ pub fn find() -> Option<PathBuf> {
         places.find(|place| place.is_file())
     });
     if found.is_none() {
-        eprintln!("passed over: no browser is at hand ({})", NAMES.join(", "));
+        SAID.call_once(say_what_is_passed_over);
     }
     found
+}
+
+/// Says it on standard error itself: what a test prints is shown only where it fails.
+fn say_what_is_passed_over() {
+    let names = NAMES.join(", ");
+    let _ = writeln!(
+        io::stderr(),
+        "passed over: the pages of --picture in a browser, of which none is at hand ({names})"
+    );
 }
 
 /// Opens a page, with what follows `#` in its address, runs a script at its end, and gives the lines that the script noted.
