@@ -73,26 +73,22 @@ fn run(options: &Options) -> Result<(), Failure> {
     }
     input.record(&mut buffer)?;
     let mut recording = buffer.recording();
-    let recorded = buffer.data().to_vec();
     let finished = buffer
         .finish()
         .map_err(|error| input.refused_finish(&error, &recording))?;
     recording.note_alignments(&input.calls);
     let rounds = reckoned(options, &recording, &finished)?;
     let text = shown(options, &input, &recording, &finished, &rounds);
-    let page = options.picture.as_ref().map(|_| {
-        let picture = Picture {
-            title: &options.title(),
-            recording: &recording,
-            recorded: &recorded,
-            rounds: &rounds,
-            finished: &finished,
-            places: &input.event_places(),
-            style: options.style(),
-        };
-        picture.page()
-    });
-    write_files(options, &input, &finished, page.as_deref())?;
+    let picture = Picture {
+        title: &options.title(),
+        recording: &recording,
+        recorded: buffer.data(),
+        rounds: &rounds,
+        finished: &finished,
+        places: &input.event_places(),
+        style: options.style(),
+    };
+    write_files(options, &input, &picture)?;
     if !options.writes_standard_output() {
         print_text(&text)?;
     }
@@ -133,18 +129,16 @@ fn shown(
     text + &format!("\n{}\n", record(recording, finished))
 }
 
-fn write_files(
-    options: &Options,
-    input: &Input,
-    finished: &CodeBufferFinalized,
-    page: Option<&str>,
-) -> Result<(), Failure> {
+fn write_files(options: &Options, input: &Input, picture: &Picture<'_>) -> Result<(), Failure> {
     let sheet = match &options.write_sheet {
         Some(_) => write_sheet(&input.calls).map_err(|error| input.unwritable(&error))?,
         None => Vec::new(),
     };
-    let page = page.unwrap_or_default();
-    let contents = [finished.data(), &sheet, page.as_bytes()];
+    let page = match &options.picture {
+        Some(_) => picture.page(),
+        None => String::new(),
+    };
+    let contents = [picture.finished.data(), &sheet, page.as_bytes()];
     let outputs: Vec<(&Path, &[u8])> = options
         .outputs()
         .into_iter()

@@ -36,12 +36,12 @@ const SCRIPTS: [&str; 4] = [
 /// buffer.record_relaxable_jump(RelaxableJump { start: 0, len: 5, label: end, cc: None })?;
 /// buffer.put_bytes(&[0x90; 128])?;
 /// buffer.try_bind_label(end)?;
-/// let (recording, recorded) = (buffer.recording(), buffer.data().to_vec());
+/// let recording = buffer.recording();
 /// let finished = buffer.finish()?;
 /// let picture = Picture {
 ///     title: "a jump over 128 bytes",
 ///     recording: &recording,
-///     recorded: &recorded,
+///     recorded: buffer.data(),
 ///     rounds: &Rounds::new(&recording),
 ///     finished: &finished,
 ///     places: &[],
@@ -57,7 +57,7 @@ pub struct Picture<'a> {
     pub title: &'a str,
     /// The recording as it was before finish.
     pub recording: &'a Recording,
-    /// The bytes that were recorded.
+    /// The bytes that were recorded; finish leaves them as they are.
     pub recorded: &'a [u8],
     /// The rounds of the recording.
     pub rounds: &'a Rounds,

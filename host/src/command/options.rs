@@ -13,7 +13,7 @@ Records a sheet of calls, finishes it, and shows the code. FILE is a sheet in te
 
   -o FILE                  write the finished code; to - it goes to standard output, in the place of the listing
   --write-sheet FILE       write the calls as a binary sheet, or to -
-  --picture FILE           write a page, HTML for any browser, that shows round by round where the code stands and why jumps grow, or to -
+  --picture FILE           write a page for a browser that draws the rounds to scale, step by step, or to -
   --arch x86|x64|aarch64   the architecture, whatever the sheet says (x64 if neither says)
   --symbols N              how many symbols there are, whatever the sheet says (as many as it names if neither says)
   --rounds                 show what each round of relaxation lengthened, and why

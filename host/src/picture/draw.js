@@ -31,11 +31,11 @@ class Drawing {
         this.bottom = NAMES;
         svg.replaceChildren();
         this.ground();
-        this.axis();
         this.runs();
         this.fields();
         this.constants();
         this.labels();
+        this.axis();
         this.events();
         this.badges();
         this.overlay = this.add("g", { class: "overlay" });

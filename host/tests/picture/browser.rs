@@ -17,17 +17,25 @@ static SAID: Once = Once::new();
 /// What one look at a page may take.
 const LIMIT: Duration = Duration::from_secs(120);
 
-/// The first browser on the path; where there is none, a sentence says that the test is passed over.
+/// The first browser on the path that runs; where there is none, a sentence says that the test is passed over.
 pub fn find() -> Option<PathBuf> {
     let folders = env::var_os("PATH").unwrap_or_default();
     let found = NAMES.iter().find_map(|name| {
         let mut places = env::split_paths(&folders).map(|folder| folder.join(name));
-        places.find(|place| place.is_file())
+        places.find(|place| runs(place))
     });
     if found.is_none() {
         SAID.call_once(say_what_is_passed_over);
     }
     found
+}
+
+/// Whether a browser says its version: some systems have a command of its name that only says how to install one.
+fn runs(browser: &Path) -> bool {
+    let mut asked = Command::new(browser);
+    asked.arg("--version").stdin(Stdio::null());
+    asked.stdout(Stdio::null()).stderr(Stdio::null());
+    asked.status().is_ok_and(|status| status.success())
 }
 
 /// Says it on standard error itself: what a test prints is shown only where it fails.

@@ -120,12 +120,12 @@ fn names_can_do_no_harm() {
     };
     buffer.record_relaxable_jump(jump).unwrap();
     buffer.try_bind_label(end).unwrap();
-    let (recording, recorded) = (buffer.recording(), buffer.data().to_vec());
+    let recording = buffer.recording();
     let finished = buffer.finish().unwrap();
     let page = Picture {
         title: "</title><script>",
         recording: &recording,
-        recorded: &recorded,
+        recorded: buffer.data(),
         rounds: &Rounds::new(&recording),
         finished: &finished,
         places: &["</script>".into()],
