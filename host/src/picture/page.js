@@ -11,6 +11,7 @@ const room = document.getElementById("room");
 const svg = document.getElementById("strip");
 const sentence = document.getElementById("sentence");
 const detail = document.getElementById("detail");
+const slider = document.getElementById("at");
 const rows = new Map([...document.querySelectorAll("tr[data-pick]")].map(row => [row.dataset.pick, row]));
 const layout = new Layout();
 let marked;
@@ -51,6 +52,8 @@ function choose() {
 function go(step) {
     layout.go(Math.max(0, Math.min(step, STEPS.length - 1)));
     sentence.textContent = layout.current.sentence;
+    slider.value = layout.step;
+    slider.setAttribute("aria-valuetext", layout.current.sentence);
     svg.setAttribute("aria-label", `The code to scale, ${layout.current.sentence}`);
     const isFirst = layout.step === 0, isLast = layout.step === STEPS.length - 1;
     for (const id of ["first", "back"]) document.getElementById(id).disabled = isFirst;
@@ -190,6 +193,8 @@ function start() {
     document.getElementById("with-fields").hidden = DATA.fields.length === 0;
     document.getElementById("with-constants").hidden = DATA.constants.length === 0;
     for (const [id, action] of Object.entries(BUTTONS)) document.getElementById(id).addEventListener("click", action);
+    slider.max = STEPS.length - 1;
+    slider.addEventListener("input", () => go(Number(slider.value)));
     document.addEventListener("keydown", press);
     document.addEventListener("click", event => {
         const pick = pickOf(event.target);

@@ -231,6 +231,9 @@ fn two_thousand_jumps_stay_within_bounds() {
             if (arcs('grown') !== 1) note(`${{said()}}: ${{arcs('grown')}} grown`);
         }}
         note(said());
+        document.getElementById('at').value = 1000;
+        document.getElementById('at').dispatchEvent(new Event('input'));
+        note(seen().split(' | ')[0]);
         note(Math.max(...most) < 1000);
         button('fit');
         note(size() < 20000);
@@ -245,6 +248,7 @@ fn two_thousand_jumps_stay_within_bounds() {
     let noted = lines(&browser, &page(&chain(2000)), "", &script);
     let expected = [
         "round 200 of 2001: 144655 bytes; 1 jump becomes long",
+        "round 1000 of 2001: 147055 bytes; 1 jump becomes long",
         "true",
         "true",
         "finished: 150058 bytes",
