@@ -1,8 +1,11 @@
 //! What a browser makes of a page: its buttons and keys, what stands out, and what is said. What is expected is reckoned here from the rounds.
 
-use wargnifla::{Arch, CodeBuffer, LayoutEvent, Recording, Rounds, read_text, symbols_named};
+use wargnifla::{
+    Arch, Change, CodeBuffer, LayoutEvent, Lengthened, Recording, Rounds, read_text, symbols_named,
+};
 
 use crate::browser::{find, lines, lines_of_all};
+use crate::random::Random;
 use crate::{MIXED, chain, page, sheets};
 
 /// What scripts of these tests share.
@@ -25,7 +28,10 @@ note(seen());
 while (!document.getElementById('forward').disabled) {
     button('forward');
     note(seen());
-    for (const item of by('#detail > ul > li')) note(`why: ${item.firstChild.textContent}`);
+    for (const item of by('#detail > ul > li')) {
+        note(`why: ${item.firstChild.textContent}`);
+        for (const reason of item.querySelectorAll('p, li')) note(`why: ${reason.textContent}`);
+    }
 }
 const last = seen();
 press('Home');
@@ -118,6 +124,7 @@ impl Expected {
                     step.end,
                     step.distance()
                 ));
+                lines.extend(history(step));
             }
             long += grown;
         }
@@ -131,6 +138,43 @@ impl Expected {
         ));
         lines
     }
+}
+
+/// Why the distance of a jump is another than in round 1.
+fn history(step: &Lengthened) -> Vec<String> {
+    if step.crossed.is_empty() {
+        return Vec::new();
+    }
+    let first = step.first_distance;
+    let head = format!("{first} in round 1; since then, between the jump and its label,");
+    let change = |change: &Change| {
+        let verb = if change.by < 0 { "shrank" } else { "grew" };
+        let by = change.by.unsigned_abs();
+        format!(" {verb} by {by} after round {}", change.round - 1)
+    };
+    let changes = step.crossed.iter().map(change);
+    [head].into_iter().chain(changes).collect()
+}
+
+/// A drawn text, short enough for every arc to have pixels of its own.
+fn drawn(random: &mut Random) -> String {
+    let mut unbound = vec!["a", "b", "c", "d"];
+    let mut text = String::new();
+    for _ in 0..8 + random.below(24) {
+        let label = ["a", "b", "c", "d"][random.below(4) as usize];
+        text += &match random.below(8) {
+            0 | 1 => format!("jmp {label}\n"),
+            2 => format!("jne {label}\n"),
+            3 => format!("align {}\n", 1 << random.below(6)),
+            4 if !unbound.is_empty() => {
+                let next = random.below(unbound.len() as u32) as usize;
+                format!("{}:\n", unbound.swap_remove(next))
+            }
+            _ => format!("zeros {}\n", random.below(60)),
+        };
+    }
+    let rest: String = unbound.iter().map(|label| format!("{label}: ")).collect();
+    text + &rest
 }
 
 /// Compares what was noted on a walk with what is expected of it.
@@ -163,6 +207,8 @@ fn steps_show_what_the_rounds_did() {
     let mut sheets = sheets();
     sheets.push(("mixed".into(), MIXED.into()));
     sheets.push(("chain".into(), chain(9)));
+    let mut random = Random(0x5EED);
+    sheets.extend((0..16).map(|i| (format!("drawn {i}"), drawn(&mut random))));
     let pages: Vec<String> = sheets.iter().map(|(_, text)| page(text)).collect();
     let noted = lines_of_all(&browser, &pages, &script);
     assert_eq!(noted.len(), sheets.len());

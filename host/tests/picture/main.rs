@@ -3,6 +3,8 @@
 mod browser;
 mod in_browser;
 mod pages;
+#[path = "../host/random.rs"]
+mod random;
 
 use std::fs;
 use std::io::Write;
