@@ -1,7 +1,10 @@
 //! What a browser makes of a page: its buttons and keys, what stands out, and what is said. What is expected is reckoned here from the rounds.
 
+use std::iter::repeat_with;
+
 use wargnifla::{
-    Arch, Change, CodeBuffer, LayoutEvent, Lengthened, Recording, Rounds, read_text, symbols_named,
+    Arch, Change, CodeBuffer, LayoutEvent, Lengthened, Recording, Round, Rounds, read_text,
+    symbols_named,
 };
 
 use crate::browser::{find, lines, lines_of_all};
@@ -160,21 +163,33 @@ fn history(step: &Lengthened) -> Vec<String> {
 fn drawn(random: &mut Random) -> String {
     let mut unbound = vec!["a", "b", "c", "d"];
     let mut text = String::new();
-    for _ in 0..8 + random.below(24) {
+    for _ in 0..20 + random.below(30) {
         let label = ["a", "b", "c", "d"][random.below(4) as usize];
-        text += &match random.below(8) {
-            0 | 1 => format!("jmp {label}\n"),
-            2 => format!("jne {label}\n"),
-            3 => format!("align {}\n", 1 << random.below(6)),
-            4 if !unbound.is_empty() => {
+        text += &match random.below(10) {
+            0..=2 => format!("jmp {label}\n"),
+            3 | 4 => format!("jne {label}\n"),
+            5 => format!("align {}\n", 1 << random.below(6)),
+            6 if !unbound.is_empty() => {
                 let next = random.below(unbound.len() as u32) as usize;
                 format!("{}:\n", unbound.swap_remove(next))
             }
-            _ => format!("zeros {}\n", random.below(60)),
+            _ => format!("zeros {}\n", random.below(40)),
         };
     }
     let rest: String = unbound.iter().map(|label| format!("{label}: ")).collect();
     text + &rest
+}
+
+/// Whether some jump grows because of another, and no list of the page is cut.
+fn is_worth_it(text: &str) -> bool {
+    const MOST_SAID: usize = 13;
+    let rounds = Expected::new(text).rounds;
+    let mut steps = rounds.rounds().iter().flat_map(|round| &round.lengthened);
+    let is_cut = |round: &Round| {
+        let mut histories = round.lengthened.iter().map(|step| step.crossed.len());
+        round.lengthened.len() > MOST_SAID || histories.any(|changes| changes > MOST_SAID)
+    };
+    steps.any(|step| !step.crossed.is_empty()) && !rounds.rounds().iter().any(is_cut)
 }
 
 /// Compares what was noted on a walk with what is expected of it.
@@ -208,7 +223,12 @@ fn steps_show_what_the_rounds_did() {
     sheets.push(("mixed".into(), MIXED.into()));
     sheets.push(("chain".into(), chain(9)));
     let mut random = Random(0x5EED);
-    sheets.extend((0..16).map(|i| (format!("drawn {i}"), drawn(&mut random))));
+    let drawn = repeat_with(|| drawn(&mut random)).filter(|text| is_worth_it(text));
+    sheets.extend(
+        (0..16)
+            .zip(drawn)
+            .map(|(i, text)| (format!("drawn {i}"), text)),
+    );
     let pages: Vec<String> = sheets.iter().map(|(_, text)| page(text)).collect();
     let noted = lines_of_all(&browser, &pages, &script);
     assert_eq!(noted.len(), sheets.len());
