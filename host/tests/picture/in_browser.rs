@@ -9,7 +9,7 @@ use wargnifla::{
 
 use crate::browser::{find, lines, lines_of_all};
 use crate::random::Random;
-use crate::{MIXED, chain, page, sheets};
+use crate::{MIXED, chain, page, sheet, sheets};
 
 /// What scripts of these tests share.
 const TOOLS: &str = "
@@ -240,10 +240,6 @@ fn steps_show_what_the_rounds_did() {
 #[test]
 fn what_is_chosen_stands_out_and_is_explained() {
     let Some(browser) = find() else { return };
-    let (_, text) = sheets()
-        .into_iter()
-        .find(|(name, _)| name == "case-c")
-        .unwrap();
     let script = format!(
         "{TOOLS}
         note(`${{said()}} / ${{on()}}`);
@@ -265,7 +261,12 @@ fn what_is_chosen_stands_out_and_is_explained() {
         document.querySelector('tr[data-pick=label0]').click();
         note(`in the table: ${{on()}}`);"
     );
-    let noted = lines(&browser, &page(&text), "step=2&pick=event0", &script);
+    let noted = lines(
+        &browser,
+        &page(&sheet("case-c")),
+        "step=2&pick=event0",
+        &script,
+    );
     let expected = [
         "round 2 of 3: 135 bytes; 1 jump becomes long / event0 event1 label0",
         "jmp recorded at 0 (line 9), to label 0label 0 at 132 less its own end at 2 is 130, outside -128..127: it becomes long.\

@@ -27,6 +27,12 @@ fn sheets() -> Vec<(String, String)> {
     sheets
 }
 
+/// The text of a sheet for users.
+fn sheet(name: &str) -> String {
+    let (_, text) = sheets().into_iter().find(|sheet| sheet.0 == name).unwrap();
+    text
+}
+
 /// What the command does with a text as standard input.
 fn run(arguments: &[&str], text: &str) -> Output {
     let mut child = Command::new(env!("CARGO_BIN_EXE_wargnifla"))

@@ -4,7 +4,7 @@ use std::fs;
 
 use wargnifla::{Arch, CodeBuffer, Picture, RelaxableJump, Rounds, Style};
 
-use crate::{MIXED, chain, page, path, printed, run, sheets};
+use crate::{MIXED, chain, page, path, printed, run, sheet, sheets};
 
 #[test]
 fn every_sheet_gives_a_page_that_takes_nothing_from_elsewhere() {
@@ -56,15 +56,10 @@ fn the_data_has_the_rounds_that_are_shown_as_text() {
             assert!(page.contains(&entry), "{entry} is missing for\n{text}");
         }
     }
-    let page = page(sheets_text("case-c"));
+    let page = page(&sheet("case-c"));
     let data = "\"first\":[2,2],\"rounds\":[[1,\"132 bytes; 1 jump becomes long\",[],[1]],\
                 [2,\"135 bytes; 1 jump becomes long\",[1,3],[0]],[3,\"138 bytes; every short jump reaches: settled\",[0,3],[]]],\"of\":3";
     assert!(page.contains(data), "{page}");
-}
-
-fn sheets_text(name: &str) -> &'static str {
-    let (_, text) = sheets().into_iter().find(|sheet| sheet.0 == name).unwrap();
-    text.leak()
 }
 
 #[test]
