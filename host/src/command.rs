@@ -18,7 +18,10 @@ use std::process::ExitCode;
 use input::Input;
 use options::{HELP, Options, Request};
 use rounds::RoundsReport;
-use wargnifla::{CodeBuffer, CodeBufferFinalized, Label, Recording, Rounds, listing, write_sheet};
+use wargnifla::{
+    CodeBuffer, CodeBufferFinalized, Label, Picture, Recording, Rounds, listing, record,
+    write_sheet,
+};
 
 /// A message for standard error, and the exit status that goes with it.
 struct Failure {
@@ -74,8 +77,18 @@ fn run(options: &Options) -> Result<(), Failure> {
         .finish()
         .map_err(|error| input.refused_finish(&error, &recording))?;
     recording.note_alignments(&input.calls);
-    let text = shown(options, &input, &recording, &finished)?;
-    write_files(options, &input, &finished)?;
+    let rounds = reckoned(options, &recording, &finished)?;
+    let text = shown(options, &input, &recording, &finished, &rounds);
+    let picture = Picture {
+        title: &options.title(),
+        recording: &recording,
+        recorded: buffer.data(),
+        rounds: &rounds,
+        finished: &finished,
+        places: &input.event_places(),
+        style: options.style(),
+    };
+    write_files(options, &input, &picture)?;
     if !options.writes_standard_output() {
         print_text(&text)?;
     }
@@ -83,41 +96,54 @@ fn run(options: &Options) -> Result<(), Failure> {
     Ok(())
 }
 
+/// The rounds, where they are to be shown.
+fn reckoned(
+    options: &Options,
+    recording: &Recording,
+    finished: &CodeBufferFinalized,
+) -> Result<Rounds, Failure> {
+    if !options.rounds && options.picture.is_none() {
+        return Ok(Rounds::default());
+    }
+    let rounds = Rounds::new(recording);
+    rounds
+        .check(finished)
+        .map_err(|mismatch| Failure::internal(format!("internal error: {mismatch}")))?;
+    Ok(rounds)
+}
+
 fn shown(
     options: &Options,
     input: &Input,
     recording: &Recording,
     finished: &CodeBufferFinalized,
-) -> Result<String, Failure> {
+    rounds: &Rounds,
+) -> String {
     let style = options.style();
     let mut text = listing(recording, finished, style);
     text += &report::labels(recording, finished, style);
     text += &report::relocations(recording, finished, style);
     if options.rounds {
-        let rounds = Rounds::new(recording);
-        rounds
-            .check(finished)
-            .map_err(|mismatch| Failure::internal(format!("internal error: {mismatch}")))?;
         text += &RoundsReport::new(input, recording, style).text(rounds.rounds());
     }
-    text += &report::record(recording, finished);
-    Ok(text)
+    text + &format!("\n{}\n", record(recording, finished))
 }
 
-fn write_files(
-    options: &Options,
-    input: &Input,
-    finished: &CodeBufferFinalized,
-) -> Result<(), Failure> {
+fn write_files(options: &Options, input: &Input, picture: &Picture<'_>) -> Result<(), Failure> {
     let sheet = match &options.write_sheet {
         Some(_) => write_sheet(&input.calls).map_err(|error| input.unwritable(&error))?,
         None => Vec::new(),
     };
-    let code = options.output.iter().map(|path| (path, finished.data()));
-    let sheet = options.write_sheet.iter().map(|path| (path, &sheet[..]));
-    let outputs: Vec<(&Path, &[u8])> = code
-        .chain(sheet)
-        .map(|(path, bytes)| (path.as_path(), bytes))
+    let page = match &options.picture {
+        Some(_) => picture.page(),
+        None => String::new(),
+    };
+    let contents = [picture.finished.data(), &sheet, page.as_bytes()];
+    let outputs: Vec<(&Path, &[u8])> = options
+        .outputs()
+        .into_iter()
+        .zip(contents)
+        .filter_map(|((_, path), bytes)| Some((path?, bytes)))
         .collect();
     files::write(&outputs)
 }

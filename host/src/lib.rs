@@ -38,6 +38,7 @@ mod explain;
 pub mod ffi;
 mod finalized;
 mod listing;
+mod picture;
 mod recording;
 mod refusal;
 mod relax;
@@ -52,7 +53,8 @@ pub use buffer::CodeBuffer;
 pub use error::{Entry, Error, Place};
 pub use ffi::Segment;
 pub use finalized::CodeBufferFinalized;
-pub use listing::{Extent, Radix, Style, listing};
+pub use listing::{Extent, Radix, Style, listing, record};
+pub use picture::Picture;
 pub use recording::{
     AsmConstant, AsmFixup, AsmReloc, Constant, Label, LabelNames, LabelRef, LayoutEvent, Pooled,
     PooledConstant, Recording, RelaxableJump, RelocTarget, Sym,

@@ -75,11 +75,7 @@ pub fn listing(
     style: impl Into<Style>,
 ) -> String {
     let style = style.into();
-    let texts = Texts {
-        recording,
-        finished,
-        offsets: style.offsets,
-    };
+    let texts = Texts::new(recording, finished, style.offsets);
     let mut writer = Writer {
         data: finished.data(),
         names: &recording.names,
@@ -94,6 +90,25 @@ pub fn listing(
     }
     writer.rest();
     writer.out
+}
+
+/// What finish reports, in one line.
+pub fn record(recording: &Recording, finished: &CodeBufferFinalized) -> String {
+    let long = finished
+        .segments()
+        .iter()
+        .zip(&recording.events)
+        .filter(|(_, event)| matches!(event, LayoutEvent::Jump(_)))
+        .filter(|(segment, _)| segment.new_end - segment.new_start > RelaxableJump::SHORT_LEN)
+        .count();
+    format!(
+        "finished for {}: {}, alignment {}, layouts {}, long jumps {long} of {}",
+        finished.arch(),
+        counted(finished.total_size(), "byte"),
+        finished.alignment(),
+        finished.layouts(),
+        recording.jumps().count()
+    )
 }
 
 /// Some bytes of the finished code that were made for one purpose.
@@ -183,7 +198,8 @@ fn padding_line(arch: Arch) -> usize {
     }
 }
 
-fn padding_text(align: u32, owner: Option<u32>, len: u32, recorded: u32) -> String {
+/// `align 16: 14 bytes of padding, 11 recorded`; `owner` is the pooled constant that it is for.
+pub(crate) fn padding_text(align: u32, owner: Option<u32>, len: u32, recorded: u32) -> String {
     let owner = owner.map_or(String::new(), |constant| {
         format!(" for constant {constant}")
     });
@@ -274,13 +290,25 @@ fn unpatched_text(entry: &Unpatched, arch: Arch) -> String {
 }
 
 /// What rows say.
-struct Texts<'a> {
+pub(crate) struct Texts<'a> {
     recording: &'a Recording,
     finished: &'a CodeBufferFinalized,
     offsets: Radix,
 }
 
-impl Texts<'_> {
+impl<'a> Texts<'a> {
+    pub fn new(
+        recording: &'a Recording,
+        finished: &'a CodeBufferFinalized,
+        offsets: Radix,
+    ) -> Self {
+        Self {
+            recording,
+            finished,
+            offsets,
+        }
+    }
+
     /// A row of some bytes, or of none where they pass the code's end.
     fn row_within(&self, offset: CodeOffset, size: u32, what: String) -> Row {
         let len = self.finished.total_size() as CodeOffset;
@@ -304,7 +332,8 @@ impl Texts<'_> {
         format!("{} at {offset}", self.recording.names.text(label))
     }
 
-    fn jump(&self, jump: &RelaxableJump, start: CodeOffset, end: CodeOffset) -> String {
+    /// `jmp short to label end at 16, distance 14`.
+    pub fn jump(&self, jump: &RelaxableJump, start: CodeOffset, end: CodeOffset) -> String {
         let form = match end - start {
             RelaxableJump::SHORT_LEN => "short",
             _ => "near",

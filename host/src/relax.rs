@@ -34,6 +34,15 @@ pub(crate) fn deciding(segments: &[Segment], offset: CodeOffset) -> Option<usize
         .checked_sub(1)
 }
 
+/// How many events stand before an offset. One that starts at it stands behind, unless it was recorded with no bytes.
+pub(crate) fn events_before(segments: &[Segment], offset: CodeOffset) -> usize {
+    match deciding(segments, offset) {
+        None => 0,
+        Some(event) if offset < segments[event].old_end => event,
+        Some(event) => event + 1,
+    }
+}
+
 /// Moves an offset by the segment that decides.
 pub(crate) fn moved(segment: &Segment, offset: CodeOffset) -> CodeOffset {
     match offset.checked_sub(segment.old_end) {

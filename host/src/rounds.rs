@@ -6,7 +6,7 @@ use std::ops::Range;
 
 use crate::ffi::Segment;
 use crate::recording::{LayoutEvent, Pooled, Recording, RelaxableJump};
-use crate::relax::{deciding, layout, map, moved};
+use crate::relax::{deciding, events_before, layout, map, moved};
 use crate::{CodeBufferFinalized, CodeOffset};
 use sheet_text::counted;
 
@@ -61,11 +61,26 @@ pub struct Round {
     pub len: u32,
 }
 
-/// The rounds of a recording, and where they settle.
+/// `132 bytes; 1 jump becomes long`.
+impl fmt::Display for Round {
+    fn fmt(&self, f: &mut fmt::Formatter<'_>) -> fmt::Result {
+        write!(f, "{}; ", counted(self.len as usize, "byte"))?;
+        match self.lengthened.len() {
+            0 => f.write_str("every short jump reaches: settled"),
+            1 => f.write_str("1 jump becomes long"),
+            many => write!(f, "{many} jumps become long"),
+        }
+    }
+}
+
+/// The rounds of a recording, where they begin and where they settle.
 #[derive(Clone, Debug, Default, PartialEq, Eq)]
 pub struct Rounds {
     rounds: Vec<Round>,
+    first: Vec<Segment>,
     settled: Vec<Segment>,
+    /// The changes of each event.
+    changes: Vec<Vec<Change>>,
 }
 
 impl Rounds {
@@ -80,7 +95,8 @@ impl Rounds {
         }
         let pooled = recording.pooled();
         let mut long = vec![false; pooled.events.len()];
-        let mut short = short_jumps(&pooled);
+        let first = layout(&pooled.events, &long);
+        let mut short = short_jumps(&pooled, &first);
         let mut rounds = Vec::new();
         let mut changes = Changes::new(pooled.events.len());
         let settled = loop {
@@ -99,12 +115,33 @@ impl Rounds {
                 break segments;
             }
         };
-        Self { rounds, settled }
+        Self {
+            rounds,
+            first,
+            settled,
+            changes: changes.of_event,
+        }
     }
 
     /// The rounds in order; the last lengthens nothing.
     pub fn rounds(&self) -> &[Round] {
         &self.rounds
+    }
+
+    /// Where the first round places each event, those of the pool last: every jump short.
+    pub fn first(&self) -> &[Segment] {
+        &self.first
+    }
+
+    /// Where the last round places each event.
+    pub fn settled(&self) -> &[Segment] {
+        &self.settled
+    }
+
+    /// What has another length in a round than in the one before, by events and, of each, by rounds. Of more than 4,194,304 changes those of the
+    /// earliest rounds are kept.
+    pub fn changes(&self) -> impl Iterator<Item = &Change> {
+        self.changes.iter().flatten()
     }
 
     /// Compares with what finish reported: the number of rounds, where every event settled, and the code's length.
@@ -215,7 +252,7 @@ impl ShortJump {
             recorded_target,
             decided_by,
             first_distance: 0,
-            crossed: crossed(event, recorded_target, decided_by, first),
+            crossed: crossed(event, events_before(first, recorded_target)),
         };
         let (target, end) = short.placed(first);
         short.first_distance = distance(target, end);
@@ -246,17 +283,7 @@ impl ShortJump {
 }
 
 /// The events between a jump and its label.
-fn crossed(
-    jump: usize,
-    target: CodeOffset,
-    decided_by: Option<usize>,
-    segments: &[Segment],
-) -> Range<usize> {
-    let first_behind_label = match decided_by {
-        None => 0,
-        Some(event) if target < segments[event].old_end => event,
-        Some(event) => event + 1,
-    };
+fn crossed(jump: usize, first_behind_label: usize) -> Range<usize> {
     if first_behind_label > jump {
         jump + 1..first_behind_label
     } else {
@@ -269,15 +296,14 @@ fn distance(target: CodeOffset, end: CodeOffset) -> i64 {
 }
 
 /// Every jump. Which event decides on a label's offset depends on recorded offsets alone, so it is looked for once.
-fn short_jumps(pooled: &Pooled) -> Vec<ShortJump> {
-    let segments = layout(&pooled.events, &vec![false; pooled.events.len()]);
+fn short_jumps(pooled: &Pooled, first: &[Segment]) -> Vec<ShortJump> {
     let events = pooled.events.iter().enumerate();
     events
         .filter_map(|(event, entry)| match entry {
             LayoutEvent::Jump(jump) => Some((event, *jump)),
             LayoutEvent::Align { .. } => None,
         })
-        .map(|(event, jump)| ShortJump::new(event, jump, pooled, &segments))
+        .map(|(event, jump)| ShortJump::new(event, jump, pooled, first))
         .collect()
 }
 

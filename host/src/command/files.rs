@@ -11,31 +11,25 @@ use super::options::{Options, file_text, is_dash};
 
 /// What is wrong with where the outputs are to go, before anything is read.
 pub fn check(options: &Options) -> Result<(), Failure> {
-    let outputs = [
-        ("-o", &options.output),
-        ("--write-sheet", &options.write_sheet),
-    ];
-    let named = outputs
-        .iter()
-        .filter_map(|(option, path)| Some((option, path.as_ref()?)));
-    for (option, path) in named.clone() {
+    let outputs = options.outputs();
+    let named: Vec<(&str, &Path)> = outputs
+        .into_iter()
+        .filter_map(|(option, path)| Some((option, path?)))
+        .collect();
+    let unusable = |sentence| Failure::unusable(format!("{sentence}; nothing is written"));
+    for (i, (option, path)) in named.iter().enumerate() {
+        let file = file_text(path.as_os_str());
         if !options.is_standard_input() && is_same(path, Path::new(&options.file)) {
-            let file = file_text(path.as_os_str());
-            return Err(Failure::unusable(format!(
-                "{option} names {file}, which is the sheet itself; nothing is written"
+            return Err(unusable(format!(
+                "{option} names {file}, which is the sheet itself"
             )));
         }
-    }
-    let paths: Vec<&PathBuf> = named.map(|(_, path)| path).collect();
-    match paths[..] {
-        [code, sheet] if is_same(code, sheet) => {
-            let file = file_text(code.as_os_str());
-            Err(Failure::unusable(format!(
-                "-o and --write-sheet both name {file}; nothing is written"
-            )))
+        let mut others = named[..i].iter();
+        if let Some((other, _)) = others.find(|(_, other)| is_same(other, path)) {
+            return Err(unusable(format!("{other} and {option} both name {file}")));
         }
-        _ => Ok(()),
     }
+    Ok(())
 }
 
 /// Whether two names stand for one file.

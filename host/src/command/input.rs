@@ -276,10 +276,21 @@ impl Input {
         calls.filter(move |(_, call)| wanted(call)).map(|(i, _)| i)
     }
 
-    /// The call that made each event of a recording that keeps events.
+    /// The call that made each event of the recording, its alignments noted.
     pub fn event_calls(&self) -> Vec<usize> {
-        let makes_event = |call: &Call| matches!(call, Call::Jump { .. } | Call::Align(_));
+        let keeps_jumps = self.arch.tracks_layout();
+        let makes_event = |call: &Call| match call {
+            Call::Jump { .. } => keeps_jumps,
+            Call::Align(_) => true,
+            _ => false,
+        };
         self.calls_where(makes_event).collect()
+    }
+
+    /// Where each event of the recording comes from.
+    pub fn event_places(&self) -> Vec<String> {
+        let calls = self.event_calls().into_iter();
+        calls.map(|call| self.where_is(call)).collect()
     }
 }
 

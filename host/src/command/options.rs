@@ -1,7 +1,7 @@
 //! The command line's options.
 
 use std::ffi::{OsStr, OsString};
-use std::path::PathBuf;
+use std::path::{Path, PathBuf};
 
 use sheet_text::{escaped, shown};
 use wargnifla::{Arch, Extent, Radix, Style};
@@ -13,6 +13,7 @@ Records a sheet of calls, finishes it, and shows the code. FILE is a sheet in te
 
   -o FILE                  write the finished code; to - it goes to standard output, in the place of the listing
   --write-sheet FILE       write the calls as a binary sheet, or to -
+  --picture FILE           write a page for a browser that draws the rounds to scale, step by step, or to -
   --arch x86|x64|aarch64   the architecture, whatever the sheet says (x64 if neither says)
   --symbols N              how many symbols there are, whatever the sheet says (as many as it names if neither says)
   --rounds                 show what each round of relaxation lengthened, and why
@@ -45,6 +46,7 @@ pub struct Options {
     pub file: OsString,
     pub output: Option<PathBuf>,
     pub write_sheet: Option<PathBuf>,
+    pub picture: Option<PathBuf>,
     pub arch: Option<Arch>,
     pub symbols: Option<u32>,
     pub rounds: bool,
@@ -60,6 +62,14 @@ impl Options {
             "standard input".into()
         } else {
             file_text(&self.file)
+        }
+    }
+
+    /// What a page about the file is called: its name without the folders.
+    pub fn title(&self) -> String {
+        match Path::new(&self.file).file_name() {
+            Some(name) if !self.is_standard_input() => file_text(name),
+            _ => self.file_name(),
         }
     }
 
@@ -80,13 +90,19 @@ impl Options {
         }
     }
 
+    /// Where code, sheet and page are to go, by the options that say so.
+    pub fn outputs(&self) -> [(&'static str, Option<&Path>); 3] {
+        [
+            ("-o", self.output.as_deref()),
+            ("--write-sheet", self.write_sheet.as_deref()),
+            ("--picture", self.picture.as_deref()),
+        ]
+    }
+
     /// Whether an output takes the listing's place on standard output.
     pub fn writes_standard_output(&self) -> bool {
-        let outputs = [&self.output, &self.write_sheet];
-        outputs
-            .into_iter()
-            .flatten()
-            .any(|path| is_dash(path.as_os_str()))
+        let mut paths = self.outputs().into_iter().filter_map(|(_, path)| path);
+        paths.any(|path| is_dash(path.as_os_str()))
     }
 }
 
@@ -118,6 +134,7 @@ pub fn parse(arguments: impl IntoIterator<Item = OsString>) -> Result<Request, S
             "--write-sheet" => {
                 options.write_sheet = Some(value("--write-sheet", arguments.next())?.into());
             }
+            "--picture" => options.picture = Some(value("--picture", arguments.next())?.into()),
             "--arch" => options.arch = Some(arch(&value("--arch", arguments.next())?)?),
             "--symbols" => {
                 options.symbols = Some(symbols(&value("--symbols", arguments.next())?)?);
@@ -176,12 +193,12 @@ mod tests {
 
     #[test]
     fn reads_every_option() {
-        let all =
-            "--arch X86 --symbols 3 --rounds --full --hex --text -o out --write-sheet sheet in";
+        let all = "--arch X86 --symbols 3 --rounds --full --hex --text -o out --write-sheet sheet --picture page in";
         let expected = Options {
             file: "in".into(),
             output: Some("out".into()),
             write_sheet: Some("sheet".into()),
+            picture: Some("page".into()),
             arch: Some(Arch::X86),
             symbols: Some(3),
             rounds: true,

@@ -1,12 +1,9 @@
-//! What is printed beside the listing: labels, relocations, the record.
+//! What is printed beside the listing: labels and relocations.
 
 use std::fmt::Write;
 
-use sheet_text::{counted, shown};
-use wargnifla::{
-    CodeBufferFinalized, Extent, Label, LayoutEvent, Recording, RelaxableJump, RelocTarget, Style,
-    UNBOUND,
-};
+use sheet_text::shown;
+use wargnifla::{CodeBufferFinalized, Extent, Label, Recording, RelocTarget, Style, UNBOUND};
 
 /// Lines that a table may have before it is cut.
 pub const MOST_LINES: usize = 32;
@@ -76,23 +73,4 @@ pub fn relocations(recording: &Recording, finished: &CodeBufferFinalized, style:
         .collect();
     let head = "recorded     final  what";
     table("relocations", head, &lines, style.extent)
-}
-
-/// What finish reports, in one line.
-pub fn record(recording: &Recording, finished: &CodeBufferFinalized) -> String {
-    let long = finished
-        .segments()
-        .iter()
-        .zip(&recording.events)
-        .filter(|(_, event)| matches!(event, LayoutEvent::Jump(_)))
-        .filter(|(segment, _)| segment.new_end - segment.new_start > RelaxableJump::SHORT_LEN)
-        .count();
-    format!(
-        "\nfinished for {}: {}, alignment {}, layouts {}, long jumps {long} of {}\n",
-        finished.arch(),
-        counted(finished.total_size(), "byte"),
-        finished.alignment(),
-        finished.layouts(),
-        recording.jumps().count()
-    )
 }

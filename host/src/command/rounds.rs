@@ -55,13 +55,7 @@ impl<'a> RoundsReport<'a> {
     }
 
     fn round(&self, out: &mut String, number: usize, round: &Round) {
-        let outcome = match round.lengthened.len() {
-            0 => "every short jump reaches: settled".into(),
-            1 => "1 jump becomes long".into(),
-            many => format!("{many} jumps become long"),
-        };
-        let len = counted(round.len as usize, "byte");
-        let _ = writeln!(out, "{number:>8}  {len}; {outcome}");
+        let _ = writeln!(out, "{number:>8}  {round}");
         let shown = self.shown(round.lengthened.len());
         for step in &round.lengthened[..shown] {
             self.step(out, step);

@@ -1,0 +1,144 @@
+//! A page that shows how finish relaxed the jumps of a recording, round by round: one HTML file that takes nothing from elsewhere. The numbers are
+//! those of [`Rounds`]; the scripts beside this file only draw and word them.
+
+mod data;
+mod markup;
+mod parts;
+mod still;
+mod table;
+
+use crate::ffi::Segment;
+use crate::listing::record;
+use crate::recording::{LayoutEvent, Pooled, Recording};
+use crate::{CodeBufferFinalized, Rounds, Style};
+use data::data;
+use markup::escaped;
+
+const STYLE: &str = include_str!("picture/page.css");
+
+/// The scripts, in the order of the page.
+const SCRIPTS: [&str; 4] = [
+    include_str!("picture/layout.js"),
+    include_str!("picture/draw.js"),
+    include_str!("picture/say.js"),
+    include_str!("picture/page.js"),
+];
+
+/// What a page is made of.
+///
+/// ```
+/// use wargnifla::{Arch, CodeBuffer, Picture, RelaxableJump, Rounds, Style};
+///
+/// # fn main() -> Result<(), wargnifla::Error> {
+/// let mut buffer = CodeBuffer::new(Arch::X64);
+/// let end = buffer.get_label()?;
+/// buffer.put_bytes(&[0; 5])?;
+/// buffer.record_relaxable_jump(RelaxableJump { start: 0, len: 5, label: end, cc: None })?;
+/// buffer.put_bytes(&[0x90; 128])?;
+/// buffer.try_bind_label(end)?;
+/// let recording = buffer.recording();
+/// let finished = buffer.finish()?;
+/// let picture = Picture {
+///     title: "a jump over 128 bytes",
+///     recording: &recording,
+///     recorded: buffer.data(),
+///     rounds: &Rounds::new(&recording),
+///     finished: &finished,
+///     places: &[],
+///     style: Style::default(),
+/// };
+/// assert!(picture.page().starts_with("<!DOCTYPE html>"));
+/// # Ok(())
+/// # }
+/// ```
+#[derive(Clone, Copy, Debug)]
+pub struct Picture<'a> {
+    /// What the page is called.
+    pub title: &'a str,
+    /// The recording as it was before finish.
+    pub recording: &'a Recording,
+    /// The bytes that were recorded; finish leaves them as they are.
+    pub recorded: &'a [u8],
+    /// The rounds of the recording.
+    pub rounds: &'a Rounds,
+    /// What finish made of it.
+    pub finished: &'a CodeBufferFinalized,
+    /// Where each event of the recording comes from, such as `line 6`; empty if nothing is to be said of that.
+    pub places: &'a [String],
+    /// How offsets are written, and whether the table of bytes is cut.
+    pub style: Style,
+}
+
+impl Picture<'_> {
+    /// The page, as the text of an HTML file.
+    ///
+    /// # Panics
+    ///
+    /// May panic if recording, rounds and finished code do not belong together.
+    #[must_use]
+    pub fn page(&self) -> String {
+        let placed = Placed::new(self);
+        format!(
+            include_str!("picture/page.html"),
+            title = escaped(self.title),
+            style = STYLE,
+            record = escaped(&record(self.recording, self.finished)),
+            notes = self.notes(),
+            still = still::still(&placed),
+            table = table::table(self, &placed),
+            data = data(self, &placed),
+            scripts = SCRIPTS.concat(),
+        )
+    }
+
+    /// What a reader should know before the first look.
+    fn notes(&self) -> String {
+        let mut notes = Vec::new();
+        if !self.recording.has_jump() {
+            notes.push("Nothing was relaxed: there is no jump to relax.".into());
+        }
+        let unpatched = self.finished.unpatched().iter();
+        match unpatched.filter(|entry| !entry.filled).count() {
+            0 => {}
+            1 => notes.push("1 jump or field was recorded and is not in the code.".into()),
+            many => notes.push(format!(
+                "{many} jumps and fields were recorded and are not in the code."
+            )),
+        }
+        let paragraph = |note: String| format!("<p class=\"note\">{}</p>\n", escaped(&note));
+        notes.into_iter().map(paragraph).collect()
+    }
+}
+
+/// A recording with its pool, and where each event comes to stand.
+struct Placed {
+    pooled: Pooled,
+    segments: Vec<Segment>,
+    /// Bytes of finished code.
+    len: u32,
+}
+
+impl Placed {
+    fn new(picture: &Picture<'_>) -> Self {
+        let pooled = picture.recording.pooled();
+        let segments = match picture.finished.segments() {
+            [] => pooled.events.iter().map(as_recorded).collect(),
+            settled => settled.to_vec(),
+        };
+        Self {
+            pooled,
+            segments,
+            len: picture.finished.total_size() as u32,
+        }
+    }
+}
+
+/// Where an event stands if nothing moves.
+fn as_recorded(event: &LayoutEvent) -> Segment {
+    Segment {
+        old_start: event.start(),
+        old_end: event.end(),
+        new_start: event.start(),
+        new_end: event.end(),
+    }
+}

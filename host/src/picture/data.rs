@@ -1,0 +1,200 @@
+//! What the scripts draw from, as JSON: events and labels as recorded, then of each round what it changed.
+
+use super::markup::{array, string};
+use super::parts::place;
+use super::{Picture, Placed};
+use crate::ffi::Segment;
+use crate::listing::Radix;
+use crate::recording::{LabelNames, LayoutEvent};
+use crate::rounds::{Change, Round, Rounds};
+use crate::{CodeOffset, Label, LabelUse, UNBOUND};
+use sheet_text::{counted, shown};
+
+/// Rounds and changes that a page may have before the rounds between are left out.
+const MOST_ROUNDS: usize = 4_096;
+const MOST_CHANGES: usize = 131_072;
+
+/// An object for the scripts; layout.js says what its entries are.
+pub fn data(picture: &Picture<'_>, placed: &Placed) -> String {
+    let kept = kept_rounds(picture.rounds);
+    let hex = picture.style.offsets == Radix::Hexadecimal;
+    let first = picture.rounds.first().iter().map(length);
+    let entries = [
+        ("hex", hex.to_string()),
+        ("recorded", string(&recorded_text(picture, placed))),
+        ("finished", string(&finished_text(placed))),
+        ("code", picture.recording.code_len.to_string()),
+        ("len", placed.pooled.len.to_string()),
+        ("events", events(picture, placed)),
+        ("labels", labels(picture, placed)),
+        ("constants", constants(placed)),
+        ("fields", fields(picture, placed)),
+        ("first", array(first)),
+        ("rounds", rounds(picture.rounds, kept)),
+        ("of", picture.rounds.rounds().len().to_string()),
+    ];
+    let entries = entries.map(|(name, value)| format!("\"{name}\":{value}"));
+    format!("{{{}}}", entries.join(","))
+}
+
+fn recorded_text(picture: &Picture<'_>, placed: &Placed) -> String {
+    let code = picture.recording.code_len;
+    let pool = match placed.pooled.len - code {
+        0 => String::new(),
+        pool => format!(", and {} of pool behind", counted(pool as usize, "byte")),
+    };
+    let jumps = picture.recording.jumps().count();
+    let alignments = picture.recording.events.len() - jumps;
+    format!(
+        "as recorded: {}, {}, {}{pool}",
+        counted(code as usize, "byte"),
+        counted(jumps, "jump"),
+        counted(alignments, "alignment")
+    )
+}
+
+fn finished_text(placed: &Placed) -> String {
+    format!("finished: {}", counted(placed.len as usize, "byte"))
+}
+
+/// `["jmp", start, length, label, "line 6"]`; the label of an alignment is -1.
+fn events(picture: &Picture<'_>, placed: &Placed) -> String {
+    let own = picture.recording.events.len();
+    array(placed.pooled.events.iter().enumerate().map(|(i, event)| {
+        let label = match event {
+            LayoutEvent::Jump(jump) => jump.label.id().to_string(),
+            LayoutEvent::Align { .. } => "-1".into(),
+        };
+        let mut what = event.mnemonic();
+        if let Some(pool) = i.checked_sub(own) {
+            let constant = placed.pooled.constants[pool].constant.id();
+            what += &format!(" for constant {constant}");
+        }
+        let len = event.end() - event.start();
+        let place = picture.places.get(i).map_or("", String::as_str);
+        array([
+            string(&what),
+            event.start().to_string(),
+            len.to_string(),
+            label,
+            string(place),
+        ])
+    }))
+}
+
+/// `[events before, bytes behind them, name]`, without a name if it has none; 0 if it is not bound.
+fn labels(picture: &Picture<'_>, placed: &Placed) -> String {
+    let labels = (0..).zip(&placed.pooled.labels);
+    array(labels.map(|(label, offset)| match *offset {
+        UNBOUND => "0".into(),
+        offset => {
+            let (before, past) = place(&placed.segments, offset);
+            let mut entries = vec![before.to_string(), past.to_string()];
+            entries.extend(name(&picture.recording.names, label));
+            array(entries)
+        }
+    }))
+}
+
+fn name(names: &LabelNames, label: u32) -> Option<String> {
+    let name = names.get(Label::from_id(label))?;
+    Some(string(&shown(name)))
+}
+
+/// `[constant, label, size]`, in the order of their alignments.
+fn constants(placed: &Placed) -> String {
+    let constants = placed.pooled.constants.iter();
+    array(constants.map(|entry| array([entry.constant.id(), entry.label.id(), entry.size])))
+}
+
+/// `[events before, bytes behind them, size, label, kind]` of each field that finish filled.
+fn fields(picture: &Picture<'_>, placed: &Placed) -> String {
+    let entry = |offset: CodeOffset, kind: LabelUse, label: Label| {
+        let (before, past) = place(&placed.segments, offset);
+        array([
+            before.to_string(),
+            past.to_string(),
+            kind.patch_size().to_string(),
+            label.id().to_string(),
+            string(&kind.to_string()),
+        ])
+    };
+    let recording = picture.recording;
+    if recording.has_jump() {
+        let refs = recording.refs.iter();
+        array(refs.map(|field| entry(field.offset, field.kind, field.label)))
+    } else {
+        let uses = recording.uses.iter();
+        array(uses.map(|field| entry(field.offset, field.kind, field.label)))
+    }
+}
+
+fn length(segment: &Segment) -> u32 {
+    segment.new_end - segment.new_start
+}
+
+/// How many rounds are kept from the first on, beside the last.
+fn kept_rounds(rounds: &Rounds) -> usize {
+    let count = rounds.rounds().len();
+    let mut changes = vec![0; count + 1];
+    for change in rounds.changes() {
+        changes[change.round as usize] += 1;
+    }
+    let mut sum = 0;
+    let kept = (1..=count).take_while(|round| {
+        sum += changes[*round];
+        sum <= MOST_CHANGES && *round <= MOST_ROUNDS
+    });
+    kept.count()
+}
+
+/// `[number, sentence, [event, by, ..], [event, ..]]`: what has another length than in the entry before, and what becomes long.
+fn rounds(rounds: &Rounds, kept: usize) -> String {
+    let all = rounds.rounds();
+    let mut changes: Vec<Vec<Change>> = vec![Vec::new(); kept + 1];
+    for change in rounds.changes() {
+        if let Some(of_round) = changes.get_mut(change.round as usize) {
+            of_round.push(*change);
+        }
+    }
+    let mut entries: Vec<String> = (1..=kept)
+        .map(|number| entry(number, &all[number - 1], &changes[number]))
+        .collect();
+    if kept < all.len() {
+        let last = changes_up_to_the_end(rounds, kept);
+        entries.push(entry(all.len(), &all[all.len() - 1], &last));
+    }
+    array(entries)
+}
+
+fn entry(number: usize, round: &Round, changes: &[Change]) -> String {
+    let changes = changes
+        .iter()
+        .flat_map(|change| [change.event.to_string(), change.by.to_string()]);
+    array([
+        number.to_string(),
+        string(&round.to_string()),
+        array(changes),
+        array(round.lengthened.iter().map(|step| step.event)),
+    ])
+}
+
+/// What the last round has otherwise than one before it, as if the rounds between were one.
+fn changes_up_to_the_end(rounds: &Rounds, from: usize) -> Vec<Change> {
+    let mut lengths: Vec<i64> = rounds.first().iter().map(|s| length(s).into()).collect();
+    for change in rounds
+        .changes()
+        .filter(|change| change.round as usize <= from)
+    {
+        lengths[change.event] += i64::from(change.by);
+    }
+    let settled = rounds.settled().iter().zip(lengths).enumerate();
+    settled
+        .map(|(event, (segment, before))| Change {
+            event,
+            round: rounds.rounds().len() as u32,
+            by: (i64::from(length(segment)) - before) as i32,
+        })
+        .filter(|change| change.by != 0)
+        .collect()
+}

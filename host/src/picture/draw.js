@@ -1,0 +1,251 @@
+// The strip of one step, drawn to scale.
+
+const MARGIN = 30;
+const STRIP = 36;
+const LETTER = 6.6;
+const WITH_FIELDS = new Set(DATA.fields.map(([before]) => before));
+const NAME_ROWS = 3;
+const MOST_NAMES = 60;
+const ROW = 15;
+const ABOVE = jumps().some(isAhead) ? 150 : 8;
+const BELOW = jumps().some(jump => !isAhead(jump)) ? 110 : 0;
+const TOP = 12 + ABOVE;
+const BOTTOM = TOP + STRIP;
+const BACK = BOTTOM + 36;
+const NAMES = BACK + BELOW + 16;
+const HEIGHT = NAMES + NAME_ROWS * ROW;
+
+// A part of the strip: pixels of a byte, the first pixel in view, and how many are.
+function frame(scale, left, width) {
+    const x = byte => MARGIN + byte * scale - left;
+    return { scale, left, width, x, shows: (from, to) => to >= -40 && from <= width + 40 };
+}
+
+// Draws what a frame shows. Every element that can be chosen says by data-pick what it stands for.
+class Drawing {
+    constructor(svg, layout, frame) {
+        this.svg = svg;
+        this.layout = layout;
+        this.frame = frame;
+        this.seen = new Set();
+        this.bottom = NAMES;
+        svg.replaceChildren();
+        this.ground();
+        this.runs();
+        this.fields();
+        this.constants();
+        this.labels();
+        this.axis();
+        this.events();
+        this.badges();
+        this.overlay = this.add("g", { class: "overlay" });
+    }
+
+    // How high the drawing is must be said once it stands; on the screen it is the same in all steps.
+    size(height) {
+        this.svg.setAttribute("viewBox", `0 0 ${this.frame.width} ${height}`);
+    }
+
+    add(name, attributes, parent = this.svg, text = null) {
+        const element = document.createElementNS(this.svg.namespaceURI, name);
+        for (const [key, value] of Object.entries(attributes)) element.setAttribute(key, value);
+        if (text !== null) element.textContent = text;
+        parent.append(element);
+        return element;
+    }
+
+    // A group that can be chosen by pointer and by keyboard.
+    choice(pick, kind, name) {
+        return this.add("g", { class: `choice ${kind}`, "data-pick": pick, tabindex: 0, role: "button", "aria-label": name });
+    }
+
+    // Whether nothing like this was drawn at the same pixels: where bytes are narrow, what falls together is drawn once.
+    isNew(...key) {
+        const text = key.join(" ");
+        const isNew = !this.seen.has(text);
+        this.seen.add(text);
+        return isNew;
+    }
+
+    ground() {
+        const { x, width } = this.frame;
+        const from = Math.max(x(0), -10), to = Math.min(x(this.layout.len), width + 10);
+        if (to > from) this.add("rect", { class: "block run", x: from, y: TOP, width: to - from, height: STRIP });
+    }
+
+    // How long the runs between events are, but for those that have fields.
+    runs() {
+        let end = 0;
+        for (let event = 0; event <= POOL; event++) {
+            const start = event < EVENTS.length ? this.layout.start(event) : this.layout.len;
+            if (!WITH_FIELDS.has(event)) this.inside(end, start, count(start - end, "byte"), "quiet");
+            end = this.layout.ends[event];
+        }
+    }
+
+    // Text in the middle of what is in view of some bytes, if it has room.
+    inside(from, to, text, kind, parent = this.svg) {
+        const { x, width } = this.frame;
+        const left = Math.max(x(from), 0), right = Math.min(x(to), width);
+        if (right - left < text.length * LETTER + 6) return;
+        this.add("text", { class: `inside ${kind}`, x: (left + right) / 2, y: TOP + STRIP / 2 + 4 }, parent, text);
+    }
+
+    axis() {
+        const { x, scale, width, left } = this.frame;
+        let step = 1;
+        while (step * scale < 64) step *= 2;
+        const first = Math.max(0, Math.floor((left - MARGIN - 40) / scale / step)) * step;
+        for (let byte = first; byte <= this.layout.len && x(byte) < width + 40; byte += step) {
+            this.add("path", { class: "axis", d: `M${x(byte)} ${BOTTOM}v4` });
+            this.add("text", { class: "axis", x: x(byte), y: BOTTOM + 29 }, this.svg, offset(byte));
+        }
+    }
+
+    block(kind, from, to, parent) {
+        const { x } = this.frame;
+        const wide = x(to) - x(from), width = wide > 5 ? wide - 1 : Math.max(wide, 1);
+        this.add("rect", { class: `block ${kind}`, x: x(from), y: TOP, width, height: STRIP }, parent);
+    }
+
+    fields() {
+        for (const [before, past, size, label, kind] of DATA.fields) {
+            const from = this.layout.at(before, past), { x, shows } = this.frame;
+            if (!shows(x(from), x(from + size)) || !this.isNew("field", Math.round(x(from)))) continue;
+            const group = this.add("g", { class: "field" });
+            this.block("field", from, from + size, group);
+            this.add("title", {}, group, `${kind} at ${offset(from)}: ${labelText(label)}`);
+        }
+    }
+
+    constants() {
+        DATA.constants.forEach(([number, , size], index) => {
+            const from = this.layout.ends[POOL + index], { x, shows } = this.frame;
+            if (!shows(x(from), x(from + size)) || !this.isNew("constant", Math.round(x(from)))) return;
+            this.block("constant", from, from + size, this.svg);
+            this.inside(from, from + size, `constant ${number}`, "reversed");
+        });
+    }
+
+    labels() {
+        const { x, shows } = this.frame;
+        const bound = [...DATA.labels.keys()].filter(label => DATA.labels[label] !== 0);
+        const placed = bound.map(label => [this.layout.label(label), label]).filter(([at]) => shows(x(at), x(at)));
+        // Where there are too many to name, one row names some of them.
+        const isCrowded = placed.length > MOST_NAMES;
+        const rows = Array(isCrowded ? 1 : NAME_ROWS).fill(-Infinity), room = isCrowded ? 30 : 5;
+        for (const [at, label] of placed.sort((a, b) => a[0] - b[0])) {
+            const half = labelName(label).length * LETTER / 2 + room;
+            const row = rows.findIndex(end => end < x(at) - half);
+            if (row >= 0) rows[row] = x(at) + half;
+            if (row >= 0 || !isCrowded) this.label(label, at, row);
+        }
+    }
+
+    // A label's tick, with its name if it has a row.
+    label(label, at, row) {
+        const { x } = this.frame, y = NAMES + row * ROW, bottom = row < 0 ? BOTTOM + 8 : y - 11;
+        const group = this.choice(`label${label}`, "label", `${labelText(label)} at ${offset(at)}`);
+        this.add("path", { class: "tick", d: `M${x(at)} ${TOP - 4}V${bottom}` }, group);
+        this.add("path", { class: "hit", d: `M${x(at)} ${TOP}V${bottom}` }, group);
+        this.push(label, at, group);
+        if (row < 0) return;
+        this.add("text", { class: "name", x: x(at), y }, group, labelName(label));
+        this.bottom = Math.max(this.bottom, y + 6);
+    }
+
+    // An arrow from where a label stood in the round before.
+    push(label, at, group) {
+        const { x, scale } = this.frame, by = this.layout.pushed(label);
+        if (this.layout.step < 2 || Math.abs(by) * scale < 6) return;
+        const from = x(at - by), tip = by > 0 ? -5 : 5;
+        this.add("path", { class: "ghost", d: `M${from} ${TOP}V${BOTTOM}` }, group);
+        this.add("path", { class: "push", d: `M${from} ${BOTTOM - 7}H${x(at)}m${tip} -4l${-tip} 4l${tip} 4` }, group);
+    }
+
+    events() {
+        EVENTS.forEach((event, index) => event.isJump ? this.jump(index) : this.padding(index));
+    }
+
+    padding(index) {
+        const { x, shows } = this.frame, start = this.layout.start(index), end = this.layout.ends[index];
+        const kind = this.layout.changed(index) ? "padding changed" : "padding";
+        if (!shows(x(start), x(end)) || !this.isNew(kind, Math.round(x(start)), Math.round(x(end)))) return;
+        const group = this.choice(`event${index}`, "event", `${eventText(index)}, ${count(end - start, "byte")} of padding`);
+        if (start === end) {
+            this.add("path", { class: `empty ${kind}`, d: `M${x(start) - 4} ${TOP - 1}h8l-4 7z` }, group);
+            return;
+        }
+        this.block(kind, start, end, group);
+        this.inside(start, end, `${end - start}`, "plain", group);
+    }
+
+    jump(index) {
+        const { x, shows } = this.frame, state = this.layout.state(index);
+        const start = this.layout.start(index), end = this.layout.ends[index], target = this.layout.label(EVENTS[index].label);
+        const from = x(end), to = x(target);
+        if (!shows(Math.min(x(start), from, to), Math.max(from, to))) return;
+        if (!this.isNew(state, Math.round(from), Math.round(to))) return;
+        const group = this.choice(`event${index}`, `event ${state}`, `${eventText(index)}, ${stateText(state)}, to ${labelText(EVENTS[index].label)}`);
+        this.block(`jump ${state}`, start, end, group);
+        this.inside(start, end, EVENTS[index].what, "strong", group);
+        const path = isAhead(index) ? arcAbove(index, from, to) : arcBelow(index, from, to);
+        this.add("path", { class: `arc ${state}`, d: path }, group);
+        this.add("path", { class: "hit", d: path }, group);
+        const edge = isAhead(index) ? TOP : BOTTOM, away = isAhead(index) ? -1 : 1;
+        if (this.frame.scale >= 0.5) this.add("path", { class: `head ${state}`, d: `M${to} ${edge}l-4 ${7 * away}h8z` }, group);
+        if (state === "grown") this.add("path", { class: "mark", d: `M${from} ${edge + 7 * away - 6}l5 6l-5 6l-5 -6z` }, group);
+    }
+
+    // By how much events are longer or shorter than in the step before.
+    badges() {
+        const { x, shows } = this.frame;
+        let last = -Infinity;
+        for (const [event, by] of [...this.layout.current.changes].sort((a, b) => a[0] - b[0])) {
+            const middle = (x(this.layout.start(event)) + x(this.layout.ends[event])) / 2;
+            const text = by > 0 ? `+${by}` : `\u2212${-by}`, half = text.length * LETTER / 2 + 2;
+            if (!shows(middle, middle) || middle - half < last) continue;
+            last = middle + half;
+            this.add("text", { class: "badge", x: middle, y: BOTTOM + 14 }, this.svg, text);
+        }
+    }
+
+    // Shows what is chosen: what belongs to it stands out, and the reach of a short jump lies over the strip.
+    choose(pick, belongs) {
+        this.svg.classList.toggle("choosing", pick !== null);
+        for (const element of this.svg.querySelectorAll(".choice")) {
+            element.classList.toggle("on", belongs.has(element.dataset.pick));
+            element.classList.toggle("chosen", element.dataset.pick === pick);
+        }
+        this.overlay.replaceChildren();
+        const event = eventOf(pick);
+        if (event === null || !EVENTS[event].isJump) return;
+        if (["short", "grown"].includes(this.layout.state(event))) this.reach(this.layout.ends[event]);
+    }
+
+    reach(end) {
+        const { x, width } = this.frame;
+        const from = x(end + FARTHEST_BACK), to = x(end + FARTHEST_AHEAD);
+        const left = Math.max(from, -10), right = Math.min(to, width + 10);
+        this.add("rect", { class: "reach", x: left, y: TOP - 3, width: Math.max(right - left, 0), height: STRIP + 6 }, this.overlay);
+        this.add("path", { class: "reach-end", d: `M${from} ${TOP - 6}V${BOTTOM + 17}M${to} ${TOP - 6}V${BOTTOM + 17}` }, this.overlay);
+        this.add("text", { class: "reach-text back", x: to - 4, y: BOTTOM + 16 }, this.overlay, `reach ends: ${FARTHEST_AHEAD}`);
+        this.add("text", { class: "reach-text", x: from + 4, y: BOTTOM + 16 }, this.overlay, `reach ends: \u2212${-FARTHEST_BACK}`);
+    }
+}
+
+// Farther arcs are higher, up to what there is room for. Neighbours differ a little, so that one does not hide the other.
+function rise(jump, from, to, room) {
+    const far = 1 - Math.exp(-Math.abs(to - from) / (1.5 * room));
+    return 14 + (room - 14) * far * (1 - 0.09 * (jump % 4));
+}
+
+function arcAbove(jump, from, to) {
+    const top = TOP - rise(jump, from, to, ABOVE) * 4 / 3;
+    return `M${from} ${TOP}C${from} ${top} ${to} ${top} ${to} ${TOP}`;
+}
+
+function arcBelow(jump, from, to) {
+    const bottom = BACK + rise(jump, from, to, BELOW) * 4 / 3;
+    return `M${from} ${BOTTOM}V${BACK}C${from} ${bottom} ${to} ${bottom} ${to} ${BACK}V${BOTTOM}`;
+}

@@ -1,0 +1,153 @@
+"use strict";
+
+// What the page shows, and where everything stands in each step. All numbers come from the program that wrote the page; this only adds them up.
+//
+// hex        whether offsets are hexadecimal
+// recorded   the sentence of the first step
+// finished   the sentence of the last step
+// code, len  bytes recorded, without and with the pool
+// events     [what, start, length, label or -1, where it comes from], those of the pool last
+// labels     [events before it, bytes behind them, name], or 0 if it is not bound
+// constants  [number, label, size], one for each event of the pool
+// fields     [events before it, bytes behind them, size, label, kind]
+// first      the length of each event in round 1
+// rounds     [number, sentence, [event, by how much longer than in the entry before, ..], [event that becomes long, ..]]
+// of         how many rounds there were
+const DATA = JSON.parse(document.getElementById("data").textContent);
+
+const SHORT = 2;
+const FARTHEST_BACK = -128;
+const FARTHEST_AHEAD = 127;
+
+const EVENTS = DATA.events.map(([what, start, length, label, place], index) => ({
+    what, start, length, label, place,
+    isJump: label >= 0,
+    gap: start - (index > 0 ? DATA.events[index - 1][1] + DATA.events[index - 1][2] : 0),
+    changes: [],
+    lengthened: 0,
+}));
+const POOL = EVENTS.length - DATA.constants.length;
+const TAIL = EVENTS.reduce((rest, event) => rest - event.gap - event.length, DATA.len);
+const STEPS = steps();
+const LONGEST = longest();
+
+// As recorded, every round, finished. A step's changes lead to it from the step before.
+function steps() {
+    const all = [{ sentence: DATA.recorded, changes: new Map(), grown: new Set(), left: 0 }];
+    let last = 0;
+    for (const [number, sentence, flat, grown] of DATA.rounds) {
+        const changes = last === 0 ? fromRecorded() : pairs(flat);
+        const left = number - last - 1;
+        all.push({ number, sentence: `round ${number} of ${DATA.of}: ${sentence}`, changes, grown: new Set(grown), left });
+        for (const event of grown) EVENTS[event].lengthened = number;
+        if (last > 0) for (const [event, by] of changes) EVENTS[event].changes.push({ event, by, round: number, left });
+        last = number;
+    }
+    all.push({ sentence: DATA.finished, changes: new Map(), grown: new Set(), left: 0 });
+    return all;
+}
+
+function fromRecorded() {
+    const changes = EVENTS.map((event, index) => [index, DATA.first[index] - event.length]);
+    return new Map(changes.filter(([, by]) => by !== 0));
+}
+
+function pairs(flat) {
+    const map = new Map();
+    for (let i = 0; i < flat.length; i += 2) map.set(flat[i], flat[i + 1]);
+    return map;
+}
+
+// The most bytes of any step, so that all steps have one scale.
+function longest() {
+    let len = DATA.len, most = DATA.len;
+    for (const step of STEPS) {
+        for (const by of step.changes.values()) len += by;
+        most = Math.max(most, len);
+    }
+    return Math.max(most, 1);
+}
+
+// Where everything stands in one step.
+class Layout {
+    constructor() {
+        this.step = 0;
+        this.lengths = EVENTS.map(event => event.length);
+        this.place();
+    }
+
+    go(step) {
+        for (; this.step < step; this.step++) this.add(STEPS[this.step + 1].changes, 1);
+        for (; this.step > step; this.step--) this.add(STEPS[this.step].changes, -1);
+        this.place();
+    }
+
+    add(changes, sign) {
+        for (const [event, by] of changes) this.lengths[event] += sign * by;
+    }
+
+    place() {
+        let end = 0, endBefore = 0;
+        this.ends = EVENTS.map((event, index) => end += event.gap + this.lengths[index]);
+        this.endsBefore = EVENTS.map((event, index) => endBefore += event.gap + this.lengths[index] - this.changed(index));
+        this.len = end + TAIL;
+    }
+
+    get current() {
+        return STEPS[this.step];
+    }
+
+    at(before, past) {
+        return (before > 0 ? this.ends[before - 1] : 0) + past;
+    }
+
+    start(event) {
+        return this.ends[event] - this.lengths[event];
+    }
+
+    label(label) {
+        const [before, past] = DATA.labels[label];
+        return this.at(before, past);
+    }
+
+    // By how much a label was pushed since the step before.
+    pushed(label) {
+        const [before] = DATA.labels[label];
+        return before > 0 ? this.ends[before - 1] - this.endsBefore[before - 1] : 0;
+    }
+
+    // What a displacement counts: the label's offset less the jump's own end.
+    distance(jump) {
+        return this.label(EVENTS[jump].label) - this.ends[jump];
+    }
+
+    // By how much an event is longer than in the step before.
+    changed(event) {
+        return this.current.changes.get(event) || 0;
+    }
+
+    state(jump) {
+        if (this.step === 0) return "recorded";
+        if (this.current.grown.has(jump)) return "grown";
+        return this.lengths[jump] > SHORT ? "long" : "short";
+    }
+}
+
+// The events between a jump and its label: from the first up to, without it, the second.
+function crossed(jump) {
+    const before = DATA.labels[EVENTS[jump].label][0];
+    return before > jump ? [jump + 1, before] : [before, jump];
+}
+
+function crosses(jump, event) {
+    const [from, to] = crossed(jump);
+    return from <= event && event < to;
+}
+
+function isAhead(jump) {
+    return DATA.labels[EVENTS[jump].label][0] > jump;
+}
+
+function jumps() {
+    return [...EVENTS.keys()].filter(event => EVENTS[event].isJump);
+}

@@ -1,0 +1,200 @@
+// What is said of a step, an event or a label, in the words of --rounds.
+
+const MOST_SAID = 12;
+
+function count(number, noun) {
+    return `${number} ${noun}${number === 1 ? "" : "s"}`;
+}
+
+function offset(byte) {
+    return DATA.hex ? `0x${byte.toString(16).toUpperCase()}` : `${byte}`;
+}
+
+function labelText(label) {
+    return `label ${DATA.labels[label][2] ?? label}`;
+}
+
+// As it stands at its tick: the name alone, if it has one.
+function labelName(label) {
+    return DATA.labels[label][2] ?? labelText(label);
+}
+
+// `jmp recorded at 5 (line 11)`.
+function eventText(event) {
+    const { what, start, place } = EVENTS[event];
+    if (event >= POOL) return what;
+    return `${what} recorded at ${offset(start)}${place ? ` (${place})` : ""}`;
+}
+
+function stateText(state) {
+    return { recorded: "not yet sized", short: "short", grown: "out of reach in this round", long: "long" }[state];
+}
+
+// What a pick stands for: the index of an event or of a label, or null if it stands for none.
+function eventOf(pick) {
+    return pick !== null && pick.startsWith("event") ? Number(pick.slice(5)) : null;
+}
+
+function labelOf(pick) {
+    return pick !== null && pick.startsWith("label") ? Number(pick.slice(5)) : null;
+}
+
+function isKnown(pick) {
+    const event = eventOf(pick), label = labelOf(pick);
+    return event !== null ? event in EVENTS : label !== null && Boolean(DATA.labels[label]);
+}
+
+function element(name, text, ...children) {
+    const made = document.createElement(name);
+    if (text) made.textContent = text;
+    made.append(...children);
+    return made;
+}
+
+function list(items, noun) {
+    const shown = items.length > MOST_SAID + 1 ? items.slice(0, MOST_SAID) : items;
+    const entries = shown.map(item => typeof item === "string" ? element("li", item) : element("li", "", ...item));
+    if (shown.length < items.length) entries.push(element("li", `\u2026 ${count(items.length - shown.length, `more ${noun}`)}`));
+    return element("ul", "", ...entries);
+}
+
+// `label 0 at 132 less its own end at 2 is 130`.
+function reckoning(layout, jump) {
+    const { label } = EVENTS[jump];
+    return `${labelText(label)} at ${offset(layout.label(label))} less its own end at ${offset(layout.ends[jump])} is ${layout.distance(jump)}`;
+}
+
+function verdict(layout, jump) {
+    const sentence = reckoning(layout, jump), range = `${FARTHEST_BACK}..${FARTHEST_AHEAD}`;
+    switch (layout.state(jump)) {
+        case "recorded":
+            return `${count(layout.lengths[jump], "byte")} recorded. The rounds begin with 2 bytes and make it long if it does not reach.`;
+        case "short":
+            return `${sentence}, within ${range}: it is short, 2 bytes.`;
+        case "grown":
+            return `${sentence}, outside ${range}: it becomes long.`;
+        default:
+            return `${sentence}; it is long, ${count(layout.lengths[jump], "byte")}, ${since(jump)}, and reaches every label.`;
+    }
+}
+
+function since(jump) {
+    const { lengthened } = EVENTS[jump];
+    return lengthened > 0 ? `since round ${lengthened} found it out of reach` : "since a round that this page leaves out";
+}
+
+// The changes of an event up to a step, but for those between the recording and round 1.
+function changesUpTo(event, step) {
+    const { number = Infinity } = STEPS[step];
+    return step === 0 ? [] : EVENTS[event].changes.filter(change => change.round <= number);
+}
+
+// `jmp recorded at 5 (line 11) grew by 3 after round 1`.
+function changeText({ event, by, round, left }) {
+    const when = left > 0 ? `in rounds ${round - left - 1} to ${round}` : `after round ${round - 1}`;
+    return `${eventText(event)} ${by < 0 ? "shrank" : "grew"} by ${Math.abs(by)} ${when}`;
+}
+
+// Why the distance of a jump is not what it was in round 1.
+function history(layout, jump) {
+    const [from, to] = crossed(jump), changes = [];
+    for (let event = from; event < to; event++) changes.push(...changesUpTo(event, layout.step));
+    if (changes.length === 0) return [];
+    const grown = changes.reduce((sum, change) => sum + change.by, 0);
+    const own = changesUpTo(jump, layout.step).reduce((sum, change) => sum + change.by, 0);
+    const first = isAhead(jump) ? layout.distance(jump) - grown : layout.distance(jump) + grown + own;
+    const head = `${first} in round 1; since then, between the jump and its label,`;
+    return [element("p", head), list(changes.map(changeText), "change")];
+}
+
+function crossedText(jump) {
+    const [from, to] = crossed(jump);
+    const among = EVENTS.slice(from, to).filter(event => event.isJump).length;
+    const alignments = to - from - among;
+    if (to === from) return "It crosses no jump and no alignment.";
+    return `It crosses ${count(among, "jump")} and ${count(alignments, "alignment")}, marked above.`;
+}
+
+function crossedBy(event) {
+    return jumps().filter(jump => crosses(jump, event));
+}
+
+function crossedByText(event) {
+    const by = crossedBy(event);
+    if (by.length === 0) return "No jump crosses it.";
+    const names = by.slice(0, MOST_SAID).map(eventText).join(", ");
+    const more = by.length > MOST_SAID ? ` and ${by.length - MOST_SAID} more` : "";
+    return `Crossed by ${names}${more}; what it grows by is added to their distance.`;
+}
+
+function sayJump(layout, jump) {
+    const title = `${eventText(jump)}, to ${labelText(EVENTS[jump].label)}`;
+    return [
+        element("h2", title), element("p", verdict(layout, jump)), ...history(layout, jump),
+        element("p", crossedText(jump)), element("p", crossedByText(jump)),
+    ];
+}
+
+function sayPadding(layout, event) {
+    const start = layout.start(event), end = layout.ends[event];
+    const first = layout.step > 1 && DATA.of > 1 ? `${DATA.first[event]} in round 1, ` : "";
+    const now = `${count(end - start, "byte")} of padding, from ${offset(start)} to ${offset(end)}; ${first}${EVENTS[event].length} recorded.`;
+    const changes = changesUpTo(event, layout.step).map(changeText);
+    const said = [element("h2", eventText(event)), element("p", now)];
+    if (changes.length > 0) said.push(element("p", "What moved in front of it changed what it needs:"), list(changes, "change"));
+    return [...said, element("p", crossedByText(event))];
+}
+
+function sayLabel(layout, label) {
+    const from = jumps().filter(jump => EVENTS[jump].label === label);
+    const by = layout.pushed(label), pushed = layout.step > 1 && by !== 0 ? `, pushed by ${by} since the step before` : "";
+    const title = `${labelText(label)} at ${offset(layout.label(label))}${pushed}`;
+    if (from.length === 0) return [element("h2", title), element("p", "No jump goes to it.")];
+    const entries = from.map(jump => `${eventText(jump)}: distance ${layout.distance(jump)}, ${stateText(layout.state(jump))}`);
+    return [element("h2", title), element("p", `${count(from.length, "jump")} to it:`), list(entries, "jump")];
+}
+
+// What happens in a step, in general.
+function lesson(layout) {
+    if (layout.step === 0) {
+        if (DATA.of === 0) return "Nothing moves: finish fills fields where they stand, and sets constants behind the code.";
+        return "Each jump has room for its longest form. Round 1 takes every jump for short and makes all padding anew.";
+    }
+    if (layout.step === STEPS.length - 1) return DATA.of === 0 ? "Finished where it was recorded." : "Finished as the last round placed it.";
+    if (layout.current.grown.size === 0) return "Every short jump reaches its label, so this placing stands.";
+    return "A jump that does not reach is made long from the next round on. That pushes what stands behind it, and may push a label out of another jump's reach.";
+}
+
+// What a round found, where nothing is chosen.
+function sayStep(layout) {
+    const { grown, left } = layout.current;
+    const said = left > 0 ? [element("p", `${count(left, "round")} before this one are left out of this page; their changes are added up.`)] : [];
+    const reasons = [...grown].map(jump => {
+        const text = `${eventText(jump)}: ${verdict(layout, jump)}`;
+        return [text, ...history(layout, jump)];
+    });
+    if (reasons.length > 0) said.push(list(reasons, "jump"));
+    return said;
+}
+
+function say(layout, pick) {
+    const event = eventOf(pick), label = labelOf(pick);
+    if (label !== null) return sayLabel(layout, label);
+    if (event === null) return [element("p", lesson(layout)), ...sayStep(layout)];
+    return EVENTS[event].isJump ? sayJump(layout, event) : sayPadding(layout, event);
+}
+
+// What stands out with a choice: of a jump what it crosses and its label, of padding the jumps that cross it, of a label the jumps to it.
+function belonging(pick) {
+    const event = eventOf(pick), label = labelOf(pick), picks = new Set([pick]);
+    if (label !== null) {
+        for (const jump of jumps()) if (EVENTS[jump].label === label) picks.add(`event${jump}`);
+    } else if (event !== null && EVENTS[event].isJump) {
+        const [from, to] = crossed(event);
+        for (let other = from; other < to; other++) picks.add(`event${other}`);
+        picks.add(`label${EVENTS[event].label}`);
+    } else if (event !== null) {
+        for (const jump of crossedBy(event)) picks.add(`event${jump}`);
+    }
+    return picks;
+}

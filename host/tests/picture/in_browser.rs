@@ -1,0 +1,327 @@
+//! What a browser makes of a page: its buttons and keys, what stands out, and what is said. What is expected is reckoned here from the rounds.
+
+use std::iter::repeat_with;
+
+use wargnifla::{
+    Arch, Change, CodeBuffer, LayoutEvent, Lengthened, Recording, Round, Rounds, read_text,
+    symbols_named,
+};
+
+use crate::browser::{find, lines, lines_of_all};
+use crate::random::Random;
+use crate::{MIXED, chain, page, sheet, sheets};
+
+/// What scripts of these tests share.
+const TOOLS: &str = "
+const by = selector => [...document.querySelectorAll(selector)];
+const press = key => document.body.dispatchEvent(new KeyboardEvent('keydown', { key, bubbles: true }));
+const button = id => document.getElementById(id).click();
+const picked = pick => document.querySelector(`#strip [data-pick='${pick}']`);
+const said = () => document.getElementById('sentence').textContent;
+const detail = () => document.getElementById('detail').textContent;
+const on = () => by('#strip .choice.on').map(choice => choice.dataset.pick).sort().join(' ');
+const arcs = kind => by(`#strip .arc.${kind}`).length;
+const seen = () => `${said()} | ${arcs('recorded')} ${arcs('short')} ${arcs('grown')} ${arcs('long')} | ${by('#strip .padding.changed').length}`;
+";
+
+/// Walks forward by the button and back by the key, and notes what stands in each step.
+const WALK: &str = "
+button('fit');
+note(seen());
+while (!document.getElementById('forward').disabled) {
+    button('forward');
+    note(seen());
+    for (const item of by('#detail > ul > li')) {
+        note(`why: ${item.firstChild.textContent}`);
+        for (const reason of item.querySelectorAll('p, li')) note(`why: ${reason.textContent}`);
+    }
+}
+const last = seen();
+press('Home');
+press('ArrowLeft');
+note(`first: ${seen()}`);
+press('End');
+if (seen() !== last) note('End leads elsewhere');
+const back = [];
+while (!document.getElementById('back').disabled) {
+    back.unshift(said());
+    press('ArrowLeft');
+}
+note(`back: ${back.join(' / ')}`);
+dispatchEvent(new Event('beforeprint'));
+note(`printed: ${by('#printed figure svg').length}`);
+";
+
+/// A recorded text and its rounds.
+struct Expected {
+    recording: Recording,
+    rounds: Rounds,
+    finished: usize,
+}
+
+impl Expected {
+    fn new(text: &str) -> Self {
+        let script = read_text(text).unwrap();
+        let symbols = script.symbols.unwrap_or(symbols_named(&script.calls));
+        let mut buffer = CodeBuffer::with_symbols(script.arch.unwrap_or(Arch::X64), symbols);
+        for call in &script.calls {
+            buffer.call(call).unwrap();
+        }
+        for (label, name) in &script.names {
+            buffer.name_label(wargnifla::Label::from_id(*label), name);
+        }
+        let mut recording = buffer.recording();
+        let finished = buffer.finish().unwrap();
+        recording.note_alignments(&script.calls);
+        let rounds = Rounds::new(&recording);
+        rounds.check(&finished).unwrap();
+        Self {
+            recording,
+            rounds,
+            finished: finished.total_size(),
+        }
+    }
+
+    fn is_padding(&self, event: usize) -> bool {
+        matches!(
+            self.recording.pooled().events[event],
+            LayoutEvent::Align { .. }
+        )
+    }
+
+    /// How much padding a round changes, from the one before or from what was recorded.
+    fn changed(&self, round: usize) -> usize {
+        if round > 1 {
+            let changes = self.rounds.changes();
+            let of_round = changes.filter(|change| change.round as usize == round);
+            return of_round
+                .filter(|change| self.is_padding(change.event))
+                .count();
+        }
+        let first = self.rounds.first().iter().enumerate();
+        let changed = first.filter(|(event, segment)| {
+            let recorded = segment.old_end - segment.old_start;
+            self.is_padding(*event) && segment.new_end - segment.new_start != recorded
+        });
+        changed.count()
+    }
+
+    /// The sentence of each step, the first one cut, with the arcs of each state and the padding that changed.
+    fn walk(&self) -> Vec<String> {
+        let jumps = self.recording.jumps().count();
+        let of = self.rounds.rounds().len();
+        let recorded = format!("as recorded: {jumps} 0 0 0 | 0");
+        let (mut lines, mut long) = (vec![recorded], 0);
+        for (number, round) in (1..).zip(self.rounds.rounds()) {
+            let grown = round.lengthened.len();
+            lines.push(format!(
+                "round {number} of {of}: {round} | 0 {} {grown} {long} | {}",
+                jumps - long - grown,
+                self.changed(number)
+            ));
+            for step in &round.lengthened {
+                lines.push(format!(
+                    "{} at {} less its own end at {} is {}, outside -128..127: it becomes long.",
+                    self.recording.names.text(step.jump.label),
+                    step.target,
+                    step.end,
+                    step.distance()
+                ));
+                lines.extend(history(step));
+            }
+            long += grown;
+        }
+        let finished = match self.finished {
+            1 => "1 byte".into(),
+            many => format!("{many} bytes"),
+        };
+        lines.push(format!(
+            "finished: {finished} | 0 {} 0 {long} | 0",
+            jumps - long
+        ));
+        lines
+    }
+}
+
+/// Why the distance of a jump is another than in round 1.
+fn history(step: &Lengthened) -> Vec<String> {
+    if step.crossed.is_empty() {
+        return Vec::new();
+    }
+    let first = step.first_distance;
+    let head = format!("{first} in round 1; since then, between the jump and its label,");
+    let change = |change: &Change| {
+        let verb = if change.by < 0 { "shrank" } else { "grew" };
+        let by = change.by.unsigned_abs();
+        format!(" {verb} by {by} after round {}", change.round - 1)
+    };
+    let changes = step.crossed.iter().map(change);
+    [head].into_iter().chain(changes).collect()
+}
+
+/// A drawn text, short enough for every arc to have pixels of its own.
+fn drawn(random: &mut Random) -> String {
+    let mut unbound = vec!["a", "b", "c", "d"];
+    let mut text = String::new();
+    for _ in 0..20 + random.below(30) {
+        let label = ["a", "b", "c", "d"][random.below(4) as usize];
+        text += &match random.below(10) {
+            0..=2 => format!("jmp {label}\n"),
+            3 | 4 => format!("jne {label}\n"),
+            5 => format!("align {}\n", 1 << random.below(6)),
+            6 if !unbound.is_empty() => {
+                let next = random.below(unbound.len() as u32) as usize;
+                format!("{}:\n", unbound.swap_remove(next))
+            }
+            _ => format!("zeros {}\n", random.below(40)),
+        };
+    }
+    let rest: String = unbound.iter().map(|label| format!("{label}: ")).collect();
+    text + &rest
+}
+
+/// Whether some jump grows because of another, and no list of the page is cut.
+fn is_worth_it(text: &str) -> bool {
+    const MOST_SAID: usize = 13;
+    let rounds = Expected::new(text).rounds;
+    let mut steps = rounds.rounds().iter().flat_map(|round| &round.lengthened);
+    let is_cut = |round: &Round| {
+        let mut histories = round.lengthened.iter().map(|step| step.crossed.len());
+        round.lengthened.len() > MOST_SAID || histories.any(|changes| changes > MOST_SAID)
+    };
+    steps.any(|step| !step.crossed.is_empty()) && !rounds.rounds().iter().any(is_cut)
+}
+
+/// Compares what was noted on a walk with what is expected of it.
+fn compare(name: &str, noted: &[String], expected: &Expected) {
+    let walk = expected.walk();
+    let steps = expected.rounds.rounds().len() + 2;
+    assert_eq!(noted.len(), walk.len() + 3, "{name}: {noted:#?}");
+    let (recorded, rest) = noted.split_first().unwrap();
+    let counts = walk[0].strip_prefix("as recorded: ").unwrap();
+    assert!(recorded.starts_with("as recorded: "), "{name}: {recorded}");
+    assert!(recorded.ends_with(&format!("| {counts}")), "{recorded}");
+    for (noted, expected) in rest.iter().zip(&walk[1..]) {
+        match noted.strip_prefix("why: ") {
+            Some(why) => assert!(why.ends_with(expected), "{name}: {why}"),
+            None => assert_eq!(noted, expected, "{name}"),
+        }
+    }
+    let [first, back, printed] = &rest[walk.len() - 1..] else {
+        unreachable!()
+    };
+    assert_eq!(*first, format!("first: {recorded}"), "{name}");
+    assert_eq!(back.split(" / ").count(), steps - 1, "{name}: {back}");
+    assert_eq!(*printed, format!("printed: {steps}"), "{name}");
+}
+
+#[test]
+fn steps_show_what_the_rounds_did() {
+    let Some(browser) = find() else { return };
+    let script = format!("{TOOLS}{WALK}");
+    let mut sheets = sheets();
+    sheets.push(("mixed".into(), MIXED.into()));
+    sheets.push(("chain".into(), chain(9)));
+    let mut random = Random(0x5EED);
+    let drawn = repeat_with(|| drawn(&mut random)).filter(|text| is_worth_it(text));
+    sheets.extend(
+        (0..16)
+            .zip(drawn)
+            .map(|(i, text)| (format!("drawn {i}"), text)),
+    );
+    let pages: Vec<String> = sheets.iter().map(|(_, text)| page(text)).collect();
+    let noted = lines_of_all(&browser, &pages, &script);
+    assert_eq!(noted.len(), sheets.len());
+    for ((name, text), noted) in sheets.iter().zip(noted) {
+        compare(name, &noted, &Expected::new(text));
+    }
+}
+
+#[test]
+fn what_is_chosen_stands_out_and_is_explained() {
+    let Some(browser) = find() else { return };
+    let script = format!(
+        "{TOOLS}
+        note(`${{said()}} / ${{on()}}`);
+        note(detail());
+        note(by('#strip .reach').length);
+        press('Escape');
+        note(`nothing: ${{on()}}`);
+        picked('label1').dispatchEvent(new PointerEvent('pointerover', {{ bubbles: true, pointerType: 'mouse' }}));
+        note(`hovered: ${{on()}}`);
+        note(detail());
+        document.body.dispatchEvent(new PointerEvent('pointerover', {{ bubbles: true, pointerType: 'mouse' }}));
+        note(`left: ${{on()}}`);
+        picked('event1').focus();
+        note(`focused: ${{on()}}`);
+        document.activeElement.blur();
+        picked('event1').dispatchEvent(new MouseEvent('click', {{ bubbles: true }}));
+        note(`tapped: ${{on()}}`);
+        note(by('tr.on').map(row => row.dataset.pick).join(' '));
+        document.querySelector('tr[data-pick=label0]').click();
+        note(`in the table: ${{on()}}`);"
+    );
+    let noted = lines(
+        &browser,
+        &page(&sheet("case-c")),
+        "step=2&pick=event0",
+        &script,
+    );
+    let expected = [
+        "round 2 of 3: 135 bytes; 1 jump becomes long / event0 event1 label0",
+        "jmp recorded at 0 (line 9), to label 0label 0 at 132 less its own end at 2 is 130, outside -128..127: it becomes long.\
+         127 in round 1; since then, between the jump and its label,jmp recorded at 5 (line 11) grew by 3 after round 1\
+         It crosses 1 jump and 0 alignments, marked above.No jump crosses it.",
+        "1",
+        "nothing: ",
+        "hovered: event1 label1",
+        "label 1 at 135, pushed by 3 since the step before1 jump to it:jmp recorded at 5 (line 11): distance 128, long",
+        "left: ",
+        "focused: event1 label1",
+        "tapped: event1 label1",
+        "event1",
+        "in the table: event0 label0",
+    ];
+    assert_eq!(noted, expected);
+}
+
+#[test]
+fn two_thousand_jumps_stay_within_bounds() {
+    let Some(browser) = find() else { return };
+    let script = format!(
+        "{TOOLS}
+        const size = () => by('#strip *').length;
+        const most = [];
+        for (let i = 0; i < 200; i++) {{
+            button('forward');
+            most.push(size());
+            if (arcs('grown') !== 1) note(`${{said()}}: ${{arcs('grown')}} grown`);
+        }}
+        note(said());
+        document.getElementById('at').value = 1000;
+        document.getElementById('at').dispatchEvent(new Event('input'));
+        note(seen().split(' | ')[0]);
+        note(Math.max(...most) < 1000);
+        button('fit');
+        note(size() < 20000);
+        button('last');
+        note(seen().split(' | ')[0]);
+        for (let i = 0; i < 40; i++) button('larger');
+        note(arcs('long') > 0 && arcs('short') === 0);
+        dispatchEvent(new Event('beforeprint'));
+        note(by('#printed figure').length);
+        note(by('#printed figure > p').map(p => p.textContent).join(' '));"
+    );
+    let noted = lines(&browser, &page(&chain(2000)), "", &script);
+    let expected = [
+        "round 200 of 2001: 144655 bytes; 1 jump becomes long",
+        "round 1000 of 2001: 147055 bytes; 1 jump becomes long",
+        "true",
+        "true",
+        "finished: 150058 bytes",
+        "true",
+        "12",
+        "1991 steps between are not printed.",
+    ];
+    assert_eq!(noted, expected);
+}

@@ -1,0 +1,200 @@
+//! What stands in a page, without a browser.
+
+use std::fs;
+
+use wargnifla::{Arch, CodeBuffer, Picture, RelaxableJump, Rounds, Style};
+
+use crate::{MIXED, chain, page, path, printed, run, sheet, sheets};
+
+#[test]
+fn every_sheet_gives_a_page_that_takes_nothing_from_elsewhere() {
+    for (name, text) in sheets() {
+        let page = page(&text);
+        assert!(
+            page.starts_with("<!DOCTYPE html>\n<html lang=\"en\">"),
+            "{name}"
+        );
+        for part in [
+            "<meta charset=\"utf-8\">",
+            "<meta name=\"viewport\"",
+            "<title>",
+            "<noscript>",
+            "<svg class=\"still\"",
+        ] {
+            assert!(page.contains(part), "{name} lacks {part}");
+        }
+        for outside in ["http:", "https:", "src=", "href=", "@import", "//cdn"] {
+            assert!(!page.contains(outside), "{name} has {outside}");
+        }
+        let taken = page.matches("url(").count();
+        assert_eq!(taken, page.matches("url(#hatch)").count(), "{name}");
+        assert_eq!(page.matches("</html>").count(), 1, "{name}");
+    }
+}
+
+/// The lines of the rounds that `--rounds` shows: number and sentence.
+fn rounds(text: &str) -> Vec<(String, String)> {
+    let shown = printed(&["--rounds", "--full"], text);
+    let (_, rounds) = shown.split_once("\nrounds\n").unwrap();
+    let lines = rounds.lines().take_while(|line| !line.is_empty());
+    lines
+        .filter_map(|line| {
+            let (number, sentence) = line.trim_start().split_once("  ")?;
+            number.parse::<u32>().ok()?;
+            Some((number.into(), sentence.into()))
+        })
+        .collect()
+}
+
+#[test]
+fn the_data_has_the_rounds_that_are_shown_as_text() {
+    let sheets = sheets().into_iter().map(|(_, text)| text);
+    for text in sheets.chain([MIXED.into(), chain(40)]) {
+        let page = page(&text);
+        for (number, sentence) in rounds(&text) {
+            let entry = format!("[{number},\"{sentence}\",");
+            assert!(page.contains(&entry), "{entry} is missing for\n{text}");
+        }
+    }
+    let page = page(&sheet("case-c"));
+    let data = "\"first\":[2,2],\"rounds\":[[1,\"132 bytes; 1 jump becomes long\",[],[1]],\
+                [2,\"135 bytes; 1 jump becomes long\",[1,3],[0]],[3,\"138 bytes; every short jump reaches: settled\",[0,3],[]]],\"of\":3";
+    assert!(page.contains(data), "{page}");
+}
+
+#[test]
+fn recorded_and_finished_bytes_stand_next_to_each_other() {
+    let page = page("jmp end; align 16; end: bytes C3");
+    let rows = [
+        "<tr class=\"jump\" data-pick=\"event0\"><td>0</td><td>E9 00 00 00 00</td><td>0</td><td>EB 0E</td>\
+         <td>jmp short to label end at 16, distance 14</td></tr>",
+        "<td>align 16: 14 bytes of padding, 11 recorded</td></tr>",
+        "<tr class=\"label\" data-pick=\"label0\"><td>16</td><td></td><td>16</td><td></td><td>label end</td></tr>",
+    ];
+    for row in rows {
+        assert!(page.contains(row), "{row} is missing in\n{page}");
+    }
+    let filled = crate::page("arch x86; end: jmp end");
+    assert!(
+        filled.contains("<td>E9 00 00 00 00</td><td>0</td><td>E9 <b>FB</b> <b>FF</b>"),
+        "{filled}"
+    );
+    let pooled = crate::page("constant 0102; constant-label 0 c; bytes C3");
+    let row = "<tr class=\"constant\"><td></td><td>pooled</td><td>8</td><td>01 02</td><td>constant 0</td></tr>";
+    assert!(pooled.contains(row), "{pooled}");
+}
+
+#[test]
+fn without_a_jump_the_page_says_that_nothing_was_relaxed() {
+    for text in ["", "bytes 90", "arch aarch64; align 8; zeros 4", "arch x86"] {
+        let page = page(text);
+        assert!(page.contains("Nothing was relaxed: there is no jump to relax."));
+        assert!(page.contains("\"rounds\":[],\"of\":0"), "{page}");
+    }
+    let page = page("arch x86; label; bind 0; zeros 5; jump 0 5 0");
+    assert!(page.contains("1 jump or field was recorded and is not in the code."));
+}
+
+#[test]
+fn offsets_are_hexadecimal_where_that_is_asked_for() {
+    let page = printed(&["--hex", "--picture", "-"], "zeros 26; end: bytes 90");
+    assert!(page.contains("<td>0x1A</td>") && page.contains("{\"hex\":true,"));
+}
+
+#[test]
+fn names_can_do_no_harm() {
+    let mut buffer = CodeBuffer::new(Arch::X64);
+    let end = buffer.get_label().unwrap();
+    buffer.name_label(end, "</script><i>\"'&\\\u{2028}");
+    buffer.put_bytes(&[0; 5]).unwrap();
+    let jump = RelaxableJump {
+        start: 0,
+        len: 5,
+        label: end,
+        cc: None,
+    };
+    buffer.record_relaxable_jump(jump).unwrap();
+    buffer.try_bind_label(end).unwrap();
+    let recording = buffer.recording();
+    let finished = buffer.finish().unwrap();
+    let page = Picture {
+        title: "</title><script>",
+        recording: &recording,
+        recorded: buffer.data(),
+        rounds: &Rounds::new(&recording),
+        finished: &finished,
+        places: &["</script>".into()],
+        style: Style::default(),
+    }
+    .page();
+    assert_eq!(page.matches("<script").count(), 2);
+    assert_eq!(page.matches("</script>").count(), 2);
+    assert!(!page.contains("<i>") && !page.contains('\u{2028}'));
+    assert!(page.contains("<title>&lt;/title&gt;&lt;script&gt;: rounds of relaxation</title>"));
+    assert!(page.contains("\\u003c/script\\u003e\\u003ci\\u003e"));
+}
+
+#[test]
+fn pages_of_many_jumps_are_of_modest_size() {
+    let page = page(&chain(2000));
+    assert!(page.len() < 600_000, "{}", page.len());
+    assert!(page.contains("… 7799 more rows"), "the table is cut");
+    assert!(page.contains("[2001,\"150058 bytes; every short jump reaches: settled\","));
+}
+
+#[test]
+fn too_many_rounds_are_left_out_and_their_changes_added_up() {
+    let page = page(&chain(4200));
+    assert!(page.contains("[4096,\"") && !page.contains("[4097,\""));
+    let (_, last) = page.split_once("[4201,\"").unwrap();
+    let (sentence, changes) = last.split_once("\",[").unwrap();
+    assert_eq!(sentence, "315058 bytes; every short jump reaches: settled");
+    // The jumps that grew in rounds 4096 to 4200 are the first 105.
+    let changes = changes.split_once("],[").unwrap().0;
+    let expected: Vec<String> = (0..105).map(|event| format!("{event},3")).collect();
+    assert_eq!(changes, expected.join(","));
+}
+
+#[test]
+fn the_page_is_written_by_the_rules_of_all_outputs() {
+    let (page, sheet) = (path("page.html"), path("sheet.txt"));
+    let name = page.to_str().unwrap();
+    let listing = printed(&["--picture", name], "bytes 90");
+    assert!(listing.starts_with("  offset  bytes"), "{listing}");
+    assert!(
+        fs::read_to_string(&page)
+            .unwrap()
+            .contains("<h1>standard input</h1>")
+    );
+
+    fs::remove_file(&page).unwrap();
+    let refused = run(&["--picture", name], "label; jump 0 5 0");
+    assert_eq!(refused.status.code(), Some(1));
+    assert!(!page.exists());
+
+    let fails = |arguments: &[&str], sentence: &str| {
+        let output = run(arguments, "bytes 90");
+        assert_eq!(output.status.code(), Some(2));
+        let said = String::from_utf8(output.stderr).unwrap();
+        assert_eq!(said, format!("{sentence}; nothing is written\n"));
+        assert!(!page.exists());
+    };
+    fails(
+        &["-o", name, "--picture", name],
+        &format!("-o and --picture both name {name}"),
+    );
+    fails(
+        &["--picture", "-", "--write-sheet", "-"],
+        "--write-sheet and --picture both name -",
+    );
+    fs::write(&sheet, "bytes 90").unwrap();
+    let sheet = sheet.to_str().unwrap();
+    let output = std::process::Command::new(env!("CARGO_BIN_EXE_wargnifla"))
+        .args(["--picture", sheet, sheet])
+        .output()
+        .unwrap();
+    let said = String::from_utf8(output.stderr).unwrap();
+    let sentence = "which is the sheet itself; nothing is written\n";
+    assert_eq!(said, format!("--picture names {sheet}, {sentence}"));
+    assert_eq!(fs::read(sheet).unwrap(), b"bytes 90");
+}
