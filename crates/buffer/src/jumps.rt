@@ -155,7 +155,7 @@ impl CodeBuffer {
 
     // Records a jump that ends at the current offset. Off X64 it is accepted unread.
     pub fn record_relaxable_jump(
-        self,
+        mut self,
         labels: &[u8],
         events: &mut [u8],
         start: u32,

@@ -12,7 +12,7 @@ use Rattle.seqs.proofs.Numbers.{lt-or-ge}
 use Rattle.relax.specs.declared.LayoutEvent.{LayoutEvent}
 use Rattle.relax.specs.declared.LayoutEvent.the-variants.{Jump, Align}
 use Rattle.relax.specs.declared.Segment.{Segment}
-use Rattle.relax.specs.Events.{eventAt, noEvent}
+use Rattle.relax.specs.Events.{eventAt, noEvent, shortLen}
 use Rattle.buffer.specs.State.{none}
 use Rattle.buffer.specs.Tables.{mostEntries}
 use Rattle.recording.specs.View.{entries}
@@ -22,8 +22,9 @@ use Rattle.fresh.specs.Fresh.{Choice}
 use Rattle.fresh.specs.Rounds.{reaches, isFar, farOf}
 use Rattle.fresh.specs.Segments.{segments, mapOffset}
 use Rattle.fresh.specs.Order.{Ordered}
-use Rattle.fresh.specs.steps.Runs.{Modest, newStarts, after, segmentAt}
+use Rattle.fresh.specs.steps.Runs.{Cursor, Modest, newStarts, after, segmentAt}
 use Rattle.fresh.proofs.Tests.{by-role}
+use Rattle.fresh.proofs.Forms.{longLen-range}
 use Rattle.fresh.proofs.Choices.{farOf-getD, length-farOf, jump-reaches, pads-near, branch-far, long-near}
 use Rattle.fresh.proofs.Loops.{segments-getD, after-suc, after-le}
 use Rattle.pool.specs.steps.Pool.{pooledBound}
@@ -35,10 +36,17 @@ pub missed-none : (ss : List Segment) (row : Segment) → row .«new_start» ≡
 unfolding isMissed
 missed-none ss row e = rw (eq-eqb (row .«new_start») none e, isMissed) refl
 
-pub missed-reach : (ss : List Segment) (row : Segment) (target : ℕ) (near : Bool) → row .«new_start» ≢ none → target ≡ row .«old_end» + endBefore ss (row .«new_start»)
-    → near ≡ inReach (row .«new_end») target → not near ≡ isMissed ss row
+pub missed-reach : (ss : List Segment) (row : Segment) (start target : ℕ) (near : Bool) → row .«new_start» ≢ none → near ≡ inReach (start + shortLen) target
+    → target ≡ row .«old_end» + endBefore ss (row .«new_start») → start + shortLen ≡ row .«new_end» → not near ≡ isMissed ss row
 unfolding isMissed
-missed-reach ss row target near some t e = rw (ne-eqb (row .«new_start») none some, isMissed) (ap not (e ∙ ap (inReach (row .«new_end»)) t))
+missed-reach ss row start target near some e t s = rw (ne-eqb (row .«new_start») none some, isMissed) (ap not (e ∙ (ap (λ (x : ℕ). inReach x target) s ∙ ap (inReach (row .«new_end»)) t)))
+
+-- A branch has room for its short form.
+branch-wide : (e : LayoutEvent) (b : Branch) → roleOf e ≡ branches b → (long : Bool) (n : ℕ) → shortLen ≤ width e long n
+unfolding roleOf width
+branch-wide (Jump j) b r false n = omega arith
+branch-wide (Jump j) b r true n = omega (arith, longLen-range (j .cc))
+branch-wide (Align a) b r long n = let z : _≡_ {A = ℕ} 0 1 = cc in absurd (omega arith)
 
 -- A short branch reaches from its end.
 short-reaches : (e : LayoutEvent) (b : Branch) → roleOf e ≡ branches b → (start label : ℕ) → reaches b start label ≡ inReach (start + width e false start) label
@@ -111,6 +119,7 @@ module _ {es : List LayoutEvent} {c : Choice} {ss : List Segment} (q : Ends es c
 
     -- And its sums are words.
     pub rows-add : (len : ℕ) → Ordered 0 len es → Modest es → len ≤ pooledBound → length es ≤ length ss → (i : ℕ) → i < n → Adds ss (getD ss i zeroSegment)
+    unfolding segmentAt
     rows-add len ordered modest small room i h =
         let aims = aims-at i h in
         let row = getD ss i zeroSegment in
@@ -125,4 +134,15 @@ module _ {es : List LayoutEvent} {c : Choice} {ss : List Segment} (q : Ends es c
               (λ lt. omega (arith, f .small lt, end, near, f .count, few))
               (λ ge. let z : row .«new_start» ≡ 0 = omega arith in omega (arith, f .word, ap (endBefore ss) z))
               (lt-or-ge 0 (row .«new_start»)));
+          wide = λ some. by-role (getD es i noEvent)
+              (λ r. absurd (some (aims .rests r)))
+              (λ b r.
+              let here : i < length es = omega arith in
+              let start = (segmentAt i 0 0 es c) .«new_start» in
+              omega (
+                arith,
+                q .ends i here,
+                ap (λ (x : Cursor). x .new) (after-suc es 0 0 c i here),
+                branch-wide (getD es i noEvent) b r (getD c i false) start,
+              ));
         }

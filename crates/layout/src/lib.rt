@@ -9,7 +9,7 @@ ghost use Rattle.seqs.specs.Over.{over};
 ghost use Rattle.words.specs.Words.{wordAt};
 ghost use Rattle.lookup.specs.steps.Index.{indexSize, mostKeys, Indexed};
 ghost use Rattle.relax.specs.declared.LayoutEvent.{LayoutEvent};
-ghost use Rattle.relax.specs.Events.{eventAt};
+ghost use Rattle.relax.specs.Events.{shortLen, eventAt};
 ghost use Rattle.buffer.specs.State.{none};
 ghost use Rattle.buffer.specs.Tables.{mostEntries, mostCode};
 ghost use Rattle.recording.specs.View.{entries};
@@ -229,11 +229,12 @@ pub fn layout(
 }
 
 // Whether a label's offset minus the end of a short jump lies in -128..127.
-pub fn in_reach(end: u32, label: u32) -> bool
-    ensures { λ r. ⌜ r ≡ inReach end label ⌝ }
+pub fn in_reach(start: u32, label: u32) -> bool
+    ensures { λ r. ⌜ r ≡ inReach (start + shortLen) label ⌝ }
 {
-    if end as u64 <= label as u64 + 128 {
-        label as u64 <= end as u64 + 127
+    let end = start as u64 + relax::SHORT_LEN as u64;
+    if end <= label as u64 + 128 {
+        label as u64 <= end + 127
     } else {
         false
     }
@@ -451,7 +452,7 @@ fn is_missed(segments: &[Segment], long: bool, i: usize) -> bool
         return false;
     }
     let target = row.old_end + end_before(segments, row.new_start as usize);
-    let near = in_reach(row.new_end, target);
+    let near = in_reach(row.new_end - relax::SHORT_LEN, target);
     !near
 }
 

@@ -14,7 +14,7 @@ use lib.ListN.{length, getD}
 use Rattle.seqs.specs.Over.{over}
 use Rattle.relax.specs.declared.LayoutEvent.{LayoutEvent}
 use Rattle.relax.specs.declared.Segment.{Segment}
-use Rattle.relax.specs.Events.{eventAt, startOf, endOf, eventSize, noEvent}
+use Rattle.relax.specs.Events.{eventAt, startOf, endOf, eventSize, noEvent, shortLen}
 use Rattle.buffer.specs.State.{none}
 use Rattle.buffer.specs.Tables.{mostEntries}
 use Rattle.recording.specs.View.{entries}
@@ -95,10 +95,11 @@ abbrev pub endBefore : List Segment → ℕ → ℕ
 endBefore ss zero = 0
 endBefore ss (suc k) = (getD ss k zeroSegment) .«new_end»
 
--- a jump's label, by its row: the sum is a word
+-- a jump's label, by its row: the sum is a word; and the jump has room for its short form
 pub record Adds (ss : List Segment) (row : Segment) : Type 0 where
   pub count : row .«new_start» ≢ none → row .«new_start» ≤ length ss
   pub sum : row .«new_start» ≢ none → row .«old_end» + endBefore ss (row .«new_start») < 4294967296
+  pub wide : row .«new_start» ≢ none → shortLen ≤ row .«new_end»
 
 -- the event of a row is a jump that, were it short, would not reach
 unfoldable pub isMissed : List Segment → Segment → Bool

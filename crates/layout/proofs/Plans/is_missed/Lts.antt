@@ -197,46 +197,52 @@ abbrev b15 : Syntax.Body
 b15 = Syntax.assign (Syntax.place 5 List.[]) (Syntax.op2 (Syntax.add Syntax.unsigned) (Syntax.copy (Syntax.place 4 ((Syntax.field 1) ∷ []))) (Syntax.copy (Syntax.place 8 List.[])))
 
 abbrev b16 : Syntax.Body
-b16 = Syntax.call "layout::in_reach" ((Syntax.copy (Syntax.place 4 ((Syntax.field 3) ∷ []))) ∷ (Syntax.copy (Syntax.place 5 List.[])) ∷ []) (Syntax.place 6 List.[])
+b16 = Syntax.assign (Syntax.place 8 List.[]) (Syntax.op2 (Syntax.sub Syntax.unsigned) (Syntax.copy (Syntax.place 4 ((Syntax.field 3) ∷ []))) (Syntax.int Syntax.w32 2))
 
 abbrev b17 : Syntax.Body
-b17 = Syntax.assign (Syntax.place 0 List.[]) (Syntax.op1 Syntax.bitNot (Syntax.copy (Syntax.place 6 List.[])))
+b17 = Syntax.call "layout::in_reach" ((Syntax.copy (Syntax.place 8 List.[])) ∷ (Syntax.copy (Syntax.place 5 List.[])) ∷ []) (Syntax.place 6 List.[])
 
 abbrev b18 : Syntax.Body
-b18 = Syntax.return
+b18 = Syntax.assign (Syntax.place 0 List.[]) (Syntax.op1 Syntax.bitNot (Syntax.copy (Syntax.place 6 List.[])))
 
 abbrev b19 : Syntax.Body
-b19 = Syntax.seq b17 b18
+b19 = Syntax.return
 
 abbrev b20 : Syntax.Body
-b20 = Syntax.seq b16 b19
+b20 = Syntax.seq b18 b19
 
 abbrev b21 : Syntax.Body
-b21 = Syntax.seq b15 b20
+b21 = Syntax.seq b17 b20
 
 abbrev b22 : Syntax.Body
-b22 = Syntax.seq b14 b21
+b22 = Syntax.seq b16 b21
 
 abbrev b23 : Syntax.Body
-b23 = Syntax.seq b13 b22
+b23 = Syntax.seq b15 b22
 
 abbrev b24 : Syntax.Body
-b24 = Syntax.seq b12 b23
+b24 = Syntax.seq b14 b23
 
 abbrev b25 : Syntax.Body
-b25 = Syntax.seq b7 b24
+b25 = Syntax.seq b13 b24
 
 abbrev b26 : Syntax.Body
-b26 = Syntax.seq b6 b25
+b26 = Syntax.seq b12 b25
 
 abbrev b27 : Syntax.Body
-b27 = Syntax.seq b5 b26
+b27 = Syntax.seq b7 b26
 
 abbrev b28 : Syntax.Body
-b28 = Syntax.seq b0 b27
+b28 = Syntax.seq b6 b27
+
+abbrev b29 : Syntax.Body
+b29 = Syntax.seq b5 b28
+
+abbrev b30 : Syntax.Body
+b30 = Syntax.seq b0 b29
 
 abbrev pub body : Syntax.Body
-body = b28
+body = b30
 
 abbrev pub Claims : Type 1
 Claims = Kinds.In 1 ps·0 × Kinds.Out 1 ps·0 r·0 × Kinds.In 1 ps·1 × Kinds.Out 1 ps·1 r·1 × Kinds.In 0 ps·2 × Kinds.Out 0 ps·2 r·2
@@ -278,16 +284,19 @@ abbrev pub t11 : List.List Row.Entry
 t11 = r0· ∷ r1· ∷ r2· ∷ r3· ∷ r14· ∷ r17· ∷ r6· ∷ r7· ∷ r8· ∷ r9· ∷ []
 
 abbrev pub t12 : List.List Row.Entry
-t12 = r0· ∷ r1· ∷ r2· ∷ r3· ∷ r14· ∷ r17· ∷ r18· ∷ r7· ∷ r8· ∷ r9· ∷ []
+t12 = r0· ∷ r1· ∷ r2· ∷ r3· ∷ r4· ∷ r17· ∷ r6· ∷ r7· ∷ r16· ∷ r9· ∷ []
 
 abbrev pub t13 : List.List Row.Entry
-t13 = r0· ∷ r1· ∷ r2· ∷ r3· ∷ r4· ∷ r17· ∷ r18· ∷ r7· ∷ r8· ∷ r9· ∷ []
+t13 = r0· ∷ r1· ∷ r2· ∷ r3· ∷ r4· ∷ r17· ∷ r18· ∷ r7· ∷ r16· ∷ r9· ∷ []
 
 abbrev pub t14 : List.List Row.Entry
-t14 = r10· ∷ r1· ∷ r2· ∷ r3· ∷ r4· ∷ r17· ∷ r18· ∷ r7· ∷ r8· ∷ r9· ∷ []
+t14 = r0· ∷ r1· ∷ r2· ∷ r3· ∷ r4· ∷ r17· ∷ r18· ∷ r7· ∷ r8· ∷ r9· ∷ []
 
 abbrev pub t15 : List.List Row.Entry
-t15 = r10· ∷ r1· ∷ r2· ∷ r3· ∷ r4· ∷ r5· ∷ r18· ∷ r7· ∷ r8· ∷ r9· ∷ []
+t15 = r10· ∷ r1· ∷ r2· ∷ r3· ∷ r4· ∷ r17· ∷ r18· ∷ r7· ∷ r8· ∷ r9· ∷ []
+
+abbrev pub t16 : List.List Row.Entry
+t16 = r10· ∷ r1· ∷ r2· ∷ r3· ∷ r4· ∷ r5· ∷ r18· ∷ r7· ∷ r8· ∷ r9· ∷ []
 
 abbrev pub T0 : Row.Cx
 T0 = record { locals = t0; slots = List.[] }
@@ -368,25 +377,34 @@ abbrev pub T25 : Row.Cx
 T25 = record { locals = t11; slots = List.[] }
 
 abbrev pub T26 : Row.Cx
-T26 = record { locals = t12; slots = List.[] }
+T26 = record { locals = t11; slots = List.[] }
 
 abbrev pub T27 : Row.Cx
-T27 = record { locals = t13; slots = List.[] }
+T27 = record { locals = t10; slots = List.[] }
 
 abbrev pub T28 : Row.Cx
-T28 = record { locals = t14; slots = List.[] }
+T28 = record { locals = t12; slots = List.[] }
 
 abbrev pub T29 : Row.Cx
-T29 = record { locals = t15; slots = List.[] }
+T29 = record { locals = t13; slots = List.[] }
 
 abbrev pub T30 : Row.Cx
-T30 = record { locals = t3; slots = List.[] }
+T30 = record { locals = t14; slots = List.[] }
 
 abbrev pub T31 : Row.Cx
-T31 = record { locals = t4; slots = List.[] }
+T31 = record { locals = t15; slots = List.[] }
 
 abbrev pub T32 : Row.Cx
-T32 = record { locals = t1; slots = List.[] }
+T32 = record { locals = t16; slots = List.[] }
+
+abbrev pub T33 : Row.Cx
+T33 = record { locals = t3; slots = List.[] }
+
+abbrev pub T34 : Row.Cx
+T34 = record { locals = t4; slots = List.[] }
+
+abbrev pub T35 : Row.Cx
+T35 = record { locals = t1; slots = List.[] }
 
 abbrev pub O0 : Typed.Outs
 O0 = record { next = Option.none; exits = List.[]; returns = Option.some T1 }
@@ -464,26 +482,35 @@ module _ (claims· : Claims) where
   abbrev s21 : Typed.Mo T24 → Typed.Mo T25
   s21 = Scalar.n-room T24 8 y0·
 
-  abbrev s22 : Typed.Both T25 T26
-  s22 = Call.callB ps·2 r·2 (claims· .4) (claims· .5) T25 (Num.vFld 4 ((Syntax.field 3) ∷ []) 12 λ x. Segment.struct .as-values x .1 .1 .1 .0, (Num.vAt 5 λ x. x, tt)) 6 List.[] Syntax.tyBool
+  abbrev s22 : Typed.Gives T25 T26
+  s22 = Know.k-struct-known Segment.the-type Laws.the-laws T25 4 λ x. x
 
-  abbrev s23 : Typed.Mo T26 → Typed.Mo T27
-  s23 = Scalar.n-room T26 4 y3·
+  abbrev s23 : Typed.Asks T26 T27
+  s23 = Scalar.k-op2 T26 (Syntax.sub Syntax.unsigned) (Scalar.oFld 4 ((Syntax.field 3) ∷ []) y0· 12 (Reads.fieldV Segment.the-type Laws.the-laws 3)) (Scalar.oInt Syntax.w32 2) 8 (Rows.sc-here (Row.sInt Syntax.w32)) (Row.sInt Syntax.w32 .of)
 
-  abbrev s24 : Typed.Asks T27 T28
-  s24 = Scalar.k-op1 T27 Syntax.bitNot (Scalar.oAt 6 Syntax.tyBool (Row.valS Row.sBool)) 0 (Rows.sc-here Row.sBool) (Row.sBool .of)
+  abbrev s24 : Typed.Mo T27 → Typed.Mo T28
+  s24 = Scalar.n-room T27 4 y3·
 
-  abbrev s25 : Typed.Mo T28 → Typed.Mo T29
-  s25 = Scalar.n-room T28 5 y0·
+  abbrev s25 : Typed.Both T28 T29
+  s25 = Call.callB ps·2 r·2 (claims· .4) (claims· .5) T28 (Num.vAt 8 λ x. x, (Num.vAt 5 λ x. x, tt)) 6 List.[] Syntax.tyBool
 
   abbrev s26 : Typed.Mo T29 → Typed.Mo T30
-  s26 = Scalar.n-room T29 6 Syntax.tyBool
+  s26 = Scalar.n-room T29 8 y0·
 
-  abbrev s27 : Typed.Mo T30 → Typed.Mo T31
-  s27 = Scalar.n-room T30 2 Syntax.tyBool
+  abbrev s27 : Typed.Asks T30 T31
+  s27 = Scalar.k-op1 T30 Syntax.bitNot (Scalar.oAt 6 Syntax.tyBool (Row.valS Row.sBool)) 0 (Rows.sc-here Row.sBool) (Row.sBool .of)
 
   abbrev s28 : Typed.Mo T31 → Typed.Mo T32
-  s28 = Scalar.n-room T31 3 y1·
+  s28 = Scalar.n-room T31 5 y0·
+
+  abbrev s29 : Typed.Mo T32 → Typed.Mo T33
+  s29 = Scalar.n-room T32 6 Syntax.tyBool
+
+  abbrev s30 : Typed.Mo T33 → Typed.Mo T34
+  s30 = Scalar.n-room T33 2 Syntax.tyBool
+
+  abbrev s31 : Typed.Mo T34 → Typed.Mo T35
+  s31 = Scalar.n-room T34 3 y1·
 
   module _ (Pre· : (κs : Lifetimes.Lfts 1) → Kinds.Dens κs ps → Type 0) (Post· : (κs : Lifetimes.Lfts 1) → (a : Kinds.Dens κs ps) → Kinds.Plain 1 ps r κs) where
     module _ (M : Type 1) where
@@ -542,71 +569,80 @@ module _ (claims· : Claims) where
       abbrev at16 : Typed.TF T11 O2
       at16 = Scalar.Φcond T11 O2 7 (λ x. x) at13 at15
 
-      abbrev at17 : Typed.TF T32 O0
+      abbrev at17 : Typed.TF T35 O0
       at17 = Typed.atRet O0
 
-      abbrev at18 : Typed.TF T31 O0
-      at18 = λ Ψ. Typed.pass T31 T32 s28 (at17 Ψ)
+      abbrev at18 : Typed.TF T34 O0
+      at18 = λ Ψ. Typed.pass T34 T35 s31 (at17 Ψ)
 
-      abbrev at19 : Typed.TF T30 O0
-      at19 = λ Ψ. Typed.pass T30 T31 s27 (at18 Ψ)
+      abbrev at19 : Typed.TF T33 O0
+      at19 = λ Ψ. Typed.pass T33 T34 s30 (at18 Ψ)
 
-      abbrev at20 : Typed.TF T29 O0
-      at20 = λ Ψ. Typed.pass T29 T30 s26 (at19 Ψ)
+      abbrev at20 : Typed.TF T32 O0
+      at20 = λ Ψ. Typed.pass T32 T33 s29 (at19 Ψ)
 
-      abbrev at21 : Typed.TF T28 O0
-      at21 = λ Ψ. Typed.pass T28 T29 s25 (at20 Ψ)
+      abbrev at21 : Typed.TF T31 O0
+      at21 = λ Ψ. Typed.pass T31 T32 s28 (at20 Ψ)
 
-      abbrev at22 : Typed.TF T27 O0
-      at22 = λ Ψ. Typed.ask s24 (at21 Ψ)
+      abbrev at22 : Typed.TF T30 O0
+      at22 = λ Ψ. Typed.ask s27 (at21 Ψ)
 
-      abbrev at23 : Typed.TF T26 O0
-      at23 = λ Ψ. Typed.pass T26 T27 s23 (at22 Ψ)
+      abbrev at23 : Typed.TF T29 O0
+      at23 = λ Ψ. Typed.pass T29 T30 s26 (at22 Ψ)
 
-      abbrev at24 : Typed.TF T25 O0
-      at24 = λ Ψ. Typed.both s22 (at23 Ψ)
+      abbrev at24 : Typed.TF T28 O0
+      at24 = λ Ψ. Typed.both s25 (at23 Ψ)
 
-      abbrev at25 : Typed.TF T24 O0
-      at25 = λ Ψ. Typed.pass T24 T25 s21 (at24 Ψ)
+      abbrev at25 : Typed.TF T27 O0
+      at25 = λ Ψ. Typed.pass T27 T28 s24 (at24 Ψ)
 
-      abbrev at26 : Typed.TF T23 O0
-      at26 = λ Ψ. Typed.ask s20 (at25 Ψ)
+      abbrev at26 : Typed.TF T26 O0
+      at26 = λ Ψ. Typed.ask s23 (at25 Ψ)
 
-      abbrev at27 : Typed.TF T22 O0
-      at27 = λ Ψ. Typed.give s19 (at26 Ψ)
+      abbrev at27 : Typed.TF T25 O0
+      at27 = λ Ψ. Typed.give s22 (at26 Ψ)
 
-      abbrev at28 : Typed.TF T21 O0
-      at28 = λ Ψ. Typed.pass T21 T22 s18 (at27 Ψ)
+      abbrev at28 : Typed.TF T24 O0
+      at28 = λ Ψ. Typed.pass T24 T25 s21 (at27 Ψ)
 
-      abbrev at29 : Typed.TF T20 O0
-      at29 = λ Ψ. Typed.both s17 (at28 Ψ)
+      abbrev at29 : Typed.TF T23 O0
+      at29 = λ Ψ. Typed.ask s20 (at28 Ψ)
 
-      abbrev at30 : Typed.TF T19 O0
-      at30 = λ Ψ. Typed.ask s16 (at29 Ψ)
+      abbrev at30 : Typed.TF T22 O0
+      at30 = λ Ψ. Typed.give s19 (at29 Ψ)
 
-      abbrev at31 : Typed.TF T12 O0
-      at31 = λ Ψ. Typed.give s15 (at30 Ψ)
+      abbrev at31 : Typed.TF T21 O0
+      at31 = λ Ψ. Typed.pass T21 T22 s18 (at30 Ψ)
 
-      abbrev at32 : Typed.TF T11 O0
-      at32 = λ Ψ. at16 (Typed.wantNext T12 O0 (at31 Ψ) Ψ)
+      abbrev at32 : Typed.TF T20 O0
+      at32 = λ Ψ. Typed.both s17 (at31 Ψ)
 
-      abbrev at33 : Typed.TF T10 O0
-      at33 = λ Ψ. Typed.ask s8 (at32 Ψ)
+      abbrev at33 : Typed.TF T19 O0
+      at33 = λ Ψ. Typed.ask s16 (at32 Ψ)
 
-      abbrev at34 : Typed.TF T9 O0
-      at34 = λ Ψ. Typed.give s7 (at33 Ψ)
+      abbrev at34 : Typed.TF T12 O0
+      at34 = λ Ψ. Typed.give s15 (at33 Ψ)
 
-      abbrev at35 : Typed.TF T3 O0
-      at35 = λ Ψ. Typed.both s6 (at34 Ψ)
+      abbrev at35 : Typed.TF T11 O0
+      at35 = λ Ψ. at16 (Typed.wantNext T12 O0 (at34 Ψ) Ψ)
 
-      abbrev at36 : Typed.TF T2 O0
-      at36 = λ Ψ. at7 (Typed.wantNext T3 O0 (at35 Ψ) Ψ)
+      abbrev at36 : Typed.TF T10 O0
+      at36 = λ Ψ. Typed.ask s8 (at35 Ψ)
 
-      abbrev at37 : Typed.TF T0 O0
-      at37 = λ Ψ. Typed.pass T0 T2 s0 (at36 Ψ)
+      abbrev at37 : Typed.TF T9 O0
+      at37 = λ Ψ. Typed.give s7 (at36 Ψ)
+
+      abbrev at38 : Typed.TF T3 O0
+      at38 = λ Ψ. Typed.both s6 (at37 Ψ)
+
+      abbrev at39 : Typed.TF T2 O0
+      at39 = λ Ψ. at7 (Typed.wantNext T3 O0 (at38 Ψ) Ψ)
+
+      abbrev at40 : Typed.TF T0 O0
+      at40 = λ Ψ. Typed.pass T0 T2 s0 (at39 Ψ)
 
       abbrev pub Φ : Typed.TF T0 O0
-      Φ = at37
+      Φ = at40
 
       module _ {M : Type 1} (𝓤 : URA.URA M) (H : Wp.Heap 𝓤) (A : Atoms.Atoms 𝓤) (W : Kit.Given 𝓤 H A) (𝓣 : Wp.Tables 𝓤 H) where
         abbrev Knowns : Type 1
@@ -698,25 +734,34 @@ module _ (claims· : Claims) where
         G25 = record { locals = t11; slots = z0· }
 
         abbrev G26 : Row.Cx
-        G26 = record { locals = t12; slots = z0· }
+        G26 = record { locals = t11; slots = z0· }
 
         abbrev G27 : Row.Cx
-        G27 = record { locals = t13; slots = z0· }
+        G27 = record { locals = t10; slots = z0· }
 
         abbrev G28 : Row.Cx
-        G28 = record { locals = t14; slots = z0· }
+        G28 = record { locals = t12; slots = z0· }
 
         abbrev G29 : Row.Cx
-        G29 = record { locals = t15; slots = z0· }
+        G29 = record { locals = t13; slots = z0· }
 
         abbrev G30 : Row.Cx
-        G30 = record { locals = t3; slots = z0· }
+        G30 = record { locals = t14; slots = z0· }
 
         abbrev G31 : Row.Cx
-        G31 = record { locals = t4; slots = z0· }
+        G31 = record { locals = t15; slots = z0· }
 
         abbrev G32 : Row.Cx
-        G32 = record { locals = t1; slots = z0· }
+        G32 = record { locals = t16; slots = z0· }
+
+        abbrev G33 : Row.Cx
+        G33 = record { locals = t3; slots = z0· }
+
+        abbrev G34 : Row.Cx
+        G34 = record { locals = t4; slots = z0· }
+
+        abbrev G35 : Row.Cx
+        G35 = record { locals = t1; slots = z0· }
 
         abbrev Δ0 : Typed.Outs
         Δ0 = record { next = Option.none; exits = List.[]; returns = Option.some G1 }
@@ -782,71 +827,80 @@ module _ (claims· : Claims) where
           d16 : Typed.Typed 𝓤 H A 𝓣 E G11 b12 Δ2 at16
           d16 = Scalar.t-cond 𝓤 H A W E 𝓣 G11 7 (λ x. x) b10 b11 Δ2 at13 at15 (Scalar.reads-sc 𝓤 H A W Row.sBool) Path'.refl d13 d15
 
-          d17 : Typed.Typed 𝓤 H A 𝓣 E G32 b18 Δ0 at17
+          d17 : Typed.Typed 𝓤 H A 𝓣 E G35 b19 Δ0 at17
           d17 = Typed.t-return 𝓤 H A W 𝓣 E Δ0 tt
 
-          d18 : Typed.Typed 𝓤 H A 𝓣 E G31 b18 Δ0 at18
-          d18 = Typed.g-pre 𝓤 H A W 𝓣 E G31 G32 b18 Δ0 (Typed.pass T31 T32 s28) at17 (Scalar.g-room 𝓤 H A W E G31 3 y1· (Scalar.room-sc 𝓤 H A W (Row.sInt Syntax.w64))) d17
+          d18 : Typed.Typed 𝓤 H A 𝓣 E G34 b19 Δ0 at18
+          d18 = Typed.g-pre 𝓤 H A W 𝓣 E G34 G35 b19 Δ0 (Typed.pass T34 T35 s31) at17 (Scalar.g-room 𝓤 H A W E G34 3 y1· (Scalar.room-sc 𝓤 H A W (Row.sInt Syntax.w64))) d17
 
-          d19 : Typed.Typed 𝓤 H A 𝓣 E G30 b18 Δ0 at19
-          d19 = Typed.g-pre 𝓤 H A W 𝓣 E G30 G31 b18 Δ0 (Typed.pass T30 T31 s27) at18 (Scalar.g-room 𝓤 H A W E G30 2 Syntax.tyBool (Scalar.room-sc 𝓤 H A W Row.sBool)) d18
+          d19 : Typed.Typed 𝓤 H A 𝓣 E G33 b19 Δ0 at19
+          d19 = Typed.g-pre 𝓤 H A W 𝓣 E G33 G34 b19 Δ0 (Typed.pass T33 T34 s30) at18 (Scalar.g-room 𝓤 H A W E G33 2 Syntax.tyBool (Scalar.room-sc 𝓤 H A W Row.sBool)) d18
 
-          d20 : Typed.Typed 𝓤 H A 𝓣 E G29 b18 Δ0 at20
-          d20 = Typed.g-pre 𝓤 H A W 𝓣 E G29 G30 b18 Δ0 (Typed.pass T29 T30 s26) at19 (Scalar.g-room 𝓤 H A W E G29 6 Syntax.tyBool (Scalar.room-sc 𝓤 H A W Row.sBool)) d19
+          d20 : Typed.Typed 𝓤 H A 𝓣 E G32 b19 Δ0 at20
+          d20 = Typed.g-pre 𝓤 H A W 𝓣 E G32 G33 b19 Δ0 (Typed.pass T32 T33 s29) at19 (Scalar.g-room 𝓤 H A W E G32 6 Syntax.tyBool (Scalar.room-sc 𝓤 H A W Row.sBool)) d19
 
-          d21 : Typed.Typed 𝓤 H A 𝓣 E G28 b18 Δ0 at21
-          d21 = Typed.g-pre 𝓤 H A W 𝓣 E G28 G29 b18 Δ0 (Typed.pass T28 T29 s25) at20 (Scalar.g-room 𝓤 H A W E G28 5 y0· (Scalar.room-sc 𝓤 H A W (Row.sInt Syntax.w32))) d20
+          d21 : Typed.Typed 𝓤 H A 𝓣 E G31 b19 Δ0 at21
+          d21 = Typed.g-pre 𝓤 H A W 𝓣 E G31 G32 b19 Δ0 (Typed.pass T31 T32 s28) at20 (Scalar.g-room 𝓤 H A W E G31 5 y0· (Scalar.room-sc 𝓤 H A W (Row.sInt Syntax.w32))) d20
 
-          d22 : Typed.Typed 𝓤 H A 𝓣 E G27 b19 Δ0 at22
-          d22 = Typed.s-seq 𝓤 H A W 𝓣 E G27 G28 b17 b18 Δ0 (Typed.ask s24) at21 (Scalar.t-op1 𝓤 H A W E 𝓣 G27 Syntax.bitNot (Scalar.oAt 6 Syntax.tyBool (Row.valS Row.sBool)) 0 (Rows.sc-here Row.sBool) Syntax.tyBool (Row.valS Row.sBool) (Row.sBool .of) (Scalar.reads-sc 𝓤 H A W Row.sBool, Path'.refl) (Reads'.room-gone 𝓤 H A Syntax.tyBool) (Scalar.holds-sc 𝓤 H A W Row.sBool) Path'.refl (λ u. Path'.refl) λ u. tt) d21
+          d22 : Typed.Typed 𝓤 H A 𝓣 E G30 b20 Δ0 at22
+          d22 = Typed.s-seq 𝓤 H A W 𝓣 E G30 G31 b18 b19 Δ0 (Typed.ask s27) at21 (Scalar.t-op1 𝓤 H A W E 𝓣 G30 Syntax.bitNot (Scalar.oAt 6 Syntax.tyBool (Row.valS Row.sBool)) 0 (Rows.sc-here Row.sBool) Syntax.tyBool (Row.valS Row.sBool) (Row.sBool .of) (Scalar.reads-sc 𝓤 H A W Row.sBool, Path'.refl) (Reads'.room-gone 𝓤 H A Syntax.tyBool) (Scalar.holds-sc 𝓤 H A W Row.sBool) Path'.refl (λ u. Path'.refl) λ u. tt) d21
 
-          d23 : Typed.Typed 𝓤 H A 𝓣 E G26 b19 Δ0 at23
-          d23 = Typed.g-pre 𝓤 H A W 𝓣 E G26 G27 b19 Δ0 (Typed.pass T26 T27 s23) at22 (Scalar.g-room 𝓤 H A W E G26 4 y3· (Local.room-whole 𝓤 H A W (Declared.row Segment.the-type) y3· Path'.refl)) d22
+          d23 : Typed.Typed 𝓤 H A 𝓣 E G29 b20 Δ0 at23
+          d23 = Typed.g-pre 𝓤 H A W 𝓣 E G29 G30 b20 Δ0 (Typed.pass T29 T30 s26) at22 (Scalar.g-room 𝓤 H A W E G29 8 y0· (Scalar.room-sc 𝓤 H A W (Row.sInt Syntax.w32))) d22
 
-          d24 : Typed.Typed 𝓤 H A 𝓣 E G25 b20 Δ0 at24
-          d24 = Typed.s-seq 𝓤 H A W 𝓣 E G25 G26 b16 b19 Δ0 (Typed.both s22) at23 (Plain.t-call-plain 𝓤 H A W 𝓣 0 ps·2 r·2 (claims· .4) (claims· .5) "layout::in_reach" (known .2) E (λ pos β. β) G25 (Num.vFld 4 ((Syntax.field 3) ∷ []) 12 λ x. Segment.struct .as-values x .1 .1 .1 .0, (Num.vAt 5 λ x. x, tt)) 6 List.[] (Call.sub-id 𝓤 H A W (G25 .slots)) ((Reads.reads-field 𝓤 H A W Segment.the-type Laws.the-laws 3 y0· 12 Path'.refl, Path'.refl), ((Scalar.reads-sc 𝓤 H A W (Row.sInt Syntax.w32), Path'.refl), tt)) (Reads'.room-gone 𝓤 H A Syntax.tyBool) tt Path'.refl) d23
+          d24 : Typed.Typed 𝓤 H A 𝓣 E G28 b21 Δ0 at24
+          d24 = Typed.s-seq 𝓤 H A W 𝓣 E G28 G29 b17 b20 Δ0 (Typed.both s25) at23 (Plain.t-call-plain 𝓤 H A W 𝓣 0 ps·2 r·2 (claims· .4) (claims· .5) "layout::in_reach" (known .2) E (λ pos β. β) G28 (Num.vAt 8 λ x. x, (Num.vAt 5 λ x. x, tt)) 6 List.[] (Call.sub-id 𝓤 H A W (G28 .slots)) ((Scalar.reads-sc 𝓤 H A W (Row.sInt Syntax.w32), Path'.refl), ((Scalar.reads-sc 𝓤 H A W (Row.sInt Syntax.w32), Path'.refl), tt)) (Reads'.room-gone 𝓤 H A Syntax.tyBool) tt Path'.refl) d23
 
-          d25 : Typed.Typed 𝓤 H A 𝓣 E G24 b20 Δ0 at25
-          d25 = Typed.g-pre 𝓤 H A W 𝓣 E G24 G25 b20 Δ0 (Typed.pass T24 T25 s21) at24 (Scalar.g-room 𝓤 H A W E G24 8 y0· (Scalar.room-sc 𝓤 H A W (Row.sInt Syntax.w32))) d24
+          d25 : Typed.Typed 𝓤 H A 𝓣 E G27 b21 Δ0 at25
+          d25 = Typed.g-pre 𝓤 H A W 𝓣 E G27 G28 b21 Δ0 (Typed.pass T27 T28 s24) at24 (Scalar.g-room 𝓤 H A W E G27 4 y3· (Local.room-whole 𝓤 H A W (Declared.row Segment.the-type) y3· Path'.refl)) d24
 
-          d26 : Typed.Typed 𝓤 H A 𝓣 E G23 b21 Δ0 at26
-          d26 = Typed.s-seq 𝓤 H A W 𝓣 E G23 G24 b15 b20 Δ0 (Typed.ask s20) at25 (Scalar.t-op2 𝓤 H A W E 𝓣 G23 (Syntax.add Syntax.unsigned) (Scalar.oFld 4 ((Syntax.field 1) ∷ []) y0· 4 (Reads.fieldV Segment.the-type Laws.the-laws 1)) (Scalar.oAt 8 y0· (Row.valS (Row.sInt Syntax.w32))) 5 (Rows.sc-here (Row.sInt Syntax.w32)) y0· (Row.valS (Row.sInt Syntax.w32)) (Row.sInt Syntax.w32 .of) (Reads.reads-field 𝓤 H A W Segment.the-type Laws.the-laws 1 y0· 4 Path'.refl, Path'.refl) (Scalar.reads-sc 𝓤 H A W (Row.sInt Syntax.w32), Path'.refl) (Reads'.room-gone 𝓤 H A y0·) (Scalar.holds-sc 𝓤 H A W (Row.sInt Syntax.w32)) Path'.refl (λ u. Path'.refl) λ u. tt) d25
+          d26 : Typed.Typed 𝓤 H A 𝓣 E G26 b22 Δ0 at26
+          d26 = Typed.s-seq 𝓤 H A W 𝓣 E G26 G27 b16 b21 Δ0 (Typed.ask s23) at25 (Scalar.t-op2 𝓤 H A W E 𝓣 G26 (Syntax.sub Syntax.unsigned) (Scalar.oFld 4 ((Syntax.field 3) ∷ []) y0· 12 (Reads.fieldV Segment.the-type Laws.the-laws 3)) (Scalar.oInt Syntax.w32 2) 8 (Rows.sc-here (Row.sInt Syntax.w32)) y0· (Row.valS (Row.sInt Syntax.w32)) (Row.sInt Syntax.w32 .of) (Reads.reads-field 𝓤 H A W Segment.the-type Laws.the-laws 3 y0· 12 Path'.refl, Path'.refl) tt (Reads'.room-gone 𝓤 H A y0·) (Scalar.holds-sc 𝓤 H A W (Row.sInt Syntax.w32)) Path'.refl (λ u. Path'.refl) λ u. tt) d25
 
-          d27 : Typed.Typed 𝓤 H A 𝓣 E G22 b21 Δ0 at27
-          d27 = Typed.g-pre 𝓤 H A W 𝓣 E G22 G23 b21 Δ0 (Typed.give s19) at26 (Know.g-struct-known 𝓤 H A W E Segment.the-type Laws.the-laws G22 4 (λ x. x) (Reads'.as-is 𝓤 H A (Rows.whole (Declared.row Segment.the-type)))) d26
+          d27 : Typed.Typed 𝓤 H A 𝓣 E G25 b22 Δ0 at27
+          d27 = Typed.g-pre 𝓤 H A W 𝓣 E G25 G26 b22 Δ0 (Typed.give s22) at26 (Know.g-struct-known 𝓤 H A W E Segment.the-type Laws.the-laws G25 4 (λ x. x) (Reads'.as-is 𝓤 H A (Rows.whole (Declared.row Segment.the-type)))) d26
 
-          d28 : Typed.Typed 𝓤 H A 𝓣 E G21 b21 Δ0 at28
-          d28 = Typed.g-pre 𝓤 H A W 𝓣 E G21 G22 b21 Δ0 (Typed.pass T21 T22 s18) at27 (Scalar.g-room 𝓤 H A W E G21 9 y1· (Scalar.room-sc 𝓤 H A W (Row.sInt Syntax.w64))) d27
+          d28 : Typed.Typed 𝓤 H A 𝓣 E G24 b22 Δ0 at28
+          d28 = Typed.g-pre 𝓤 H A W 𝓣 E G24 G25 b22 Δ0 (Typed.pass T24 T25 s21) at27 (Scalar.g-room 𝓤 H A W E G24 8 y0· (Scalar.room-sc 𝓤 H A W (Row.sInt Syntax.w32))) d27
 
-          d29 : Typed.Typed 𝓤 H A 𝓣 E G20 b22 Δ0 at29
-          d29 = Typed.s-seq 𝓤 H A W 𝓣 E G20 G21 b14 b21 Δ0 (Typed.both s17) at28 (Plain.t-call-plain 𝓤 H A W 𝓣 1 ps·1 r·1 (claims· .2) (claims· .3) "layout::end_before" (known .1) E (λ pos β. β) G20 (record { pos = 1; ty = Syntax.tyRef (Syntax.named 0) Syntax.imm (MEM·.pointee (Segment.the-row .written)); ref = λ x. x }, (Num.vAt 9 λ x. x, tt)) 8 (0 ∷ []) (Call.sub-id 𝓤 H A W (G20 .slots)) (ShrSlice.spares-sslice 𝓤 H A W Segment.the-row y2· 0, Shared.reads-sslice 𝓤 H A W Segment.the-row y2· 0, Path'.refl, ((Scalar.reads-sc 𝓤 H A W (Row.sInt Syntax.w64), Path'.refl), tt)) (Reads'.room-gone 𝓤 H A y0·) (tt, tt) Path'.refl) d28
+          d29 : Typed.Typed 𝓤 H A 𝓣 E G23 b23 Δ0 at29
+          d29 = Typed.s-seq 𝓤 H A W 𝓣 E G23 G24 b15 b22 Δ0 (Typed.ask s20) at28 (Scalar.t-op2 𝓤 H A W E 𝓣 G23 (Syntax.add Syntax.unsigned) (Scalar.oFld 4 ((Syntax.field 1) ∷ []) y0· 4 (Reads.fieldV Segment.the-type Laws.the-laws 1)) (Scalar.oAt 8 y0· (Row.valS (Row.sInt Syntax.w32))) 5 (Rows.sc-here (Row.sInt Syntax.w32)) y0· (Row.valS (Row.sInt Syntax.w32)) (Row.sInt Syntax.w32 .of) (Reads.reads-field 𝓤 H A W Segment.the-type Laws.the-laws 1 y0· 4 Path'.refl, Path'.refl) (Scalar.reads-sc 𝓤 H A W (Row.sInt Syntax.w32), Path'.refl) (Reads'.room-gone 𝓤 H A y0·) (Scalar.holds-sc 𝓤 H A W (Row.sInt Syntax.w32)) Path'.refl (λ u. Path'.refl) λ u. tt) d28
 
-          d30 : Typed.Typed 𝓤 H A 𝓣 E G19 b23 Δ0 at30
-          d30 = Typed.s-seq 𝓤 H A W 𝓣 E G19 G20 b13 b22 Δ0 (Typed.ask s16) at29 (Scalar.t-op1 𝓤 H A W E 𝓣 G19 (Syntax.cast Syntax.unsigned Syntax.unsigned Syntax.w64) (Scalar.oFld 4 ((Syntax.field 2) ∷ []) y0· 8 (Reads.fieldV Segment.the-type Laws.the-laws 2)) 9 (Rows.sc-here (Row.sInt Syntax.w64)) y1· (Row.valS (Row.sInt Syntax.w64)) (Row.sInt Syntax.w64 .of) (Reads.reads-field 𝓤 H A W Segment.the-type Laws.the-laws 2 y0· 8 Path'.refl, Path'.refl) (Reads'.room-gone 𝓤 H A y1·) (Scalar.holds-sc 𝓤 H A W (Row.sInt Syntax.w64)) Path'.refl (λ u. Path'.refl) λ u. tt) d29
+          d30 : Typed.Typed 𝓤 H A 𝓣 E G22 b23 Δ0 at30
+          d30 = Typed.g-pre 𝓤 H A W 𝓣 E G22 G23 b23 Δ0 (Typed.give s19) at29 (Know.g-struct-known 𝓤 H A W E Segment.the-type Laws.the-laws G22 4 (λ x. x) (Reads'.as-is 𝓤 H A (Rows.whole (Declared.row Segment.the-type)))) d29
 
-          d31 : Typed.Typed 𝓤 H A 𝓣 E G12 b23 Δ0 at31
-          d31 = Typed.g-pre 𝓤 H A W 𝓣 E G12 G19 b23 Δ0 (Typed.give s15) at30 (Know.g-struct-known 𝓤 H A W E Segment.the-type Laws.the-laws G12 4 (λ x. x) (Reads'.as-is 𝓤 H A (Rows.whole (Declared.row Segment.the-type)))) d30
+          d31 : Typed.Typed 𝓤 H A 𝓣 E G21 b23 Δ0 at31
+          d31 = Typed.g-pre 𝓤 H A W 𝓣 E G21 G22 b23 Δ0 (Typed.pass T21 T22 s18) at30 (Scalar.g-room 𝓤 H A W E G21 9 y1· (Scalar.room-sc 𝓤 H A W (Row.sInt Syntax.w64))) d30
 
-          d32 : Typed.Typed 𝓤 H A 𝓣 E G11 b24 Δ0 at32
-          d32 = Typed.t-seq 𝓤 H A W 𝓣 E G11 G12 b12 b23 Δ0 at16 at31 d16 d31
+          d32 : Typed.Typed 𝓤 H A 𝓣 E G20 b24 Δ0 at32
+          d32 = Typed.s-seq 𝓤 H A W 𝓣 E G20 G21 b14 b23 Δ0 (Typed.both s17) at31 (Plain.t-call-plain 𝓤 H A W 𝓣 1 ps·1 r·1 (claims· .2) (claims· .3) "layout::end_before" (known .1) E (λ pos β. β) G20 (record { pos = 1; ty = Syntax.tyRef (Syntax.named 0) Syntax.imm (MEM·.pointee (Segment.the-row .written)); ref = λ x. x }, (Num.vAt 9 λ x. x, tt)) 8 (0 ∷ []) (Call.sub-id 𝓤 H A W (G20 .slots)) (ShrSlice.spares-sslice 𝓤 H A W Segment.the-row y2· 0, Shared.reads-sslice 𝓤 H A W Segment.the-row y2· 0, Path'.refl, ((Scalar.reads-sc 𝓤 H A W (Row.sInt Syntax.w64), Path'.refl), tt)) (Reads'.room-gone 𝓤 H A y0·) (tt, tt) Path'.refl) d31
 
-          d33 : Typed.Typed 𝓤 H A 𝓣 E G10 b25 Δ0 at33
-          d33 = Typed.s-seq 𝓤 H A W 𝓣 E G10 G11 b7 b24 Δ0 (Typed.ask s8) at32 (Scalar.t-op2 𝓤 H A W E 𝓣 G10 Syntax.eq (Scalar.oFld 4 ((Syntax.field 2) ∷ []) y0· 8 (Reads.fieldV Segment.the-type Laws.the-laws 2)) (Scalar.oNeg Syntax.w32 1) 7 (Rows.sc-here Row.sBool) Syntax.tyBool (Row.valS Row.sBool) (Row.sBool .of) (Reads.reads-field 𝓤 H A W Segment.the-type Laws.the-laws 2 y0· 8 Path'.refl, Path'.refl) (tt, record { fits = Dec'.lit< tt }) (Reads'.room-gone 𝓤 H A Syntax.tyBool) (Scalar.holds-sc 𝓤 H A W Row.sBool) Path'.refl (λ u. Path'.refl) λ u. tt) d32
+          d33 : Typed.Typed 𝓤 H A 𝓣 E G19 b25 Δ0 at33
+          d33 = Typed.s-seq 𝓤 H A W 𝓣 E G19 G20 b13 b24 Δ0 (Typed.ask s16) at32 (Scalar.t-op1 𝓤 H A W E 𝓣 G19 (Syntax.cast Syntax.unsigned Syntax.unsigned Syntax.w64) (Scalar.oFld 4 ((Syntax.field 2) ∷ []) y0· 8 (Reads.fieldV Segment.the-type Laws.the-laws 2)) 9 (Rows.sc-here (Row.sInt Syntax.w64)) y1· (Row.valS (Row.sInt Syntax.w64)) (Row.sInt Syntax.w64 .of) (Reads.reads-field 𝓤 H A W Segment.the-type Laws.the-laws 2 y0· 8 Path'.refl, Path'.refl) (Reads'.room-gone 𝓤 H A y1·) (Scalar.holds-sc 𝓤 H A W (Row.sInt Syntax.w64)) Path'.refl (λ u. Path'.refl) λ u. tt) d32
 
-          d34 : Typed.Typed 𝓤 H A 𝓣 E G9 b25 Δ0 at34
-          d34 = Typed.g-pre 𝓤 H A W 𝓣 E G9 G10 b25 Δ0 (Typed.give s7) at33 (Know.g-struct-known 𝓤 H A W E Segment.the-type Laws.the-laws G9 4 (λ x. x) (Reads'.as-is 𝓤 H A (Rows.whole (Declared.row Segment.the-type)))) d33
+          d34 : Typed.Typed 𝓤 H A 𝓣 E G12 b25 Δ0 at34
+          d34 = Typed.g-pre 𝓤 H A W 𝓣 E G12 G19 b25 Δ0 (Typed.give s15) at33 (Know.g-struct-known 𝓤 H A W E Segment.the-type Laws.the-laws G12 4 (λ x. x) (Reads'.as-is 𝓤 H A (Rows.whole (Declared.row Segment.the-type)))) d33
 
-          d35 : Typed.Typed 𝓤 H A 𝓣 E G3 b26 Δ0 at35
-          d35 = Typed.s-seq 𝓤 H A W 𝓣 E G3 G9 b6 b25 Δ0 (Typed.both s6) at34 (Plain.t-call-plain 𝓤 H A W 𝓣 1 ps·0 r·0 (claims· .0) (claims· .1) "layout::segment_at" (known .0) E (λ pos β. β) G3 (record { pos = 1; ty = Syntax.tyRef (Syntax.named 0) Syntax.imm (MEM·.pointee (Segment.the-row .written)); ref = λ x. x }, (Num.vAt 3 λ x. x, tt)) 4 (0 ∷ []) (Call.sub-id 𝓤 H A W (G3 .slots)) (ShrSlice.spares-sslice 𝓤 H A W Segment.the-row y2· 0, Shared.reads-sslice 𝓤 H A W Segment.the-row y2· 0, Path'.refl, ((Scalar.reads-sc 𝓤 H A W (Row.sInt Syntax.w64), Path'.refl), tt)) (Reads'.room-gone 𝓤 H A y3·) (tt, tt) Path'.refl) d34
+          d35 : Typed.Typed 𝓤 H A 𝓣 E G11 b26 Δ0 at35
+          d35 = Typed.t-seq 𝓤 H A W 𝓣 E G11 G12 b12 b25 Δ0 at16 at34 d16 d34
 
-          d36 : Typed.Typed 𝓤 H A 𝓣 E G2 b27 Δ0 at36
-          d36 = Typed.t-seq 𝓤 H A W 𝓣 E G2 G3 b5 b26 Δ0 at7 at35 d7 d35
+          d36 : Typed.Typed 𝓤 H A 𝓣 E G10 b27 Δ0 at36
+          d36 = Typed.s-seq 𝓤 H A W 𝓣 E G10 G11 b7 b26 Δ0 (Typed.ask s8) at35 (Scalar.t-op2 𝓤 H A W E 𝓣 G10 Syntax.eq (Scalar.oFld 4 ((Syntax.field 2) ∷ []) y0· 8 (Reads.fieldV Segment.the-type Laws.the-laws 2)) (Scalar.oNeg Syntax.w32 1) 7 (Rows.sc-here Row.sBool) Syntax.tyBool (Row.valS Row.sBool) (Row.sBool .of) (Reads.reads-field 𝓤 H A W Segment.the-type Laws.the-laws 2 y0· 8 Path'.refl, Path'.refl) (tt, record { fits = Dec'.lit< tt }) (Reads'.room-gone 𝓤 H A Syntax.tyBool) (Scalar.holds-sc 𝓤 H A W Row.sBool) Path'.refl (λ u. Path'.refl) λ u. tt) d35
 
-          d37 : Typed.Typed 𝓤 H A 𝓣 E G0 b28 Δ0 at37
-          d37 = Typed.s-seq 𝓤 H A W 𝓣 E G0 G2 b0 b27 Δ0 (Typed.pass T0 T2 s0) at36 (Scalar.t-use 𝓤 H A W E 𝓣 G0 (Scalar.oAt 2 Syntax.tyBool (Row.valS Row.sBool)) 7 (Rows.sc-here Row.sBool) Syntax.tyBool (Row.valS Row.sBool) (Row.sBool .of) (Scalar.reads-sc 𝓤 H A W Row.sBool, Path'.refl) (Reads'.room-gone 𝓤 H A Syntax.tyBool) (Scalar.holds-sc 𝓤 H A W Row.sBool) Path'.refl (λ u. Path'.refl) λ u. tt) d36
+          d37 : Typed.Typed 𝓤 H A 𝓣 E G9 b27 Δ0 at37
+          d37 = Typed.g-pre 𝓤 H A W 𝓣 E G9 G10 b27 Δ0 (Typed.give s7) at36 (Know.g-struct-known 𝓤 H A W E Segment.the-type Laws.the-laws G9 4 (λ x. x) (Reads'.as-is 𝓤 H A (Rows.whole (Declared.row Segment.the-type)))) d36
 
-          pub typed : Typed.Typed 𝓤 H A 𝓣 E (Function.Γin 1 ps r xs m κs qs) b28 (Function.Δret 1 ps r xs m κs qs) Φ
-          typed = d37
+          d38 : Typed.Typed 𝓤 H A 𝓣 E G3 b28 Δ0 at38
+          d38 = Typed.s-seq 𝓤 H A W 𝓣 E G3 G9 b6 b27 Δ0 (Typed.both s6) at37 (Plain.t-call-plain 𝓤 H A W 𝓣 1 ps·0 r·0 (claims· .0) (claims· .1) "layout::segment_at" (known .0) E (λ pos β. β) G3 (record { pos = 1; ty = Syntax.tyRef (Syntax.named 0) Syntax.imm (MEM·.pointee (Segment.the-row .written)); ref = λ x. x }, (Num.vAt 3 λ x. x, tt)) 4 (0 ∷ []) (Call.sub-id 𝓤 H A W (G3 .slots)) (ShrSlice.spares-sslice 𝓤 H A W Segment.the-row y2· 0, Shared.reads-sslice 𝓤 H A W Segment.the-row y2· 0, Path'.refl, ((Scalar.reads-sc 𝓤 H A W (Row.sInt Syntax.w64), Path'.refl), tt)) (Reads'.room-gone 𝓤 H A y3·) (tt, tt) Path'.refl) d37
+
+          d39 : Typed.Typed 𝓤 H A 𝓣 E G2 b29 Δ0 at39
+          d39 = Typed.t-seq 𝓤 H A W 𝓣 E G2 G3 b5 b28 Δ0 at7 at38 d7 d38
+
+          d40 : Typed.Typed 𝓤 H A 𝓣 E G0 b30 Δ0 at40
+          d40 = Typed.s-seq 𝓤 H A W 𝓣 E G0 G2 b0 b29 Δ0 (Typed.pass T0 T2 s0) at39 (Scalar.t-use 𝓤 H A W E 𝓣 G0 (Scalar.oAt 2 Syntax.tyBool (Row.valS Row.sBool)) 7 (Rows.sc-here Row.sBool) Syntax.tyBool (Row.valS Row.sBool) (Row.sBool .of) (Scalar.reads-sc 𝓤 H A W Row.sBool, Path'.refl) (Reads'.room-gone 𝓤 H A Syntax.tyBool) (Scalar.holds-sc 𝓤 H A W Row.sBool) Path'.refl (λ u. Path'.refl) λ u. tt) d39
+
+          pub typed : Typed.Typed 𝓤 H A 𝓣 E (Function.Γin 1 ps r xs m κs qs) b30 (Function.Δret 1 ps r xs m κs qs) Φ
+          typed = d40
 
       module _ (κs : Lifetimes.Lfts 1) where
         pub record Args : Type 0 where
@@ -878,7 +932,7 @@ module _ (claims· : Claims) where
       m1 = λ κs args. s0 (m0 κs args)
 
       abbrev W1 : (κs : Lifetimes.Lfts 1) → (args : Args κs) → Typed.Want O1
-      W1 = λ κs args. Typed.wantNext T3 O0 (at35 (W0 κs args)) (W0 κs args)
+      W1 = λ κs args. Typed.wantNext T3 O0 (at38 (W0 κs args)) (W0 κs args)
 
       abbrev pub m2 : (before : Start) → Typed.Mo T4
       m2 = λ before. s1 (m1 (before .κs) (before .args))
@@ -938,7 +992,7 @@ module _ (claims· : Claims) where
       m9 = λ before given. s8 .next (m8 before given)
 
       abbrev W2 : (before : After-segment-at) → (given : s7 .gives (m7 (before .before) (After-segment-at·gave before))) → Typed.Want O2
-      W2 = λ before given. Typed.wantNext T12 O0 (at31 (W0 (before .before .before .κs) (before .before .before .args))) (W0 (before .before .before .κs) (before .before .before .args))
+      W2 = λ before given. Typed.wantNext T12 O0 (at34 (W0 (before .before .before .κs) (before .before .before .args))) (W0 (before .before .before .κs) (before .before .before .args))
 
       module _ (before· : After-segment-at) where
         pub record After-struct-known·own : Type 0 where
@@ -1042,52 +1096,72 @@ module _ (claims· : Claims) where
       abbrev pub m22 : (before : After-end-before) → (given : s19 .gives (m19 (before .before) (After-end-before·gave before))) → Typed.Mo T25
       m22 = λ before given. s21 (m21 before given)
 
-      abbrev pub Need-in-reach-requires : Type 0
-      Need-in-reach-requires = (c : After-struct-known3) → s22 .asks (m22 (c .before) (c .struct-known3 .given))
-
       abbrev pub m23 : (before : After-struct-known3) → (given : s22 .gives (m22 (before .before) (before .struct-known3 .given))) → Typed.Mo T26
       m23 = λ before given. s22 .next (m22 (before .before) (before .struct-known3 .given)) given
 
       module _ (before· : After-struct-known3) where
-        abbrev pub After-in-reach·own : Type 0
-        After-in-reach·own = Called.Called ps·2 r·2 (claims· .5) T25 (Num.vFld 4 ((Syntax.field 3) ∷ []) 12 λ x. Segment.struct .as-values x .1 .1 .1 .0, (Num.vAt 5 λ x. x, tt)) (m22 (before· .before) (before· .struct-known3 .given))
+        pub record After-struct-known4·own : Type 0 where
+          pub given : s22 .gives (m22 (before· .before) (before· .struct-known3 .given))
 
-      pub record After-in-reach : Type 0 where
+      pub record After-struct-known4 : Type 0 where
         pub before : After-struct-known3
-        pub in-reach : After-in-reach·own before
+        pub struct-known4 : After-struct-known4·own before
 
-      abbrev pub After-in-reach·gave : (c : After-in-reach) → s22 .gives (m22 (c .before .before) (c .before .struct-known3 .given))
-      After-in-reach·gave = λ c. Called.given ps·2 r·2 (claims· .5) T25 (Num.vFld 4 ((Syntax.field 3) ∷ []) 12 λ x. Segment.struct .as-values x .1 .1 .1 .0, (Num.vAt 5 λ x. x, tt)) (m22 (c .before .before) (c .before .struct-known3 .given)) (c .in-reach)
+      abbrev pub Need-sub-in-reach : Type 0
+      Need-sub-in-reach = (c : After-struct-known4) → s23 .asks (m23 (c .before) (c .struct-known4 .given))
 
       abbrev pub m24 : (before : After-struct-known3) → (given : s22 .gives (m22 (before .before) (before .struct-known3 .given))) → Typed.Mo T27
-      m24 = λ before given. s23 (m23 before given)
+      m24 = λ before given. s23 .next (m23 before given)
 
       abbrev pub m25 : (before : After-struct-known3) → (given : s22 .gives (m22 (before .before) (before .struct-known3 .given))) → Typed.Mo T28
-      m25 = λ before given. s24 .next (m24 before given)
+      m25 = λ before given. s24 (m24 before given)
 
-      abbrev pub m26 : (before : After-struct-known3) → (given : s22 .gives (m22 (before .before) (before .struct-known3 .given))) → Typed.Mo T29
-      m26 = λ before given. s25 (m25 before given)
+      abbrev pub Need-in-reach-requires : Type 0
+      Need-in-reach-requires = (c : After-struct-known4) → s25 .asks (m25 (c .before) (c .struct-known4 .given))
 
-      abbrev pub m27 : (before : After-struct-known3) → (given : s22 .gives (m22 (before .before) (before .struct-known3 .given))) → Typed.Mo T30
+      abbrev pub m26 : (before : After-struct-known4) → (given : s25 .gives (m25 (before .before) (before .struct-known4 .given))) → Typed.Mo T29
+      m26 = λ before given. s25 .next (m25 (before .before) (before .struct-known4 .given)) given
+
+      module _ (before· : After-struct-known4) where
+        abbrev pub After-in-reach·own : Type 0
+        After-in-reach·own = Called.Called ps·2 r·2 (claims· .5) T28 (Num.vAt 8 λ x. x, (Num.vAt 5 λ x. x, tt)) (m25 (before· .before) (before· .struct-known4 .given))
+
+      pub record After-in-reach : Type 0 where
+        pub before : After-struct-known4
+        pub in-reach : After-in-reach·own before
+
+      abbrev pub After-in-reach·gave : (c : After-in-reach) → s25 .gives (m25 (c .before .before) (c .before .struct-known4 .given))
+      After-in-reach·gave = λ c. Called.given ps·2 r·2 (claims· .5) T28 (Num.vAt 8 λ x. x, (Num.vAt 5 λ x. x, tt)) (m25 (c .before .before) (c .before .struct-known4 .given)) (c .in-reach)
+
+      abbrev pub m27 : (before : After-struct-known4) → (given : s25 .gives (m25 (before .before) (before .struct-known4 .given))) → Typed.Mo T30
       m27 = λ before given. s26 (m26 before given)
 
-      abbrev pub m28 : (before : After-struct-known3) → (given : s22 .gives (m22 (before .before) (before .struct-known3 .given))) → Typed.Mo T31
-      m28 = λ before given. s27 (m27 before given)
+      abbrev pub m28 : (before : After-struct-known4) → (given : s25 .gives (m25 (before .before) (before .struct-known4 .given))) → Typed.Mo T31
+      m28 = λ before given. s27 .next (m27 before given)
 
-      abbrev pub m29 : (before : After-struct-known3) → (given : s22 .gives (m22 (before .before) (before .struct-known3 .given))) → Typed.Mo T32
+      abbrev pub m29 : (before : After-struct-known4) → (given : s25 .gives (m25 (before .before) (before .struct-known4 .given))) → Typed.Mo T32
       m29 = λ before given. s28 (m28 before given)
 
-      abbrev pub Need-returns-3 : Type 0
-      Need-returns-3 = (c : After-in-reach) → Post· (c .before .before .before .before .before .before .before .before .κs) (dens (c .before .before .before .before .before .before .before .before .κs) (c .before .before .before .before .before .before .before .before .args)) (Function.resV r (c .before .before .before .before .before .before .before .before .κs) (m29 (c .before) (After-in-reach·gave c) .0)) (Clauses.atExit (Kinds.endedOf 1 ps r) (c .before .before .before .before .before .before .before .before .κs) (dens (c .before .before .before .before .before .before .before .before .κs) (c .before .before .before .before .before .before .before .before .args)) (Enter.lastsP (c .before .before .before .before .before .before .before .before .κs) 1 ps xs (dens (c .before .before .before .before .before .before .before .before .κs) (c .before .before .before .before .before .before .before .before .args)) (m29 (c .before) (After-in-reach·gave c) .1)))
+      abbrev pub m30 : (before : After-struct-known4) → (given : s25 .gives (m25 (before .before) (before .struct-known4 .given))) → Typed.Mo T33
+      m30 = λ before given. s29 (m29 before given)
 
-      module _ (returns : Need-returns) (segment-at-requires : Need-segment-at-requires) (returns-2 : Need-returns-2) (cast-end-before : Need-cast-end-before) (end-before-requires : Need-end-before-requires) (add-target : Need-add-target) (in-reach-requires : Need-in-reach-requires) (returns-3 : Need-returns-3) where
-        lay7 : (c : After-in-reach) → at23 (W0 (c .before .before .before .before .before .before .before .before .κs) (c .before .before .before .before .before .before .before .before .args)) (m23 (c .before) (After-in-reach·gave c))
+      abbrev pub m31 : (before : After-struct-known4) → (given : s25 .gives (m25 (before .before) (before .struct-known4 .given))) → Typed.Mo T34
+      m31 = λ before given. s30 (m30 before given)
+
+      abbrev pub m32 : (before : After-struct-known4) → (given : s25 .gives (m25 (before .before) (before .struct-known4 .given))) → Typed.Mo T35
+      m32 = λ before given. s31 (m31 before given)
+
+      abbrev pub Need-returns-3 : Type 0
+      Need-returns-3 = (c : After-in-reach) → Post· (c .before .before .before .before .before .before .before .before .before .κs) (dens (c .before .before .before .before .before .before .before .before .before .κs) (c .before .before .before .before .before .before .before .before .before .args)) (Function.resV r (c .before .before .before .before .before .before .before .before .before .κs) (m32 (c .before) (After-in-reach·gave c) .0)) (Clauses.atExit (Kinds.endedOf 1 ps r) (c .before .before .before .before .before .before .before .before .before .κs) (dens (c .before .before .before .before .before .before .before .before .before .κs) (c .before .before .before .before .before .before .before .before .before .args)) (Enter.lastsP (c .before .before .before .before .before .before .before .before .before .κs) 1 ps xs (dens (c .before .before .before .before .before .before .before .before .before .κs) (c .before .before .before .before .before .before .before .before .before .args)) (m32 (c .before) (After-in-reach·gave c) .1)))
+
+      module _ (returns : Need-returns) (segment-at-requires : Need-segment-at-requires) (returns-2 : Need-returns-2) (cast-end-before : Need-cast-end-before) (end-before-requires : Need-end-before-requires) (add-target : Need-add-target) (sub-in-reach : Need-sub-in-reach) (in-reach-requires : Need-in-reach-requires) (returns-3 : Need-returns-3) where
+        lay7 : (c : After-in-reach) → at23 (W0 (c .before .before .before .before .before .before .before .before .before .κs) (c .before .before .before .before .before .before .before .before .before .args)) (m26 (c .before) (After-in-reach·gave c))
         lay7 = λ c. (tt, ((Path'.refl, (tt, (tt, tt))), returns-3 record { before = c .before; in-reach = c .in-reach }))
 
-        lay6 : (c : After-end-before) → at28 (W0 (c .before .before .before .before .before .before .κs) (c .before .before .before .before .before .before .args)) (m18 (c .before) (After-end-before·gave c))
-        lay6 = λ c. λ g. (add-target record { before = record { before = c .before; end-before = c .end-before }; struct-known3 = record { given = g } }, (in-reach-requires record { before = record { before = c .before; end-before = c .end-before }; struct-known3 = record { given = g } }, λ g'. lay7 record { before = record { before = record { before = c .before; end-before = c .end-before }; struct-known3 = record { given = g } }; in-reach = Called.called ps·2 r·2 (claims· .5) T25 (Num.vFld 4 ((Syntax.field 3) ∷ []) 12 λ x. Segment.struct .as-values x .1 .1 .1 .0, (Num.vAt 5 λ x. x, tt)) (m22 record { before = c .before; end-before = c .end-before } g) g' }))
+        lay6 : (c : After-end-before) → at31 (W0 (c .before .before .before .before .before .before .κs) (c .before .before .before .before .before .before .args)) (m18 (c .before) (After-end-before·gave c))
+        lay6 = λ c. λ g. (add-target record { before = record { before = c .before; end-before = c .end-before }; struct-known3 = record { given = g } }, λ g'. (sub-in-reach record { before = record { before = record { before = c .before; end-before = c .end-before }; struct-known3 = record { given = g } }; struct-known4 = record { given = g' } }, (in-reach-requires record { before = record { before = record { before = c .before; end-before = c .end-before }; struct-known3 = record { given = g } }; struct-known4 = record { given = g' } }, λ g''. lay7 record { before = record { before = record { before = record { before = c .before; end-before = c .end-before }; struct-known3 = record { given = g } }; struct-known4 = record { given = g' } }; in-reach = Called.called ps·2 r·2 (claims· .5) T28 (Num.vAt 8 λ x. x, (Num.vAt 5 λ x. x, tt)) (m25 record { before = record { before = c .before; end-before = c .end-before }; struct-known3 = record { given = g } } g') g'' })))
 
-        lay5 : (c : Else2) → at31 (W0 (c .before .before .before .before .κs) (c .before .before .before .before .args)) (m15 (c .before))
+        lay5 : (c : Else2) → at34 (W0 (c .before .before .before .before .κs) (c .before .before .before .before .args)) (m15 (c .before))
         lay5 = λ c. λ g. (cast-end-before record { before = record { before = c .before; if2 = c .if2 }; struct-known2 = record { given = g } }, (end-before-requires record { before = record { before = c .before; if2 = c .if2 }; struct-known2 = record { given = g } }, λ g'. lay6 record { before = record { before = record { before = c .before; if2 = c .if2 }; struct-known2 = record { given = g } }; end-before = Called.called ps·1 r·1 (claims· .3) T20 (record { pos = 1; ty = Syntax.tyRef (Syntax.named 0) Syntax.imm (MEM·.pointee (Segment.the-row .written)); ref = λ x. x }, (Num.vAt 9 λ x. x, tt)) (m17 record { before = c .before; if2 = c .if2 } g) g' }))
 
         lay4 : (c : Else2) → at15 (W2 (c .before .before) (c .before .struct-known .given)) (m9 (c .before .before) (c .before .struct-known .given))
@@ -1096,13 +1170,13 @@ module _ (claims· : Claims) where
         lay3 : (c : Then2) → at13 (W2 (c .before .before) (c .before .struct-known .given)) (m9 (c .before .before) (c .before .struct-known .given))
         lay3 = λ c. ((Path'.refl, (tt, (tt, tt))), returns-2 record { before = c .before; if2 = c .if2 })
 
-        lay2 : (c : After-segment-at) → at34 (W0 (c .before .before .κs) (c .before .before .args)) (m7 (c .before) (After-segment-at·gave c))
+        lay2 : (c : After-segment-at) → at37 (W0 (c .before .before .κs) (c .before .before .args)) (m7 (c .before) (After-segment-at·gave c))
         lay2 = λ c. λ g. (tt, (λ taken. lay3 record { before = record { before = record { before = c .before; segment-at = c .segment-at }; struct-known = record { given = g } }; if2 = record { taken = Tests.eqb-true (Segment.struct .as-values (Row.get 4 (T10 .locals) (m8 record { before = c .before; segment-at = c .segment-at } g)) .1 .1 .0) 4294967295 taken } }, λ left. lay4 record { before = record { before = record { before = c .before; segment-at = c .segment-at }; struct-known = record { given = g } }; if2 = record { left = Tests.eqb-false (Segment.struct .as-values (Row.get 4 (T10 .locals) (m8 record { before = c .before; segment-at = c .segment-at } g)) .1 .1 .0) 4294967295 left } }))
 
-        lay1 : (c : Else1) → at35 (W0 (c .before .κs) (c .before .args)) (m6 (c .before))
+        lay1 : (c : Else1) → at38 (W0 (c .before .κs) (c .before .args)) (m6 (c .before))
         lay1 = λ c. (segment-at-requires record { before = c .before; if1 = c .if1 }, λ g. lay2 record { before = record { before = c .before; if1 = c .if1 }; segment-at = Called.called ps·0 r·0 (claims· .1) T3 (record { pos = 1; ty = Syntax.tyRef (Syntax.named 0) Syntax.imm (MEM·.pointee (Segment.the-row .written)); ref = λ x. x }, (Num.vAt 3 λ x. x, tt)) (m6 (c .before)) g })
 
-        pub laid : (c : Start) → at37 (W0 (c .κs) (c .args)) (m0 (c .κs) (c .args))
+        pub laid : (c : Start) → at40 (W0 (c .κs) (c .args)) (m0 (c .κs) (c .args))
         laid = λ c. (λ taken. ((Path'.refl, (tt, (tt, tt))), returns record { before = c; if1 = record { taken = taken } }), λ left. lay1 record { before = c; if1 = record { left = left } })
 
         module _ (κs : Lifetimes.Lfts 1) (qs : Lifetimes.Shares 1) where

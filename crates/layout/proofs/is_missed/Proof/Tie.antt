@@ -48,6 +48,9 @@ After-end-before = Lts.After-end-before (Reads'3.Asked, Reads'3.Learnt, Reads.As
 abbrev pub After-struct-known3 : Type 0
 After-struct-known3 = Lts.After-struct-known3 (Reads'3.Asked, Reads'3.Learnt, Reads.Asked, Reads.Learnt, Reads'.Asked, Reads'.Learnt) Reads''.Pre Reads''.Post
 
+abbrev pub After-struct-known4 : Type 0
+After-struct-known4 = Lts.After-struct-known4 (Reads'3.Asked, Reads'3.Learnt, Reads.Asked, Reads.Learnt, Reads'.Asked, Reads'.Learnt) Reads''.Pre Reads''.Post
+
 abbrev pub After-in-reach : Type 0
 After-in-reach = Lts.After-in-reach (Reads'3.Asked, Reads'3.Learnt, Reads.Asked, Reads.Learnt, Reads'.Asked, Reads'.Learnt) Reads''.Pre Reads''.Post
 
@@ -69,6 +72,9 @@ Need-end-before-requires = Lts.Need-end-before-requires (Reads'3.Asked, Reads'3.
 abbrev pub Need-add-target : Type 0
 Need-add-target = Lts.Need-add-target (Reads'3.Asked, Reads'3.Learnt, Reads.Asked, Reads.Learnt, Reads'.Asked, Reads'.Learnt) Reads''.Pre Reads''.Post
 
+abbrev pub Need-sub-in-reach : Type 0
+Need-sub-in-reach = Lts.Need-sub-in-reach (Reads'3.Asked, Reads'3.Learnt, Reads.Asked, Reads.Learnt, Reads'.Asked, Reads'.Learnt) Reads''.Pre Reads''.Post
+
 abbrev pub Need-in-reach-requires : Type 0
 Need-in-reach-requires = Lts.Need-in-reach-requires (Reads'3.Asked, Reads'3.Learnt, Reads.Asked, Reads.Learnt, Reads'.Asked, Reads'.Learnt) Reads''.Pre Reads''.Post
 
@@ -76,8 +82,8 @@ abbrev pub Need-returns-3 : Type 0
 Need-returns-3 = Lts.Need-returns-3 (Reads'3.Asked, Reads'3.Learnt, Reads.Asked, Reads.Learnt, Reads'.Asked, Reads'.Learnt) Reads''.Pre Reads''.Post
 
 module _ {M : Type 1} where
-  pub spec : (answer : Need-returns) → (answer : Need-segment-at-requires) → (answer : Need-returns-2) → (answer : Need-cast-end-before) → (answer : Need-end-before-requires) → (answer : Need-add-target) → (answer : Need-in-reach-requires) → (answer : Need-returns-3) → Lts.Closed (Reads'3.Asked, Reads'3.Learnt, Reads.Asked, Reads.Learnt, Reads'.Asked, Reads'.Learnt) Reads''.Pre Reads''.Post M
-  spec = λ answer answer' answer'' answer'3 answer'4 answer'5 answer'6 answer'7. Lts.spec (Reads'3.Asked, Reads'3.Learnt, Reads.Asked, Reads.Learnt, Reads'.Asked, Reads'.Learnt) Reads''.Pre Reads''.Post answer answer' answer'' answer'3 answer'4 answer'5 answer'6 answer'7
+  pub spec : (answer : Need-returns) → (answer : Need-segment-at-requires) → (answer : Need-returns-2) → (answer : Need-cast-end-before) → (answer : Need-end-before-requires) → (answer : Need-add-target) → (answer : Need-sub-in-reach) → (answer : Need-in-reach-requires) → (answer : Need-returns-3) → Lts.Closed (Reads'3.Asked, Reads'3.Learnt, Reads.Asked, Reads.Learnt, Reads'.Asked, Reads'.Learnt) Reads''.Pre Reads''.Post M
+  spec = λ answer answer' answer'' answer'3 answer'4 answer'5 answer'6 answer'7 answer'8. Lts.spec (Reads'3.Asked, Reads'3.Learnt, Reads.Asked, Reads.Learnt, Reads'.Asked, Reads'.Learnt) Reads''.Pre Reads''.Post answer answer' answer'' answer'3 answer'4 answer'5 answer'6 answer'7 answer'8
 
   pub close : Lts.Closed (Reads'3.Asked, Reads'3.Learnt, Reads.Asked, Reads.Learnt, Reads'.Asked, Reads'.Learnt) Reads''.Pre Reads''.Post M → Statement.statement M
   unfolding Code.routine Running.tablesOf
