@@ -408,13 +408,10 @@ pub fn order_fits(asked: &[u8], n: usize, constants: &[u8], known: u32, labels: 
     if n == 0 {
         return is_each_unlabelled(constants, known);
     }
-    if FEW_MARKS < known as usize {
-        return large_order_fits(asked, n, constants, known);
+    if buffer::both(known as usize <= FEW_MARKS, labels as usize <= FEW_MARKS) {
+        return small_order_fits(asked, n, constants, known);
     }
-    if FEW_MARKS < labels as usize {
-        return large_order_fits(asked, n, constants, known);
-    }
-    small_order_fits(asked, n, constants, known)
+    large_order_fits(asked, n, constants, known)
 }
 
 // Whether every entry of the tables is one that calls write.

@@ -1,7 +1,9 @@
 -- `order_fits` meets its contract: without marks, with a few and with many.
-use native.Mathlib.Omega.{arith}
+use mathlib.Core.Path.{sym, _∙_}
+use borrow.Author.Tests.{leb-true}
+use Rattle.seqs.proofs.Booleans.{both-true}
 use Rattle.buffer.specs.Tables.{mostEntries}
-use Rattle.checks.specs.steps.Handed.{fewMarks, Labelled}
+use Rattle.checks.specs.steps.Handed.{fewMarks}
 use Rattle.checks.proofs.Marking.{order-unasked, labelled-more}
 use borrow.Author.Needs.{needs}
 use Rattle.checks.proofs.entries.order_fits.Statement.{statement}
@@ -12,24 +14,17 @@ returns c =
     let none : tie.Then1 = search in
     rw (c .is-each-unlabelled .ensures) (order-unasked _ _ _ _ (none .if1 .taken))
 
--- there is a mark for every label that there can be
-many : (c : tie.Start) → Labelled (c .args .constants .now) (c .args .known) mostEntries
-many c = labelled-more mostEntries (c .pre .1) (c .pre .0 .2)
+small-order-fits-requires : tie.Need-small-order-fits-requires
+small-order-fits-requires c κs =
+    let tested : tie.After-both = search in
+    let start : tie.Start = search in
+    let few = both-true _ _ (sym (tested .both .ensures) ∙ c .if2 .taken) in
+    ((start .pre .0 .0, leb-true _ _ (few .0)), labelled-more fewMarks (start .pre .1) (leb-true _ _ (few .1)))
 
 large-order-fits-requires : tie.Need-large-order-fits-requires
 large-order-fits-requires c κs =
     let start : tie.Start = search in
-    ((start .pre .0 .0, start .pre .0 .1), many start)
-
-large-order-fits-requires-2 : tie.Need-large-order-fits-requires-2
-large-order-fits-requires-2 c κs =
-    let start : tie.Start = search in
-    ((start .pre .0 .0, start .pre .0 .1), many start)
-
-small-order-fits-requires : tie.Need-small-order-fits-requires
-small-order-fits-requires c κs =
-    let start : tie.Start = search in
-    ((start .pre .0 .0, omega arith), labelled-more fewMarks (start .pre .1) (omega arith))
+    ((start .pre .0 .0, start .pre .0 .1), labelled-more mostEntries (start .pre .1) (start .pre .0 .2))
 
 pub order-fits-spec : {M : Type 1} → statement M
 order-fits-spec =
@@ -37,9 +32,8 @@ order-fits-spec =
     (tie.spec
     (λ c κs. search needs)
     returns
-    large-order-fits-requires
-    (λ c. search needs)
-    large-order-fits-requires-2
-    (λ c. search needs)
+    (λ c κs. search needs)
     small-order-fits-requires
+    (λ c. search needs)
+    large-order-fits-requires
     (λ c. search needs))
