@@ -3,16 +3,18 @@ use mathlib.Core.Path.{_≡_, refl, sym, ap, _∙_}
 use mathlib.Core.Logic.{⊎-elim}
 use mathlib.Core.Bool.{Bool, true, false}
 use mathlib.Core.List.{List, [], _∷_}
-use borrow.Author.Tests.{ne-eqb, le-leb, lt-leb, leb-true}
+use borrow.Author.Tests.{eq-eqb, ne-eqb, le-leb, lt-leb, leb-true}
 use Prim.Native.Nat.{ℕ, zero, suc, _+_, _*_, _-_, _≤_, _<_}
 use native.Mathlib.Numerals.{add-one}
 use native.Mathlib.Omega.{arith}
-use lib.Dec.{leb}
+use lib.Dec.{eqb, leb}
 use lib.ListN.{length, getD, take, drop, drop-of-length-le, length-drop}
-use lib.Seq.{drop-cons, drop-drop, take-all}
+use lib.Seq.{drop-cons, drop-drop, take-all, getD-drop}
+use Rattle.seqs.specs.Every.{all}
 use Rattle.seqs.specs.Pick.{pick}
 use Rattle.seqs.proofs.Numbers.{eq-or-ne}
 use Rattle.seqs.proofs.Booleans.{true-is-not-false}
+use Rattle.seqs.proofs.Every.{all-step}
 use Rattle.seqs.proofs.Picking.{pick-yes, pick-no}
 use Rattle.words.specs.Words.{wordAt}
 use Rattle.sheet.specs.Form.{isCounted, inRange, usedBytes, used, isClear, isFormed, firstBroken, argumentSize, mostBytes}
@@ -45,6 +47,29 @@ module _ (kinds arguments : List ℕ) (i : ℕ) where
   pub broken-end : length kinds ≤ i → firstBroken (drop i kinds) (drop (i * argumentSize) arguments) ≡ 0
   unfolding firstBroken
   broken-end h = rw (drop-of-length-le kinds {i = i} h)
+
+four-more : (f : ℕ → Bool) (i : ℕ) → all f i ≡ true → f i ≡ true → f (i + 1) ≡ true → f (i + 2) ≡ true → f (i + 3) ≡ true → all f (i + 4) ≡ true
+four-more f i passed a b c d =
+    let e2 : i + 1 + 1 ≡ i + 2 = omega arith in
+    let e3 : i + 2 + 1 ≡ i + 3 = omega arith in
+    let e4 : i + 3 + 1 ≡ i + 4 = omega arith in
+    let two = rw e2 at (all-step f (i + 1) (all-step f i passed a) b) in
+    let three = rw e3 at (all-step f (i + 2) two c) in
+    rw e4 at (all-step f (i + 3) three d)
+
+-- four bytes are clear where the word that they make is 0
+pub word-clear : (part : List ℕ) (i : ℕ) → i + 4 ≤ length part → wordAt (take (length part - i) (drop i part)) 0 ≡ 0
+    → all (λ (k : ℕ). eqb (getD part k 0) 0) i ≡ true → all (λ (k : ℕ). eqb (getD part k 0) 0) (i + 4) ≡ true
+unfolding wordAt
+word-clear part i fits clear passed =
+    let whole = take-all (length part - i) (drop i part) (omega (arith, length-drop i part)) in
+    let here : i + 0 ≡ i = omega arith in
+    let sum = rw (whole, getD-drop i part 0 0, getD-drop i part 1 0, getD-drop i part 2 0, getD-drop i part 3 0, here) at clear in
+    four-more (λ (k : ℕ). eqb (getD part k 0) 0) i passed
+    (eq-eqb (getD part i 0) 0 (omega (arith, sum)))
+    (eq-eqb (getD part (i + 1) 0) 0 (omega (arith, sum)))
+    (eq-eqb (getD part (i + 2) 0) 0 (omega (arith, sum)))
+    (eq-eqb (getD part (i + 3) 0) 0 (omega (arith, sum)))
 
 -- no entry of the list is above m
 abbrev AtMost : ℕ → List ℕ → Type 0

@@ -54,8 +54,8 @@ fn greatest_of(labels: &[u8], n: usize) -> u32
 }
 
 impl Bound {
-    // Before a call: the first jump that is read looks at the labels.
-    pub(crate) fn before_call(self, b: CodeBuffer, kind: u8, labels: &[u8]) -> Bound
+    // Before a call: the first jump that is read looks at the labels, if more calls follow.
+    pub(crate) fn before_call(self, b: CodeBuffer, kind: u8, labels: &[u8], more: bool) -> Bound
         requires { ⌜ Known (now labels) (b .labels) self ⌝ }
         ensures { λ r. ⌜ Known (now (labels .entry)) (b .labels) r ⌝ }
     {
@@ -66,6 +66,9 @@ impl Bound {
             return self;
         }
         if self.greatest != NONE {
+            return self;
+        }
+        if !more {
             return self;
         }
         let n = b.labels as usize;

@@ -1,7 +1,10 @@
 // The form of a sheet.
 ghost use mathlib.Core.Path.{_≡_};
-ghost use Prim.Native.Nat.{_*_};
+ghost use mathlib.Core.Bool.{true};
+ghost use Prim.Native.Nat.{ℕ, _*_, _≤_};
+ghost use lib.Dec.{eqb};
 ghost use lib.ListN.{length, getD};
+ghost use Rattle.seqs.specs.Every.{all};
 ghost use Rattle.seqs.specs.Pick.{pick};
 ghost use Rattle.words.specs.Words.{wordAt};
 ghost use Rattle.sheet.specs.Form.{isWhole, isCounted, hasCode, inRange, usedBytes, used, isClear, isFormed, firstBroken, argumentSize};
@@ -19,10 +22,24 @@ pub(crate) fn is_whole(sheet: &[u8]) -> bool
     sheet.len() as u64 == 4 + 17 * words::word_at(sheet, 0) as u64
 }
 
+// How many bytes in front are clear, taken by fours: the rest is shorter, or its first four are not.
+fn clear_front(part: &[u8]) -> usize
+    ensures { λ r. ⌜ (r ≤ length (now (part .entry))) × (all (λ (k : ℕ). eqb (getD (now (part .entry)) k 0) 0) r ≡ true) ⌝ }
+{
+    let mut i: usize = 0;
+    while 4 <= part.len() - i {
+        if words::word_at(&part[i..], 0) != 0 {
+            return i;
+        }
+        i += 4;
+    }
+    i
+}
+
 fn is_clear(part: &[u8]) -> bool
     ensures { λ r. ⌜ r ≡ isClear (now (part .entry)) ⌝ }
 {
-    let mut i: usize = 0;
+    let mut i = clear_front(part);
     while i < part.len() {
         if part[i] != 0 {
             return false;

@@ -53,7 +53,8 @@ fn run(
         let at = i * ARGUMENT_SIZE;
         let end = at + ARGUMENT_SIZE;
         let kind = kinds[i];
-        bound = bound.before_call(last, kind, labels);
+        let more = i + 1 < kinds.len();
+        bound = bound.before_call(last, kind, labels, more);
         let nearest = bound.nearest(last.code);
         let answer = calls::call(
             last,

@@ -1,7 +1,7 @@
 -- `run` meets its contract: what is left of the calls, on the recording as it is, gives what the whole gives.
 use mathlib.Core.Path.{_≡_, refl}
 use borrow.Author.Needs.{needs}
-use Prim.Native.Nat.{_*_, _-_, _≤_}
+use Prim.Native.Nat.{_+_, _*_, _-_, _≤_, _<_}
 use native.Mathlib.Omega.{arith}
 use lib.ListN.{length, drop}
 use Rattle.checks.specs.Lent.{recordingOf}
@@ -53,11 +53,11 @@ call-requires c κs =
     let looked : tie.After-before-call Inv-loop μ-loop = search in
     (search needs, told .nearest .ensures _ _ (looked .before-call .ensures))
 
-cast-t46 : tie.Need-cast-t46 Inv-loop μ-loop
-cast-t46 c =
-    let in-turn = turn (refused-call c) in
-    let start = entered (looped in-turn) in
-    record { fits = omega (arith, in-turn .loop-test .taken, start .pre .1) }
+-- the index of a call, and the next, are words
+index-small : (c : tie.In-loop Inv-loop μ-loop) → looped c .loop .i + 1 < 4294967296
+index-small c =
+    let start = entered (looped c) in
+    omega (arith, c .loop-test .taken, start .pre .1)
 
 returns : tie.Need-returns Inv-loop μ-loop
 returns c =
@@ -70,9 +70,7 @@ returns c =
 add-i : tie.Need-add-i Inv-loop μ-loop
 add-i c =
     let accepted : tie.Else1 Inv-loop μ-loop = search in
-    let in-turn = turn (accepted-call accepted) in
-    let start = entered (looped in-turn) in
-    record { fits = omega (arith, in-turn .loop-test .taken, start .pre .1) }
+    record { fits = omega (arith, index-small (turn (accepted-call accepted))) }
 
 loop-less : tie.Need-loop-less Inv-loop μ-loop
 loop-less c =
@@ -116,13 +114,14 @@ run-spec =
     (λ c. search needs)
     (λ c. search needs)
     (λ c. search needs)
+    (λ c. search needs)
     before-call-requires
     (λ c κs. search needs)
     (λ c. search needs)
     (λ c. search needs)
     (λ c. search needs)
     call-requires
-    cast-t46
+    (λ c. record { fits = omega (arith, index-small (turn (refused-call c))) })
     (λ c. omega (arith, refused-call c .call .kept, looped (turn (refused-call c)) .loop .inv))
     (λ c. omega (arith, refused-call c .call .kept, looped (turn (refused-call c)) .loop .inv))
     (λ c. omega (arith, refused-call c .call .kept, looped (turn (refused-call c)) .loop .inv))

@@ -7,7 +7,7 @@ use lib.Dec.{eqb}
 use lib.ListN.{length, getD}
 use borrow.Author.Tests.{eq-eqb, ne-eqb}
 use Rattle.seqs.proofs.Every.{every-all}
-use Rattle.seqs.proofs.Scans.{AllPassed, pass-one, pass-fails, pass-all, scans}
+use Rattle.seqs.proofs.Scans.{AllPassed, pass-one, pass-fails, pass-all}
 use borrow.Author.Needs.{needs}
 use Rattle.sheet.proofs.form.is_clear.Statement.{statement}
 use Rattle.sheet.proofs.form.is_clear.Tie as tie
@@ -17,6 +17,9 @@ Inv-loop part i₀ i = AllPassed (λ (k : ℕ). eqb (getD part k 0) 0) (length p
 
 abbrev μ-loop : tie.MeasureT-loop
 μ-loop part i₀ i = length part - i
+
+loop-holds : tie.Need-loop-holds Inv-loop μ-loop
+loop-holds c = record { within = c .clear-front .ensures .0; holds = c .clear-front .ensures .1 }
 
 returns : tie.Need-returns Inv-loop μ-loop
 returns c =
@@ -36,4 +39,4 @@ returns-2 c =
 pub is-clear-spec : {M : Type 1} → statement M
 is-clear-spec =
     tie.close
-    (tie.spec Inv-loop μ-loop (λ c. search scans) (λ c. search needs) returns (λ c. search needs) (λ c. search needs) loop-again returns-2)
+    (tie.spec Inv-loop μ-loop (λ c κs. search needs) loop-holds (λ c. search needs) returns (λ c. search needs) (λ c. search needs) loop-again returns-2)
