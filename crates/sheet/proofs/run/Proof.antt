@@ -1,4 +1,4 @@
--- `run` meets its contract: what is left of the calls, on the recording as it is, gives what the whole gives.
+-- `run` meets its contract: what is left of the calls, on the recording as it is, gives what the whole gives, and what is kept of the labels is right.
 use mathlib.Core.Path.{_≡_, refl}
 use borrow.Author.Needs.{needs}
 use Prim.Native.Nat.{_+_, _*_, _-_, _≤_, _<_}

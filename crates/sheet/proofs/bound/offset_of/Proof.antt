@@ -1,6 +1,5 @@
 -- `offset_of` meets its contract.
 use mathlib.Core.Path.{sym}
-use native.Mathlib.Omega.{arith}
 use Rattle.buffer.specs.State.{none}
 use Rattle.buffer.proofs.Below.{under-yes, under-no}
 use Rattle.sheet.proofs.bound.offset_of.Statement.{statement}

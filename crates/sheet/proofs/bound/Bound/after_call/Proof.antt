@@ -1,6 +1,5 @@
 -- `after_call` meets its contract.
 use borrow.Author.Needs.{needs}
-use borrow.Author.Tests.{eqb-true}
 use native.Mathlib.Omega.{arith}
 use Rattle.sheet.proofs.Bounds.{known-still, known-past, known-there, known-before}
 use Rattle.sheet.proofs.bound.Bound.after_call.Statement.{statement}
