@@ -8,7 +8,7 @@ ghost use Rattle.recording.specs.Sound.{startAt, endAt};
 ghost use Rattle.seqs.specs.Every.{all};
 ghost use Rattle.relax.specs.Events.{eventSize};
 ghost use Rattle.buffer.specs.Tables.{mostEntries, labelSize, useSize, refSize, constantSize, askedSize, relocSize};
-ghost use Rattle.lookup.specs.steps.Index.{Indexed};
+ghost use Rattle.lookup.specs.steps.Index.{indexSize, mostKeys, Indexed};
 ghost use Rattle.checks.specs.Entries.{formFits, eventFits, keptOnly, eventsFit, labelFits, labelsFit, useFits, usesFit, refFits, refsFit, relocFits, relocsFit, constantFits, constantsFit, orderFits, entriesFit};
 ghost use Rattle.checks.specs.steps.Search.{Ordered};
 ghost use Rattle.checks.specs.steps.Handed.{fewMarks, CountsFit, tables, Labelled, Marking, newAt, unlabelled, unlabelledOr};
@@ -130,7 +130,32 @@ fn each_label_fits(
     true
 }
 
-// An index pays where there are many events and many labels.
+// By an index of the events' starts, for which there is room.
+fn labels_fit_by(
+    labels: &[u8],
+    n: usize,
+    events: &[u8],
+    m: usize,
+    code: u32,
+    index: &mut [u32],
+) -> bool
+    requires { ⌜ n * labelSize ≤ length (now labels) ⌝ ∗ ⌜ (m * eventSize ≤ length (now events)) × (m ≤ mostKeys) × (indexSize ≤ length (now index)) ⌝ ∗ ⌜ Ordered (startAt (now events)) (endAt (now events)) m ⌝ }
+    ensures { λ r. ⌜ r ≡ labelsFit (now (labels .entry)) n (now (events .entry)) m code ⌝ }
+{
+    let shift = lookup::shift_for(code, index.len());
+    crate::search::index_events(index, shift, events, m);
+    each_label_fits(labels, n, events, m, code, index, shift)
+}
+
+fn many_labels_fit(labels: &[u8], n: usize, events: &[u8], m: usize, code: u32) -> bool
+    requires { ⌜ n * labelSize ≤ length (now labels) ⌝ ∗ ⌜ (m * eventSize ≤ length (now events)) × (m ≤ mostKeys) ⌝ ∗ ⌜ Ordered (startAt (now events)) (endAt (now events)) m ⌝ }
+    ensures { λ r. ⌜ r ≡ labelsFit (now (labels .entry)) n (now (events .entry)) m code ⌝ }
+{
+    let mut index = [0u32; lookup::LARGE_SIZE];
+    labels_fit_by(labels, n, events, m, code, &mut index)
+}
+
+// An index pays where there are many events and many labels, and a large one where there are very many.
 pub fn labels_fit(labels: &[u8], n: usize, events: &[u8], m: usize, code: u32) -> bool
     requires { ⌜ n * labelSize ≤ length (now labels) ⌝ ∗ ⌜ m * eventSize ≤ length (now events) ⌝ ∗ ⌜ Ordered (startAt (now events)) (endAt (now events)) m ⌝ }
     ensures { λ r. ⌜ r ≡ labelsFit (now (labels .entry)) n (now (events .entry)) m code ⌝ }
@@ -139,10 +164,11 @@ pub fn labels_fit(labels: &[u8], n: usize, events: &[u8], m: usize, code: u32) -
         let none = [0u32; 0];
         return each_label_fits(labels, n, events, m, code, &none, 0);
     }
+    if lookup::MANY <= m {
+        return many_labels_fit(labels, n, events, m, code);
+    }
     let mut index = [0u32; lookup::SIZE];
-    let shift = lookup::shift_for(code);
-    crate::search::index_events(&mut index, shift, events, m);
-    each_label_fits(labels, n, events, m, code, &index, shift)
+    labels_fit_by(labels, n, events, m, code, &mut index)
 }
 
 fn use_fits(uses: &[u8], arch: u32, labels: u32, i: usize) -> bool

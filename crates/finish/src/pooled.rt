@@ -171,7 +171,8 @@ pub(crate) fn relax_and_write(
     let recorded = b.events as usize;
     let pooled = b.asked as usize;
     let all = recorded + pooled;
-    let shift = lookup::shift_for(pool::pool_end(b.code, constants, asked, pooled));
+    let end = pool::pool_end(b.code, constants, asked, pooled);
+    let shift = lookup::shift_for(end, index.len());
     let laid = layout::relax_jumps(
         segments,
         events,
@@ -276,7 +277,8 @@ pub(crate) fn large_relaxed(
 {
     let all = b.events as usize + b.asked as usize;
     let mut long = [false; buffer::MOST_ENTRIES];
-    let mut index = [0; lookup::SIZE];
+    let mut index = [0; lookup::LARGE_SIZE];
+    let size = lookup::size_for(all);
     relax_and_write(
         b,
         code,
@@ -289,7 +291,7 @@ pub(crate) fn large_relaxed(
         segments,
         output,
         &mut long[0..all],
-        &mut index,
+        &mut index[0..size],
     )
 }
 

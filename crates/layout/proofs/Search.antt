@@ -17,7 +17,7 @@ use Rattle.layout.specs.steps.Layout.{zeroSegment, startAt, Rising, Sort
 
 -- Where the search starts, by the index.
 pub between-first : {index : List ℕ} {ss : List Segment} {n shift : ℕ} (offset : ℕ) {low high : ℕ} → Indexed index (startAt ss) n shift
-    → Narrowed index n (part shift offset) low high → Between ss n offset low high
+    → Narrowed index n (part (length index) shift offset) low high → Between ss n offset low high
 between-first offset x w =
     let around = narrowed-around offset x w in
     record { order = around .order; within = around .within; under = λ j h. omega (arith, around .under j h); above = around .above }

@@ -11,16 +11,16 @@ use Rattle.seqs.proofs.Numbers.{lt-or-ge, eq-or-ne}
 use Rattle.lookup.specs.steps.Index.{parts, indexSize, part, Rises, Before, Indexed, Filled, Marked, Narrowed, Around}
 
 -- What lies further on lies in no earlier part.
-part-rises : (shift : ℕ) {x y : ℕ} → x ≤ y → part shift x ≤ part shift y
+part-rises : (size shift : ℕ) {x y : ℕ} → x ≤ y → part size shift x ≤ part size shift y
 unfolding part
-part-rises shift {x} {y} h = omega (arith, shr-mono shift h)
+part-rises size shift {x} {y} h = omega (arith, shr-mono shift h)
 
-part-small : (shift x : ℕ) → part shift x ≤ parts
+part-small : (size shift x : ℕ) → part size shift x ≤ parts size
 unfolding part
-part-small shift x = omega arith
+part-small size shift x = omega arith
 
-part-tells : (shift : ℕ) {x y : ℕ} → part shift x < part shift y → x < y
-part-tells shift {x} {y} h = ⊎-elim (λ l. l) (λ (back : y ≤ x). absurd (omega (arith, part-rises shift back))) (lt-or-ge x y)
+part-tells : (size shift : ℕ) {x y : ℕ} → part size shift x < part size shift y → x < y
+part-tells size shift {x} {y} h = ⊎-elim (λ l. l) (λ (back : y ≤ x). absurd (omega (arith, part-rises size shift back))) (lt-or-ge x y)
 
 -- An index that nothing is marked in.
 pub filled-none : (index : List ℕ) (key : ℕ → ℕ) (n shift : ℕ) → shift < 32 → indexSize ≤ length index → Filled index key n shift 0 0
@@ -35,7 +35,7 @@ filled-none index key n shift b e = record {
 module _ {key : ℕ → ℕ} {n shift : ℕ} {index after : List ℕ} {i next to r : ℕ} where
   -- The entries that are written as offset i is marked count the i offsets before it: these lie in parts before `next`, and those from i on in none before `to`.
   marked-counts : Filled index key n shift i next → Marked index after next to i r → i ≤ n
-      → ((j : ℕ) → i ≤ j → j < n → to ≤ part shift (key j) + 1) → (p : ℕ) → p < r → Before key n shift p (getD after p 0)
+      → ((j : ℕ) → i ≤ j → j < n → to ≤ part (length index) shift (key j) + 1) → (p : ℕ) → p < r → Before key n (length index) shift p (getD after p 0)
   marked-counts f m few late p l =
       ⊎-elim
       (λ (old : p < next). rw (m .kept p old) (f .counts p old))
@@ -50,23 +50,23 @@ module _ {key : ℕ → ℕ} {n shift : ℕ} {index after : List ℕ} {i next to
 
 -- One offset more is marked.
 pub filled-one : {index after : List ℕ} {key : ℕ → ℕ} {n shift i next r : ℕ} → Rises key n → Filled index key n shift i next → i < n
-    → Marked index after next (part shift (key i) + 1) i r → Filled after key n shift (i + 1) r
+    → Marked index after next (part (length index) shift (key i) + 1) i r → Filled after key n shift (i + 1) r
 filled-one {index} {after} {key} {n} {shift} {i} {next} {r} o f l m =
     record {
       few-bits = f .few-bits;
       size = omega (arith, m .size, f .size);
-      most = omega (arith, part-small shift (key i), m .reached, f .most);
-      counts = marked-counts f m (omega arith) (λ j h k. omega (arith, part-rises shift (o .rises i j h k)));
-      passed = λ j h. omega (arith, part-rises shift (o .rises j i (omega arith) l), m .reached);
+      most = omega (arith, part-small (length index) shift (key i), m .reached, m .size, f .most, f .size);
+      counts = rw (m .size) (marked-counts f m (omega arith) (λ j h k. omega (arith, part-rises (length index) shift (o .rises i j h k))));
+      passed = rw (m .size) (λ j h. omega (arith, part-rises (length index) shift (o .rises j i (omega arith) l), m .reached));
     }
 
 -- After the last offset the rest of the entries count them all.
-pub filled-all : {index after : List ℕ} {key : ℕ → ℕ} {n shift next r : ℕ} → Filled index key n shift n next → Marked index after next indexSize n r
+pub filled-all : {index after : List ℕ} {key : ℕ → ℕ} {n shift next r : ℕ} → Filled index key n shift n next → Marked index after next (length index) n r
     → Indexed after key n shift
 filled-all f m =
     record {
       few-bits = f .few-bits;
-      counts = λ s p l. marked-counts f m (omega arith) (λ j h k. absurd (omega arith)) p (omega (arith, m .reached));
+      counts = rw (m .size) (λ s p l. marked-counts f m (omega arith) (λ j h k. absurd (omega arith)) p (omega (arith, m .reached)));
     }
 
 -- Without an index.
@@ -87,7 +87,7 @@ indexed-same {shift = shift} x same =
           };
     }
 
-module _ {index : List ℕ} {key : ℕ → ℕ} {n shift : ℕ} (offset : ℕ) {low high : ℕ} (x : Indexed index key n shift) (w : Narrowed index n (part shift offset) low high) where
+module _ {index : List ℕ} {key : ℕ → ℕ} {n shift : ℕ} (offset : ℕ) {low high : ℕ} (x : Indexed index key n shift) (w : Narrowed index n (part (length index) shift offset) low high) where
   around-all : length index < indexSize → Around key n offset low high
   around-all s =
       let ends = w .all s in
@@ -100,10 +100,11 @@ module _ {index : List ℕ} {key : ℕ → ℕ} {n shift : ℕ} (offset : ℕ) {
 
   around-part : indexSize ≤ length index → Around key n offset low high
   around-part s =
-      let here = part shift offset in
-      let small = part-small shift offset in
-      let first : Before key n shift here low = rw (w .first s) (x .counts s here (omega arith)) in
-      let last : Before key n shift (here + 1) high = rw (w .last s) (x .counts s (here + 1) (omega arith)) in
+      let size = length index in
+      let here = part size shift offset in
+      let small = part-small size shift offset in
+      let first : Before key n size shift here low = rw (w .first s) (x .counts s here (omega arith)) in
+      let last : Before key n size shift (here + 1) high = rw (w .last s) (x .counts s (here + 1) (omega arith)) in
       record {
         order =
             ⊎-elim
@@ -111,8 +112,8 @@ module _ {index : List ℕ} {key : ℕ → ℕ} {n shift : ℕ} (offset : ℕ) {
             (λ l. l)
             (lt-or-ge high low);
         within = last .few;
-        under = λ j l. part-tells shift (first .below j l);
-        above = λ j h k. part-tells shift (omega (arith, last .above j h k));
+        under = λ j l. part-tells size shift (first .below j l);
+        above = λ j h k. part-tells size shift (omega (arith, last .above j h k));
       }
 
   -- What `narrow` finds: a search for the offset has to look between these alone.
@@ -140,8 +141,8 @@ pub marked-end : {before index : List ℕ} {next p to v : ℕ} → Marked before
 marked-end m h k = record { size = m .size; reached = omega (arith, m .reached); kept = m .kept; marks = m .marks }
 
 -- Shifted by 22 bits every offset lies in the parts that are told apart.
-pub shift-grows : (end shift : ℕ) → end < 2 ^ 32 → shift ≤ 22 → parts ≤ end / 2 ^ shift → shift < 22
-shift-grows end shift l h far =
+pub shift-grows : (end shift told : ℕ) → end < 2 ^ 32 → shift ≤ 22 → 1024 ≤ told → told ≤ end / 2 ^ shift → shift < 22
+shift-grows end shift told l h some far =
     ⊎-elim
     (λ (most : shift ≡ 22). let near : end / 2 ^ 22 < 2 ^ 10 = shr-lt 10 22 l in absurd (omega (arith, rw most at far)))
     (λ other. omega arith)

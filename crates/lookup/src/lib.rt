@@ -5,12 +5,15 @@ ghost use mathlib.Core.Path.{_≡_};
 ghost use mathlib.Core.Bool.{true};
 ghost use Prim.Native.Nat.{_+_, _/_, _^_, _≤_, _<_};
 ghost use lib.ListN.{length, getD};
-ghost use Rattle.lookup.specs.steps.Index.{parts, indexSize, mostKeys, part, Marked, Narrowed};
+ghost use Rattle.lookup.specs.steps.Index.{parts, indexSize, largeSize, mostKeys, part, Marked, Narrowed};
 
-// Parts that are told apart. What lies past them is one part more, and the index has an entry for each part and one for the end.
-pub const PARTS: u32 = 1024;
-
+// An index has an entry for each part that is told apart, one for what lies past them, and one for the end. It is at least so long; a shorter slice is none.
 pub const SIZE: usize = 1026;
+
+// With so many offsets a longer one pays.
+pub const MANY: usize = 4096;
+
+pub const LARGE_SIZE: usize = 16386;
 
 // With fewer offsets, or fewer searches, than these an index does not pay.
 pub const FEW: usize = 24;
@@ -37,27 +40,49 @@ pub fn pays(keys: usize, searches: usize) -> bool
     FEW <= searches
 }
 
-// The least shift by which offsets up to `end` lie in the parts that are told apart.
-pub fn shift_for(end: u32) -> u32
-    ensures { λ r. ⌜ (r < 32) × (end / 2 ^ r < parts) ⌝ }
+// How long an index of so many offsets is best, of those that have room in a large one.
+pub fn size_for(keys: usize) -> usize
+    ensures { λ r. ⌜ (indexSize ≤ r) × (r ≤ largeSize) ⌝ }
 {
+    if keys < MANY {
+        return SIZE;
+    }
+    LARGE_SIZE
+}
+
+// The parts that an index of a length tells apart; those of the shortest where it is none.
+fn parts_of(size: usize) -> usize
+    ensures { λ r. ⌜ (indexSize ≤ size → r ≡ parts size) × (1024 ≤ r) ⌝ }
+{
+    if size < SIZE {
+        return SIZE - 2;
+    }
+    size - 2
+}
+
+// The least shift by which offsets up to `end` lie in the parts that an index of a length tells apart.
+pub fn shift_for(end: u32, size: usize) -> u32
+    ensures { λ r. ⌜ r < 32 ⌝ ∗ ⌜ (indexSize ≤ size → end / 2 ^ r < parts size) ⌝ }
+{
+    let told = parts_of(size);
     let mut shift: u32 = 0;
-    while PARTS <= end >> shift {
+    while told <= (end >> shift) as usize {
         shift += 1;
     }
     shift
 }
 
-// The part that an offset lies in.
-fn part_of(offset: u32, shift: u32) -> usize
-    requires { ⌜ shift < 32 ⌝ }
-    ensures { λ r. ⌜ (r ≡ part shift offset) × (r ≤ parts) ⌝ }
+// The part that an offset lies in, for an index of a length.
+fn part_of(offset: u32, shift: u32, size: usize) -> usize
+    requires { ⌜ (shift < 32) × (indexSize ≤ size) ⌝ }
+    ensures { λ r. ⌜ (r ≡ part size shift offset) × (r ≤ parts size) ⌝ }
 {
-    let found = offset >> shift;
-    if found < PARTS {
-        return found as usize;
+    let past = size - 2;
+    let found = (offset >> shift) as usize;
+    if found < past {
+        return found;
     }
-    PARTS as usize
+    past
 }
 
 // Writes `value` into the entries from `next` up to `to`. The first entry that is not written yet.
@@ -76,18 +101,19 @@ fn fill(index: &mut [u32], next: usize, to: usize, value: u32) -> usize
 // Marks offset number `i`, the offsets before it being marked: the entries from `next` up to its own part count those. The first entry that is left.
 pub fn mark(index: &mut [u32], shift: u32, next: usize, i: usize, offset: u32) -> usize
     requires { ⌜ (indexSize ≤ length (now index)) × (shift < 32) × (i ≤ mostKeys) ⌝ }
-    ensures { λ r. ⌜ Marked (now (index .entry)) (now (index .exit)) next (part shift offset + 1) i r ⌝ }
+    ensures { λ r. ⌜ Marked (now (index .entry)) (now (index .exit)) next (part (length (now (index .entry))) shift offset + 1) i r ⌝ }
 {
-    let own = part_of(offset, shift);
+    let own = part_of(offset, shift, index.len());
     fill(index, next, own + 1, i as u32)
 }
 
 // After the last of `n` offsets is marked: the entries that are left count them all.
 pub fn close(index: &mut [u32], next: usize, n: usize) -> usize
-    requires { ⌜ (indexSize ≤ length (now index)) × (n ≤ mostKeys) ⌝ }
-    ensures { λ r. ⌜ Marked (now (index .entry)) (now (index .exit)) next indexSize n r ⌝ }
+    requires { ⌜ n ≤ mostKeys ⌝ }
+    ensures { λ r. ⌜ Marked (now (index .entry)) (now (index .exit)) next (length (now (index .entry))) n r ⌝ }
 {
-    fill(index, next, SIZE, n as u32)
+    let size = index.len();
+    fill(index, next, size, n as u32)
 }
 
 // How many offsets lie in the parts before part `p`.
@@ -101,12 +127,12 @@ fn count_at(index: &[u32], p: usize) -> usize
 // Between which of the `n` offsets a search for an offset starts: between all of them where there is no index, an empty slice.
 pub fn narrow(index: &[u32], shift: u32, n: usize, offset: u32) -> Span
     requires { ⌜ shift < 32 ⌝ }
-    ensures { λ r. ⌜ Narrowed (now (index .entry)) n (part shift offset) (r .low) (r .high) ⌝ }
+    ensures { λ r. ⌜ Narrowed (now (index .entry)) n (part (length (now (index .entry))) shift offset) (r .low) (r .high) ⌝ }
 {
     if index.len() < SIZE {
         return Span { low: 0, high: n };
     }
-    let own = part_of(offset, shift);
+    let own = part_of(offset, shift, index.len());
     Span {
         low: count_at(index, own),
         high: count_at(index, own + 1),

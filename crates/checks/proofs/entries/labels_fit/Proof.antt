@@ -11,13 +11,19 @@ each-label-fits-requires c κs =
     let start : tie.Start = search in
     (start .pre .0, (start .pre .1 .0, (start .pre .1 .1, indexed-none _ _ _ _ (omega arith) (omega arith))))
 
-index-events-requires : tie.Need-index-events-requires
-index-events-requires c κs =
-    let shifted : tie.After-shift-for = search in
+many-labels-fit-requires : tie.Need-many-labels-fit-requires
+many-labels-fit-requires c κs =
     let else1 : tie.Else1 = search in
     let asked : tie.After-pays = search in
     let start : tie.Start = search in
-    ((omega arith, shifted .shift-for .ensures .0, asked .pays .ensures (not-false _ (else1 .if1 .left)), start .pre .1 .0), start .pre .1 .1)
+    (start .pre .0, ((start .pre .1 .0, asked .pays .ensures (not-false _ (else1 .if1 .left))), start .pre .1 .1))
+
+labels-fit-by-requires : tie.Need-labels-fit-by-requires
+labels-fit-by-requires c κs =
+    let else1 : tie.Else1 = search in
+    let asked : tie.After-pays = search in
+    let start : tie.Start = search in
+    (start .pre .0, ((start .pre .1 .0, asked .pays .ensures (not-false _ (else1 .if1 .left)), omega arith), start .pre .1 .1))
 
 pub labels-fit-spec : {M : Type 1} → statement M
 labels-fit-spec =
@@ -27,9 +33,8 @@ labels-fit-spec =
     (λ c. search needs)
     each-label-fits-requires
     (λ c. search needs)
-    (λ c κs. search needs)
+    many-labels-fit-requires
     (λ c. search needs)
-    index-events-requires
     (λ c. search needs)
-    (λ c κs. search needs)
+    labels-fit-by-requires
     (λ c. search needs))

@@ -36,9 +36,8 @@ loop-again c =
 
 close-requires : tie.Need-close-requires Inv-loop μ-loop
 close-requires c κs =
-    let at-loop : tie.At-loop Inv-loop μ-loop = search in
     let start : tie.Start Inv-loop μ-loop = search in
-    (at-loop .loop .inv .0 .size, omega arith)
+    start .pre .0 .2
 
 same-length : tie.Need-same-length Inv-loop μ-loop
 same-length c =

@@ -23,9 +23,12 @@ large-relaxed-spec =
     (λ c. search needs)
     (λ c. search needs)
     add-all
+    (λ c κs. search needs)
     (λ c. search needs)
     (λ c. search needs)
     part-long-end
+    (λ c. search needs)
+    (λ c. search needs)
     (λ c. search needs)
     relax-and-write-requires
     (λ c. search needs)
