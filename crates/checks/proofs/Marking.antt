@@ -15,7 +15,6 @@ use Rattle.seqs.proofs.Booleans.{both-true}
 use Rattle.words.specs.Words.{wordAt}
 use Rattle.buffer.specs.State.{none}
 use Rattle.buffer.specs.Tables.{constantSize}
-use Rattle.recording.specs.Sound.{labelOf}
 use Rattle.seqs.specs.Every.{all}
 use Rattle.checks.specs.Entries.{askedFits, askedOnce, isAsked, orderFits}
 use Rattle.checks.specs.steps.Handed.{occurs, Marks, Marking, Labelled, askedLabel, newAt, unlabelled, unlabelledOr}

@@ -1,5 +1,4 @@
 -- `labels_fit_by` meets its contract.
-use native.Mathlib.Omega.{arith}
 use borrow.Author.Needs.{needs}
 use Rattle.checks.proofs.entries.labels_fit_by.Statement.{statement}
 use Rattle.checks.proofs.entries.labels_fit_by.Tie as tie
