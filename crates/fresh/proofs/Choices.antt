@@ -9,9 +9,10 @@ use lib.Dec.{leb}
 use borrow.Author.Tests.{leb-true, le-leb}
 use Rattle.seqs.proofs.Booleans.{both-true}
 use Rattle.relax.specs.declared.LayoutEvent.{LayoutEvent}
+use Rattle.relax.specs.declared.LayoutEvent.the-variants.{Jump, Align}
 use Rattle.relax.specs.declared.RelaxableJump.{RelaxableJump}
 use Rattle.relax.specs.Events.{shortLen}
-use Rattle.fresh.specs.Forms.{Branch, pads, branches, roleOf, branchOf}
+use Rattle.fresh.specs.Forms.{width, Branch, pads, branches, roleOf, branchOf}
 use Rattle.fresh.specs.Fresh.{Choice, isLong, others}
 use Rattle.fresh.specs.Rounds.{reaches, isFar, firstStart, otherStarts, farOf, any, join}
 use Rattle.fresh.specs.Demand.{Reach}
@@ -108,6 +109,13 @@ pub jump-reaches : (j : RelaxableJump) (start label : ℕ)
     → reaches (branchOf j) start label ≡ (leb (start + shortLen) (label + 128) && leb label (start + shortLen + 127))
 unfolding reaches
 jump-reaches j start label = let end : start + 1 + 1 ≡ start + 2 = omega arith in rw end refl
+
+-- of a branch, from the end of its short form
+pub short-reaches : (e : LayoutEvent) (b : Branch) → roleOf e ≡ branches b → (start label : ℕ)
+    → reaches b start label ≡ (leb (start + width e false start) (label + 128) && leb label (start + width e false start + 127))
+unfolding roleOf width
+short-reaches (Jump j) b r start label = let is : branchOf j ≡ b = cc in rw (← is) (jump-reaches j start label)
+short-reaches (Align a) b r start label = let z : _≡_ {A = ℕ} 0 1 = cc in absurd (omega arith)
 
 -- what pads is never far, and a branch is not where it reaches, or is long
 pub pads-near : (at : ℕ → ℕ) (e : LayoutEvent) (long : Bool) (start : ℕ) → roleOf e ≡ pads → isFar at e long start ≡ false

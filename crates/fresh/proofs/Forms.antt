@@ -14,7 +14,7 @@ use Rattle.relax.specs.declared.Condition.{Condition}
 use Rattle.relax.specs.declared.Condition.the-variants.{Always, On}
 use Rattle.relax.specs.declared.LayoutEvent.{LayoutEvent}
 use Rattle.relax.specs.declared.LayoutEvent.the-variants.{Jump, Align}
-use Rattle.relax.specs.Events.{longLen}
+use Rattle.relax.specs.Events.{shortLen, longLen}
 use Rattle.buffer.proofs.Appends.{padding-length}
 use Rattle.fresh.specs.Forms.{shortForm, longForm, form, width, Branch, fieldOf, branches, branchOf, roleOf}
 use Rattle.fresh.specs.steps.Runs.{Small}
@@ -55,6 +55,13 @@ branch-wider (Jump j) b r false true n m h = omega (arith, longLen-range (j .cc)
 branch-wider (Jump j) b r true false n m h = no-confusion (h refl)
 branch-wider (Jump j) b r true true n m h = omega arith
 branch-wider (Align a) b r long longer n m h = let z : _≡_ {A = ℕ} 0 1 = cc in absurd (omega arith)
+
+-- A branch has room for its short form.
+pub branch-wide : (e : LayoutEvent) (b : Branch) → roleOf e ≡ branches b → (long : Bool) (n : ℕ) → shortLen ≤ width e long n
+unfolding width roleOf
+branch-wide (Jump j) b r false n = omega arith
+branch-wide (Jump j) b r true n = omega (arith, longLen-range (j .cc))
+branch-wide (Align a) b r long n = let z : _≡_ {A = ℕ} 0 1 = cc in absurd (omega arith)
 
 -- A branch holds its displacement.
 pub field-inside : (e : LayoutEvent) (b : Branch) → roleOf e ≡ branches b → (long : Bool) (n : ℕ)

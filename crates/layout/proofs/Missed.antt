@@ -10,22 +10,21 @@ use lib.Seq.{ext-getD}
 use borrow.Author.Tests.{eq-eqb, ne-eqb}
 use Rattle.seqs.proofs.Numbers.{lt-or-ge}
 use Rattle.relax.specs.declared.LayoutEvent.{LayoutEvent}
-use Rattle.relax.specs.declared.LayoutEvent.the-variants.{Jump, Align}
 use Rattle.relax.specs.declared.Segment.{Segment}
 use Rattle.relax.specs.Events.{eventAt, noEvent, shortLen}
 use Rattle.buffer.specs.State.{none}
 use Rattle.buffer.specs.Tables.{mostEntries}
 use Rattle.recording.specs.View.{entries}
 use Rattle.recording.proofs.Views.{length-entries, getD-entries}
-use Rattle.fresh.specs.Forms.{Branch, branches, roleOf, branchOf, width}
+use Rattle.fresh.specs.Forms.{width}
 use Rattle.fresh.specs.Fresh.{Choice}
-use Rattle.fresh.specs.Rounds.{reaches, isFar, farOf}
+use Rattle.fresh.specs.Rounds.{isFar, farOf}
 use Rattle.fresh.specs.Segments.{segments, mapOffset}
 use Rattle.fresh.specs.Order.{Ordered}
 use Rattle.fresh.specs.steps.Runs.{Cursor, Modest, newStarts, after, segmentAt}
 use Rattle.fresh.proofs.Tests.{by-role}
-use Rattle.fresh.proofs.Forms.{longLen-range}
-use Rattle.fresh.proofs.Choices.{farOf-getD, length-farOf, jump-reaches, pads-near, branch-far, long-near}
+use Rattle.fresh.proofs.Forms.{branch-wide}
+use Rattle.fresh.proofs.Choices.{farOf-getD, length-farOf, short-reaches, pads-near, branch-far, long-near}
 use Rattle.fresh.proofs.Loops.{segments-getD, after-suc, after-le}
 use Rattle.pool.specs.steps.Pool.{pooledBound}
 use Rattle.layout.specs.steps.Layout.{zeroSegment}
@@ -40,19 +39,6 @@ pub missed-reach : (ss : List Segment) (row : Segment) (start target : ℕ) (nea
     → target ≡ row .«old_end» + endBefore ss (row .«new_start») → start + shortLen ≡ row .«new_end» → not near ≡ isMissed ss row
 unfolding isMissed
 missed-reach ss row start target near some e t s = rw (ne-eqb (row .«new_start») none some, isMissed) (ap not (e ∙ (ap (λ (x : ℕ). inReach x target) s ∙ ap (inReach (row .«new_end»)) t)))
-
--- A branch has room for its short form.
-branch-wide : (e : LayoutEvent) (b : Branch) → roleOf e ≡ branches b → (long : Bool) (n : ℕ) → shortLen ≤ width e long n
-unfolding roleOf width
-branch-wide (Jump j) b r false n = omega arith
-branch-wide (Jump j) b r true n = omega (arith, longLen-range (j .cc))
-branch-wide (Align a) b r long n = let z : _≡_ {A = ℕ} 0 1 = cc in absurd (omega arith)
-
--- A short branch reaches from its end.
-short-reaches : (e : LayoutEvent) (b : Branch) → roleOf e ≡ branches b → (start label : ℕ) → reaches b start label ≡ inReach (start + width e false start) label
-unfolding roleOf width
-short-reaches (Jump j) b r start label = let is : branchOf j ≡ b = cc in rw (← is) (jump-reaches j start label)
-short-reaches (Align a) b r start label = let z : _≡_ {A = ℕ} 0 1 = cc in absurd (omega arith)
 
 module _ {es : List LayoutEvent} {c : Choice} {ss : List Segment} (q : Ends es c ss) where
   -- The table has the new ends of the layout.
