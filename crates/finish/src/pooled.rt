@@ -134,6 +134,7 @@ pub(crate) fn write_relaxed(
         b.code as usize,
         fields::X64,
     );
+    // Among the recorded events alone, and so without the index, which is of all.
     let to = layout::map(segments, recorded, &index[0..0], shift, b.code);
     pool::emit(output, fields::X64, to, constants, asked, pooled);
     emit::patch_refs(
@@ -150,7 +151,8 @@ pub(crate) fn write_relaxed(
     pool::write(output, labels, constants, asked, pooled);
 }
 
-// The rounds and what comes after them: 18 and 23, which leave the settled segments in their table, and the writing. `long` has an entry for each event.
+// The rounds and what comes after them: 18 and 23, which leave the settled segments in their table, and the writing. `long` has an entry for each event, and
+// `index` room for an index of their starts, or none.
 pub(crate) fn relax_and_write(
     b: CodeBuffer,
     code: &[u8],
@@ -224,7 +226,7 @@ fn index_size(all: usize) -> usize
     0
 }
 
-// With few events and constants a few marks are enough.
+// With few events and constants a few marks and a short index are enough.
 pub(crate) fn small_relaxed(
     b: CodeBuffer,
     code: &[u8],
@@ -260,6 +262,7 @@ pub(crate) fn small_relaxed(
     )
 }
 
+// With more, marks for as many as there can be.
 pub(crate) fn large_relaxed(
     b: CodeBuffer,
     code: &[u8],
