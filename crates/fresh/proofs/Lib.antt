@@ -4,6 +4,7 @@ pub mod Events
 pub mod Entries
 pub mod Items
 pub mod Moves
+pub mod Constants
 pub mod Choices
 pub mod Loops
 pub mod Rounds

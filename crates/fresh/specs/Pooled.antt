@@ -1,7 +1,8 @@
--- The recording as finish gets it, its constants pooled: document 01, "Pool constants in order of asking", and its paragraph on a fresh assembly.
+-- The recording as finish gets it, its constants pooled: document 01, "Pool constants in order of asking", and its paragraph on a fresh assembly;
+-- document 02, Request One.
 use mathlib.Core.Bool.{cond}
 use mathlib.Core.List.{List, [], _∷_, _++_}
-use Prim.Native.Nat.{ℕ, zero, suc, _+_}
+use Prim.Native.Nat.{ℕ, zero, suc, _+_, max}
 use lib.Dec.{leb}
 use lib.ListN.{length, getD, set, replicate}
 use Rattle.encoder.specs.Padding.{paddingLength}
@@ -11,9 +12,9 @@ use Rattle.buffer.specs.State.{none, keepsEvents}
 use Rattle.buffer.specs.Calls.{padding}
 use Rattle.recording.specs.View.{Use, Ref, Constant, View}
 
--- a constant of n bytes is "aligned on 8 up to 8 bytes, else 16"
+-- "A constant of more than 32 bytes stands on a multiple of 64, the others as before": one of n bytes is "aligned on 8 up to 8 bytes, else 16"
 abbrev pub constantAlignment : ℕ → ℕ
-constantAlignment n = cond (leb n 8) 8 16
+constantAlignment n = cond (leb n 8) 8 (cond (leb n 32) 16 64)
 
 -- a constant in the pool: where it stands, and its bytes
 pub record Placed : Type 0 where
@@ -58,3 +59,8 @@ pooledTo arch v (suc n) = pooledOne (pooledTo arch v n) (askedConstant v n)
 -- all of them; "a constant never asked for is not pooled"
 abbrev pub pooled : ℕ → View → Pooled
 pooled arch v = pooledTo arch v (length (v .asked))
+
+-- what code with this pool is to be loaded on a multiple of: "the greater of 32 and the largest alignment among pooled constants"
+unfoldable pub codeAlignment : List Placed → ℕ
+codeAlignment [] = 32
+codeAlignment (k ∷ ks) = max (constantAlignment (length (k .bytes))) (codeAlignment ks)

@@ -1,15 +1,13 @@
 -- The alignments of the pool, laid out one after another, and how they join the recorded events.
 use mathlib.Core.Path.{_≡_, refl, sym, _∙_, ap}
-use mathlib.Core.Bool.{Bool, true, false, cond}
+use mathlib.Core.Bool.{Bool, false}
 use mathlib.Core.List.{List, [], _∷_, _++_, append-assoc, append-nil}
 use Prim.Native.Nat.{ℕ, zero, suc, _+_, _-_, _*_, _≤_, _<_}
 use native.Mathlib.Omega.{arith}
-use lib.Dec.{leb}
 use lib.ListN.{length, getD, set, length-append, List·getD-append}
 use Rattle.seqs.specs.Over.{over}
 use Rattle.seqs.proofs.Overwrites.{over-nil, over-snoc, over-append}
 use Rattle.encoder.specs.Padding.{paddingLength}
-use Rattle.encoder.proofs.Padding.{padding-below}
 use Rattle.relax.specs.declared.LayoutEvent.{LayoutEvent}
 use Rattle.relax.specs.declared.LayoutEvent.the-variants.{Align}
 use Rattle.relax.specs.declared.Segment.{Segment}
@@ -21,25 +19,16 @@ use Rattle.fresh.specs.Fresh.{Choice}
 use Rattle.fresh.specs.Segments.{segment, segments}
 use Rattle.fresh.specs.Order.{Ordered}
 use Rattle.fresh.specs.steps.Runs.{Small, Modest, Cursor, after}
+use Rattle.fresh.proofs.Constants.{alignment-range, constant-padding}
 use Rattle.fresh.proofs.Loops.{length-segments, segments-snoc}
-use Rattle.pool.specs.steps.Pool.{sizeAt, poolStart, poolPadding, poolEvent, PoolFits}
+use Rattle.pool.specs.steps.Pool.{sizeAt, poolStart, poolPadding, poolEvent, PoolFits, mostPooled}
 use Rattle.layout.specs.steps.Layout.{endFrom, finishedLength, allEvents, Recorded}
 use Rattle.recording.proofs.Views.{length-entries, getD-entries}
 use Rattle.layout.proofs.Turns.{after-snoc}
 
-alignment-range : (n : ℕ) → (0 < constantAlignment n) × (constantAlignment n ≤ 16)
-alignment-range n = by (leb n 8)
-  where
-    by : (b : Bool) → (0 < cond b 8 16) × (cond b 8 16 ≤ 16)
-    by true = omega arith
-    by false = omega arith
-
--- A constant's padding is at most 15 bytes.
-pub pool-padding : (offset n multiple r : ℕ) → multiple ≡ constantAlignment n → r ≡ paddingLength offset multiple → r ≤ 15
-pool-padding offset n multiple r h e =
-    let range = alignment-range n in
-    let some : 0 < multiple = omega (arith, h, range) in
-    omega (arith, h, e, range, padding-below offset multiple some)
+-- A constant's padding is at most 63 bytes.
+pub pool-padding : (offset n multiple r : ℕ) → multiple ≡ constantAlignment n → r ≡ paddingLength offset multiple → r ≤ 63
+pool-padding offset n multiple r h e = rw (e, h) (constant-padding offset n)
 
 -- the segment of an alignment that starts at the recorded offset t, whose new offset is u
 align-segment : (old new t u len multiple : ℕ) (long : Bool) → u ≡ new + (t - old)
@@ -53,8 +42,8 @@ pub record PoolLaid (before ss : List Segment) (constants asked : List ℕ) (n f
   pub table : ss ≡ over before n (segments from to (entries (poolEvent from constants asked) j) [])
   pub start : old ≡ poolStart from constants asked j
   pub sum : new ≡ endFrom from to (entries (poolEvent from constants asked) j) [] old
-  pub near : old ≤ from + 79 * j
-  pub small : new ≤ to + 79 * j
+  pub near : old ≤ from + mostPooled * j
+  pub small : new ≤ to + mostPooled * j
 
 pub pool-none : {before : List Segment} {constants asked : List ℕ} {n from to : ℕ} → PoolLaid before before constants asked n from to 0 from to
 unfolding after segments poolStart
@@ -118,7 +107,7 @@ modest-snoc [] e h k = (k, tt)
 modest-snoc (x ∷ es) e h k = (h .0, modest-snoc es e (h .1) k)
 
 small-pool : (from : ℕ) (constants asked : List ℕ) (j : ℕ) → Small (poolEvent from constants asked j)
-small-pool from constants asked j = let r = alignment-range (sizeAt constants asked j) in (r .0, omega (arith, r))
+small-pool from constants asked j = let r = alignment-range (sizeAt constants asked j) in omega (arith, r)
 
 module _ (events : List ℕ) (n code : ℕ) (constants asked : List ℕ) where
   -- one alignment more
@@ -151,12 +140,6 @@ module _ (events : List ℕ) (n code : ℕ) (constants asked : List ℕ) where
   all-first m i h =
       List·getD-append (entries (eventAt events) n) (entries (poolEvent code constants asked) m) noEvent i (omega (arith, length-entries (eventAt events) n))
       ∙ getD-entries (eventAt events) n i noEvent h
-
-  pub pool-near : (m j : ℕ) → PoolFits constants asked m → j ≤ m → poolStart code constants asked j ≤ code + 79 * j
-  unfolding poolStart
-  pool-near m zero fits h = omega arith
-  pool-near m (suc j) fits h =
-      omega (arith, pool-near m j fits (omega arith), fits .sized j h, pool-padding (poolStart code constants asked j) (sizeAt constants asked j) _ _ refl refl)
 
   -- What follows the recorded events is laid out as if it began where the code ends.
   module _ (c : Choice) (old new to : ℕ) (here : after (length (entries (eventAt events) n)) 0 0 (entries (eventAt events) n) c ≡ record { old = old; new = new })

@@ -23,10 +23,11 @@ use Rattle.fresh.proofs.Loops.{length-segments}
 use Rattle.fresh.proofs.Choices.{isLong-getD, others-getD, length-farOf, length-join, pads-near}
 use Rattle.fresh.proofs.Rounds.{shorts, shorts-lt, shorts-most}
 use Rattle.pool.specs.steps.Pool.{poolStart, poolEvent, PoolFits}
+use Rattle.pool.proofs.Pool.{poolStart-bound}
 use Rattle.recording.proofs.Views.{length-entries}
 use Rattle.layout.specs.steps.Layout.{zeroSegment, allEvents, finishedLength, farIn, farBy, relaxing, relaxedBy, Relaxed, Recorded}
 use Rattle.layout.specs.steps.Targets.{Shown, Aiming, SamePast, Adds, missed, Placed}
-use Rattle.layout.proofs.Pooling.{all-none, all-suc, length-all, all-first, all-ordered, all-modest, pool-near}
+use Rattle.layout.proofs.Pooling.{all-none, all-suc, length-all, all-first, all-ordered, all-modest}
 use Rattle.layout.proofs.Table.{length-laid, segment-laid}
 use Rattle.layout.proofs.SamePast.{same-past-none, same-past-more, same-past-over, over-same-past}
 use Rattle.layout.proofs.Missed.{missed-list, rows-add}
@@ -190,7 +191,7 @@ module _ (events : List ℕ) (n code : ℕ) (constants asked : List ℕ) (m : �
         room = rec .room;
         len = poolStart code constants asked m;
         ordered = all-ordered events n code constants asked rec m;
-        small = omega (arith, rec .small, pool-near events n code constants asked m m fits (omega arith));
+        small = omega (arith, rec .small, poolStart-bound code constants asked m fits m (omega arith));
         recorded = λ i h k. sym (all-first events n code constants asked m i h);
         starts = λ i h. ap (λ (s : Segment). s .«old_start») (row i h);
         ends = λ i g h. ap (λ (s : Segment). s .«old_end») (row i h);
@@ -224,7 +225,7 @@ module _ (events : List ℕ) (n code : ℕ) (constants asked : List ℕ) (m : �
     round-adds rec fits room =
         rows-add (placed .placed) (omega (arith, size)) (all-first events n code constants asked m) (omega (arith, size)) (aiming-stays aiming placed)
         (poolStart code constants asked m) (all-ordered events n code constants asked rec m) (all-modest events n code constants asked rec m)
-        (omega (arith, rec .small, pool-near events n code constants asked m m fits (omega arith))) (omega (arith, size, placed .rest .sized))
+        (omega (arith, rec .small, poolStart-bound code constants asked m fits m (omega arith))) (omega (arith, size, placed .rest .sized))
 
     module _ {c′ : Choice} {grew : Bool} (next : c′ ≡ over c 0 (join c (missed ss′ c n))) (says : grew ≡ any (missed ss′ c n)) where
       round : (c′ ≡ join c (farBy (allEvents events n code constants asked m) at c)) × (grew ≡ any (farBy (allEvents events n code constants asked m) at c))

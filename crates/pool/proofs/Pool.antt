@@ -21,15 +21,8 @@ use Rattle.buffer.specs.Calls.{padding}
 use Rattle.buffer.proofs.Appends.{padding-length, over-padded}
 use Rattle.buffer.specs.Tables.{labelSize, constantSize, constantHead}
 use Rattle.fresh.specs.Pooled.{constantAlignment}
-use Rattle.pool.specs.steps.Pool.{sizeAt, labelAt, bytesAt, poolStart, poolPadding, poolOffset, poolBytes, poolBound, poolUnbound, poolWritten, isAnyBound, PoolFits, PoolRoom}
-
--- a constant's padding is at most 15 bytes
-pub padding-small : (offset size : ℕ) → paddingLength offset (constantAlignment size) ≤ 15
-padding-small offset size = by (leb size 8)
-  where
-    by : (t : Bool) → paddingLength offset (cond t 8 16) ≤ 15
-    by true = omega (arith, padding-below offset 8 (omega arith))
-    by false = omega (arith, padding-below offset 16 (omega arith))
+use Rattle.fresh.proofs.Constants.{constant-padding}
+use Rattle.pool.specs.steps.Pool.{sizeAt, labelAt, bytesAt, poolStart, poolPadding, poolOffset, poolBytes, poolBound, poolUnbound, poolWritten, isAnyBound, PoolFits, PoolRoom, mostPooled}
 
 -- A turn of a loop that lays constants out: what the program has of constant j, whose alignment starts at `at`.
 pub record Turn (from : ℕ) (constants asked : List ℕ) (j at size multiple pad : ℕ) : Type 0 where
@@ -39,8 +32,8 @@ pub record Turn (from : ℕ) (constants asked : List ℕ) (j at size multiple pa
   pub padded : pad ≡ paddingLength at multiple
 
 module _ {from : ℕ} {constants asked : List ℕ} {j at size multiple pad : ℕ} (t : Turn from constants asked j at size multiple pad) where
-  pub pad-small : pad ≤ 15
-  pad-small = rw (t .padded, t .aligned) (padding-small at size)
+  pub pad-small : pad ≤ 63
+  pad-small = rw (t .padded, t .aligned) (constant-padding at size)
 
   -- one constant more
   pub start-turn : at + pad + size ≡ poolStart from constants asked (j + 1)
@@ -122,20 +115,20 @@ unfolding poolStart
 from-poolStart from constants asked j = poolStart-grows from constants asked 0 j (omega arith)
 
 pub poolStart-bound : (from : ℕ) (constants asked : List ℕ) (n : ℕ) → PoolFits constants asked n → (j : ℕ) → j ≤ n
-    → poolStart from constants asked j ≤ from + j * 79
+    → poolStart from constants asked j ≤ from + j * mostPooled
 unfolding poolStart
 poolStart-bound from constants asked n fits zero h = omega arith
 poolStart-bound from constants asked n fits (suc j) h =
     omega (
       arith,
       poolStart-bound from constants asked n fits j (omega arith),
-      padding-small (poolStart from constants asked j) (sizeAt constants asked j),
+      constant-padding (poolStart from constants asked j) (sizeAt constants asked j),
       fits .sized j h,
     )
 
 -- each constant stands within the pool
 pub poolOffset-bound : (from : ℕ) (constants asked : List ℕ) (n : ℕ) → PoolFits constants asked n → (j : ℕ) → j < n
-    → poolOffset from constants asked j + sizeAt constants asked j ≤ from + n * 79
+    → poolOffset from constants asked j + sizeAt constants asked j ≤ from + n * mostPooled
 poolOffset-bound from constants asked n fits j h =
     omega (
       arith,

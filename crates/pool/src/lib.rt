@@ -1,13 +1,13 @@
 // The pool of constants: where the constants that were asked for stand, after asmkit's core/buffer.rs (see NOTICE). `asked` lists them in order; an entry
 // of `constants` is a size, a label and 64 bytes.
 ghost use mathlib.Core.Path.{_≡_};
-ghost use Prim.Native.Nat.{_+_, _*_, _≤_};
+ghost use Prim.Native.Nat.{_+_, _*_, _≤_, max};
 ghost use lib.ListN.{length};
 ghost use Rattle.seqs.specs.Over.{over};
 ghost use Rattle.words.specs.Words.{wordAt};
 ghost use Rattle.buffer.specs.Tables.{constantSize, askedSize};
 ghost use Rattle.fresh.specs.Pooled.{constantAlignment};
-ghost use Rattle.pool.specs.steps.Pool.{sizeAt, labelAt, poolStart, poolBytes, poolBound, poolUnbound, poolWritten, isAnyBound, PoolFits, PoolLabels, PoolRoom, offsetBound};
+ghost use Rattle.pool.specs.steps.Pool.{sizeAt, labelAt, poolStart, poolBytes, poolBound, poolUnbound, poolWritten, isAnyBound, PoolFits, PoolLabels, PoolRoom, poolAlignment, mostPooled, offsetBound};
 
 // What a constant of `size` bytes is aligned on.
 pub fn constant_alignment(size: u32) -> u32
@@ -16,7 +16,10 @@ pub fn constant_alignment(size: u32) -> u32
     if size <= 8 {
         return 8;
     }
-    16
+    if size <= 32 {
+        return 16;
+    }
+    64
 }
 
 pub fn size_at(constants: &[u8], asked: &[u8], j: usize) -> u32
@@ -38,7 +41,7 @@ pub fn label_at(constants: &[u8], asked: &[u8], j: usize) -> u32
 // Where the pool ends, if it starts at `from`.
 pub fn pool_end(from: u32, constants: &[u8], asked: &[u8], n: usize) -> u32
     requires { ⌜ PoolFits (now constants) (now asked) n ⌝ ∗ ⌜ from ≤ offsetBound ⌝ }
-    ensures { λ r. ⌜ (r ≡ poolStart from (now (constants .entry)) (now (asked .entry)) n) × (r ≤ from + n * 79) ⌝ }
+    ensures { λ r. ⌜ (r ≡ poolStart from (now (constants .entry)) (now (asked .entry)) n) × (r ≤ from + n * mostPooled) ⌝ }
 {
     let mut at = from;
     let mut j: usize = 0;
@@ -48,6 +51,27 @@ pub fn pool_end(from: u32, constants: &[u8], asked: &[u8], n: usize) -> u32
         j += 1;
     }
     at
+}
+
+fn greater(a: u32, b: u32) -> u32
+    ensures { λ r. ⌜ r ≡ max a b ⌝ }
+{
+    if a < b { b } else { a }
+}
+
+// What the code is to be loaded on a multiple of: the greater of 32 and the largest alignment among the constants.
+pub fn code_alignment(constants: &[u8], asked: &[u8], n: usize) -> u32
+    requires { ⌜ PoolFits (now constants) (now asked) n ⌝ }
+    ensures { λ r. ⌜ r ≡ poolAlignment (now (constants .entry)) (now (asked .entry)) n ⌝ }
+{
+    let mut alignment: u32 = 32;
+    let mut j: usize = 0;
+    while j < n {
+        let size = size_at(constants, asked, j);
+        alignment = greater(alignment, constant_alignment(size));
+        j += 1;
+    }
+    alignment
 }
 
 // Whether the label of one of the constants is bound.

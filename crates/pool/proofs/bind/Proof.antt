@@ -4,14 +4,14 @@ use Prim.Native.Nat.{_+_, _*_, _-_, _≤_}
 use native.Mathlib.Omega.{arith}
 use lib.ListN.{length}
 use Rattle.words.proofs.Laws.{length-setWord}
-use Rattle.pool.specs.steps.Pool.{poolStart, poolBound}
+use Rattle.pool.specs.steps.Pool.{poolStart, poolBound, mostPooled}
 use Rattle.pool.proofs.Pool.{Turn, pad-small, start-turn, bound-turn}
 use borrow.Author.Needs.{needs}
 use Rattle.pool.proofs.bind.Statement.{statement}
 use Rattle.pool.proofs.bind.Tie as tie
 
 abbrev Inv-loop : tie.InvT-loop
-Inv-loop from labels₀ constants asked n at₀ j₀ labels at j = (j ≤ n) × (at ≡ poolStart from constants asked j) × (at ≤ from + j * 79) × (length labels ≡ length labels₀) × (labels ≡ poolBound from labels₀ constants asked j)
+Inv-loop from labels₀ constants asked n at₀ j₀ labels at j = (j ≤ n) × (at ≡ poolStart from constants asked j) × (at ≤ from + j * mostPooled) × (length labels ≡ length labels₀) × (labels ≡ poolBound from labels₀ constants asked j)
 
 abbrev μ-loop : tie.MeasureT-loop
 μ-loop from labels₀ constants asked n at₀ j₀ labels at j = n - j

@@ -5,14 +5,14 @@ use native.Mathlib.Omega.{arith}
 use lib.ListN.{length}
 use Rattle.seqs.specs.Over.{over}
 use Rattle.seqs.proofs.Overwrites.{over-nil, length-over}
-use Rattle.pool.specs.steps.Pool.{poolStart, poolBytes}
+use Rattle.pool.specs.steps.Pool.{poolStart, poolBytes, mostPooled}
 use Rattle.pool.proofs.Pool.{Turn, pad-small, start-turn, within-turn, emit-turn}
 use borrow.Author.Needs.{needs}
 use Rattle.pool.proofs.emit.Statement.{statement}
 use Rattle.pool.proofs.emit.Tie as tie
 
 abbrev Inv-loop : tie.InvT-loop
-Inv-loop output₀ arch from constants asked n at₀ j₀ output at j = (j ≤ n) × (at ≡ poolStart from constants asked j) × (at ≤ from + j * 79) × (length output ≡ length output₀) × (output ≡ over output₀ from (poolBytes arch from constants asked j))
+Inv-loop output₀ arch from constants asked n at₀ j₀ output at j = (j ≤ n) × (at ≡ poolStart from constants asked j) × (at ≤ from + j * mostPooled) × (length output ≡ length output₀) × (output ≡ over output₀ from (poolBytes arch from constants asked j))
 
 abbrev μ-loop : tie.MeasureT-loop
 μ-loop output₀ arch from constants asked n at₀ j₀ output at j = n - j

@@ -2,14 +2,14 @@
 use mathlib.Core.Path.{_≡_, refl}
 use Prim.Native.Nat.{_+_, _*_, _-_, _≤_}
 use native.Mathlib.Omega.{arith}
-use Rattle.pool.specs.steps.Pool.{poolStart}
+use Rattle.pool.specs.steps.Pool.{poolStart, mostPooled}
 use Rattle.pool.proofs.Pool.{Turn, pad-small, start-turn}
 use borrow.Author.Needs.{needs}
 use Rattle.pool.proofs.pool_end.Statement.{statement}
 use Rattle.pool.proofs.pool_end.Tie as tie
 
 abbrev Inv-loop : tie.InvT-loop
-Inv-loop from constants asked n at₀ j₀ at j = (j ≤ n) × (at ≡ poolStart from constants asked j) × (at ≤ from + j * 79)
+Inv-loop from constants asked n at₀ j₀ at j = (j ≤ n) × (at ≡ poolStart from constants asked j) × (at ≤ from + j * mostPooled)
 
 abbrev μ-loop : tie.MeasureT-loop
 μ-loop from constants asked n at₀ j₀ at j = n - j

@@ -2,7 +2,7 @@
 -- same of lists.
 use mathlib.Core.Bool.{Bool, false, not, _||_}
 use mathlib.Core.List.{List, [], _++_}
-use Prim.Native.Nat.{ℕ, zero, suc, _+_, _*_, _≤_, _<_}
+use Prim.Native.Nat.{ℕ, zero, suc, _+_, _*_, _≤_, _<_, max}
 use lib.Dec.{eqb}
 use lib.ListN.{length, take, drop, replicate}
 use Rattle.seqs.specs.Over.{over}
@@ -15,14 +15,18 @@ use Rattle.buffer.specs.Calls.{padding}
 use Rattle.buffer.specs.Tables.{mostEntries, mostConstant, labelSize, constantWords, constantSize, constantHead, askedSize}
 use Rattle.fresh.specs.Pooled.{constantAlignment}
 
--- No offset in a recording, in its pool or in their layout is greater: code has at most 16,777,216 bytes, a pooled constant takes at most 79, and of
+-- the most bytes that a pooled constant takes: 63 of padding and 64 of its own
+abbrev pub mostPooled : ℕ
+mostPooled = 127
+
+-- No offset in a recording, in its pool or in their layout is greater: code has at most 16,777,216 bytes, at most 65,536 constants are pooled, and of
 -- at most 65,536 events each takes at most 4,096.
 abbrev pub offsetBound : ℕ
 offsetBound = 300000000
 
 -- nor in the recording and its pool, before any layout: the code and the constants alone
 abbrev pub pooledBound : ℕ
-pooledBound = 22000000
+pooledBound = 26000000
 
 -- the size, the label and the bytes of the constant that was asked for as number j
 abbrev pub sizeAt : List ℕ → List ℕ → ℕ → ℕ
@@ -47,6 +51,11 @@ poolPadding from constants asked j = paddingLength (poolStart from constants ask
 
 abbrev pub poolOffset : ℕ → List ℕ → List ℕ → ℕ → ℕ
 poolOffset from constants asked j = poolStart from constants asked j + poolPadding from constants asked j
+
+-- the greater of 32 and the largest alignment among the first n constants
+unfoldable pub poolAlignment : List ℕ → List ℕ → ℕ → ℕ
+poolAlignment constants asked zero = 32
+poolAlignment constants asked (suc j) = max (poolAlignment constants asked j) (constantAlignment (sizeAt constants asked j))
 
 -- the alignment of constant j as an event
 abbrev pub poolEvent : ℕ → List ℕ → List ℕ → ℕ → LayoutEvent
