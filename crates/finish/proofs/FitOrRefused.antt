@@ -1,12 +1,12 @@
 -- What a finish knows of a recording once 1 to 4 are past, and once its entries are checked.
-use mathlib.Core.Path.{_≡_, refl, sym, ap, _∙_}
+use mathlib.Core.Path.{_≡_, refl, sym, _∙_}
 use mathlib.Core.Logic.{_≢_}
 use mathlib.Core.Bool.{Bool, true, false, not}
-use Prim.Native.Nat.{ℕ, _+_, _≤_, _<_}
+use Prim.Native.Nat.{ℕ, _≤_, _<_}
 use native.Mathlib.Omega.{arith}
 use borrow.Author.Tests.{not-false, ltb-false}
 use lib.Dec.{ltb}
-use lib.ListN.{length, length-append}
+use lib.ListN.{length}
 use Rattle.refusals.specs.Numbers as refusals
 use Rattle.seqs.proofs.Picking.{pick-yes, pick-no, yes-eq, no-eq, yes-not, no-not, yes-lt, no-lt, passed, neither}
 use Rattle.buffer.specs.Refusals.{standing}
@@ -15,9 +15,8 @@ use Rattle.buffer.specs.Tables.{mostEntries, mostCode}
 use Rattle.recording.specs.Calls.{Recording}
 use Rattle.recording.specs.Sound.{CodeSound, Sound}
 use Rattle.recording.specs.View.{view}
-use Rattle.fresh.specs.Pooled.{Pooled, pooled}
-use Rattle.pool.specs.steps.Pool.{poolStart, poolBytes, isAnyBound}
-use Rattle.pool.proofs.Pool.{length-poolBytes}
+use Rattle.fresh.specs.Pooled.{pooled}
+use Rattle.pool.specs.steps.Pool.{poolStart, isAnyBound}
 use Rattle.checks.specs.Entries.{entriesFit}
 use Rattle.checks.specs.steps.Handed.{CountsFit, tables}
 use Rattle.checks.proofs.Sound.{fits-sound, code-unread}
@@ -25,7 +24,7 @@ use Rattle.checks.specs.Lent.{countsFit, withinLimits}
 use Rattle.finish.specs.Refusals.{poolBoundBefore, whyUnfit}
 use Rattle.finish.proofs.CountsWithinLimits.{Counted, counted}
 use Rattle.finish.proofs.PooledTables.{Tied}
-use Rattle.finish.proofs.SoundRecording.{code-length, tied, pooled-is}
+use Rattle.finish.proofs.SoundRecording.{tied, pooled-ends}
 use Rattle.finish.proofs.ScansAgree.{pool-bound}
 
 module _ (r : Recording) (segments output : ℕ) (stood : standing (r .buffer) (countsFit r) (withinLimits r segments output) ≡ 0) where
@@ -66,14 +65,6 @@ module _ (r : Recording) (segments output : ℕ) (stood : standing (r .buffer) (
         pool-bound (view r) (r .labels) (r .constants) (r .asked) (r .buffer .labels) (r .buffer .constants) (r .buffer .asked) refl refl refl
         (λ j h. sound .asked .listed j h .0) (ties .known)
 
-    -- 14, as the tables say it
-    pub pooled-ends : length (pooled (r .buffer .arch) (view r) .code) ≡ poolStart (r .buffer .code) (r .constants) (r .asked) (r .buffer .asked)
-    pooled-ends =
-        ap (λ (p : Pooled). length (p .code)) (pooled-is r sound asked-few)
-        ∙ length-append (view r .code) (poolBytes (r .buffer .arch) (r .buffer .code) (r .constants) (r .asked) (r .buffer .asked))
-        ∙ ap (λ (k : ℕ). k + length (poolBytes (r .buffer .arch) (r .buffer .code) (r .constants) (r .asked) (r .buffer .asked))) (code-length r sound asked-few)
-        ∙ length-poolBytes (r .buffer .arch) (r .buffer .code) (r .constants) (r .asked) (r .buffer .asked)
-
 -- the entries are judged by their tables alone
 pub entries-read : (r : Recording) (x t : Bool) → x ≡ entriesFit (tables (r .buffer) (r .labels) (r .events) (r .uses) (r .refs) (r .constants) (r .asked) (r .relocs)) → x ≡ t
     → entriesFit r ≡ t
@@ -103,7 +94,7 @@ module _ (r : Recording) (segments output : ℕ) where
             sym (yes-eq _ 0 _ _ stood
             ∙ no-not (entriesFit r) 1 _ fit
             ∙ pick-no (poolBoundBefore (view r)) 13 _ (bound-before r segments output stood fit ∙ free)
-            ∙ yes-lt mostCode (length (pooled (r .buffer .arch) (view r) .code)) refusals.poolTooLarge 0 (omega (arith, h, pooled-ends r segments output stood fit)))
+            ∙ yes-lt mostCode (length (pooled (r .buffer .arch) (view r) .code)) refusals.poolTooLarge 0 (omega (arith, h, pooled-ends r (sound r segments output stood fit) (asked-few r segments output stood))))
 
         pub unfit-none : poolStart (r .buffer .code) (r .constants) (r .asked) (r .buffer .asked) ≤ mostCode → 0 ≡ whyUnfit r segments output
         unfolding whyUnfit
@@ -111,7 +102,7 @@ module _ (r : Recording) (segments output : ℕ) where
             sym (yes-eq _ 0 _ _ stood
             ∙ no-not (entriesFit r) 1 _ fit
             ∙ pick-no (poolBoundBefore (view r)) 13 _ (bound-before r segments output stood fit ∙ free)
-            ∙ no-lt mostCode (length (pooled (r .buffer .arch) (view r) .code)) refusals.poolTooLarge 0 (omega (arith, h, pooled-ends r segments output stood fit)))
+            ∙ no-lt mostCode (length (pooled (r .buffer .arch) (view r) .code)) refusals.poolTooLarge 0 (omega (arith, h, pooled-ends r (sound r segments output stood fit) (asked-few r segments output stood))))
 
 -- What a recording that passes knows.
 pub record Passed (r : Recording) (segments output : ℕ) : Type 0 where
@@ -132,5 +123,5 @@ passed-unfit r segments output h =
       stood = a .0;
       fit = fit;
       free = sym (bound-before r segments output (a .0) fit) ∙ d .0;
-      short = omega (arith, ltb-false mostCode (length (pooled (r .buffer .arch) (view r) .code)) (e .0), pooled-ends r segments output (a .0) fit);
+      short = omega (arith, ltb-false mostCode (length (pooled (r .buffer .arch) (view r) .code)) (e .0), pooled-ends r (sound r segments output (a .0) fit) (asked-few r segments output (a .0)));
     }

@@ -12,8 +12,9 @@ use Rattle.buffer.specs.Calls.{padding}
 use Rattle.buffer.specs.Tables.{labelSize}
 use Rattle.recording.specs.View.{entries, View}
 use Rattle.recording.proofs.Views.{word-set}
-use Rattle.fresh.specs.Pooled.{Pooled, pooledOne, askedConstant, pooledTo}
-use Rattle.pool.specs.steps.Pool.{sizeAt, labelAt, bytesAt, poolStart, poolPadding, poolOffset, poolEvent, poolBytes, poolBound}
+use Rattle.fresh.specs.Pooled.{Pooled, pooledOne, askedConstant, pooledTo, codeAlignment}
+use Rattle.fresh.proofs.Constants.{code-alignment-snoc}
+use Rattle.pool.specs.steps.Pool.{sizeAt, labelAt, bytesAt, poolStart, poolPadding, poolOffset, poolEvent, poolBytes, poolBound, poolAlignment}
 use Rattle.pool.proofs.Pool.{length-poolBytes, length-poolBound}
 use Rattle.finish.specs.steps.Tables.{poolPlaced, tablesPooled}
 
@@ -99,3 +100,12 @@ pooledTo-tables arch v labels constants asked count (suc n) t =
     (t .room)
     (t .known n (omega arith))
     (t .small n (omega arith)))
+
+-- The alignment of code with the pool is that of the tables.
+pub alignment-tables : (from : ℕ) (constants asked : List ℕ) (n : ℕ) → ((j : ℕ) → j < n → length (bytesAt constants asked j) ≡ sizeAt constants asked j)
+    → codeAlignment (entries (poolPlaced from constants asked) n) ≡ poolAlignment constants asked n
+unfolding codeAlignment poolAlignment
+alignment-tables from constants asked zero sized = refl
+alignment-tables from constants asked (suc n) sized =
+    code-alignment-snoc (entries (poolPlaced from constants asked) n) (poolPlaced from constants asked n)
+    ∙ rw (alignment-tables from constants asked n (λ j h. sized j (omega arith)), sized n (omega arith))

@@ -4,7 +4,7 @@ use mathlib.Core.Logic.{_⊎_, _≢_, ⊎-elim, inl, inr}
 use mathlib.Core.List.{List}
 use Prim.Native.Nat.{ℕ, zero, suc, _+_, _*_, _≤_, _<_}
 use native.Mathlib.Omega.{arith}
-use lib.ListN.{length, drop, length-drop}
+use lib.ListN.{length, drop, length-append, length-drop}
 use lib.Seq.{length-take-le}
 use Rattle.seqs.proofs.Numbers.{lt-or-ge, eq-or-ne}
 use Rattle.words.specs.Words.{wordAt}
@@ -14,12 +14,12 @@ use Rattle.recording.specs.Calls.{Recording}
 use Rattle.recording.specs.Sound.{Sound}
 use Rattle.recording.specs.View.{entries, constantAt, view}
 use Rattle.recording.proofs.Views.{length-entries, getD-entries}
-use Rattle.fresh.specs.Pooled.{pooledTo, pooled}
-use Rattle.pool.specs.steps.Pool.{sizeAt, labelAt, poolOffset, poolBound, PoolFits, PoolLabels}
-use Rattle.pool.proofs.Pool.{Distinct, poolOffset-bound, length-poolBound, poolBound-at, poolBound-other}
+use Rattle.fresh.specs.Pooled.{Pooled, pooledTo, pooled, codeAlignment}
+use Rattle.pool.specs.steps.Pool.{sizeAt, labelAt, poolStart, poolOffset, poolBytes, poolBound, poolAlignment, PoolFits, PoolLabels}
+use Rattle.pool.proofs.Pool.{Distinct, length-poolBytes, poolOffset-bound, length-poolBound, poolBound-at, poolBound-other}
 use Rattle.finish.specs.steps.Tables.{tablesPooled}
 use Rattle.finish.specs.steps.Ready.{Ready, pooledOf}
-use Rattle.finish.proofs.PooledTables.{Tied, pooledTo-tables}
+use Rattle.finish.proofs.PooledTables.{Tied, pooledTo-tables, alignment-tables}
 
 -- a label is that of a constant, or of none
 owner : (constants asked : List ℕ) (l n : ℕ) → ((j : ℕ) × (j < n) × (l ≡ labelAt constants asked j)) ⊎ ((j : ℕ) → j < n → l ≢ labelAt constants asked j)
@@ -93,6 +93,19 @@ module _ (r : Recording) (s : Sound r) (few : r .buffer .asked ≤ mostEntries) 
       tablesPooled (r .buffer .arch) from (view r .code) (entries (wordAt (poolBound from (r .labels) (r .constants) (r .asked) (r .buffer .asked))) (r .buffer .labels))
       (view r .events) (view r .uses) (view r .refs) (r .constants) (r .asked) (r .buffer .asked))
       code-length
+
+  -- where its code ends, and what that is aligned on
+  pub pooled-ends : length (pooled (r .buffer .arch) (view r) .code) ≡ poolStart (r .buffer .code) (r .constants) (r .asked) (r .buffer .asked)
+  pooled-ends =
+      ap (λ (p : Pooled). length (p .code)) pooled-is
+      ∙ length-append (view r .code) (poolBytes (r .buffer .arch) (r .buffer .code) (r .constants) (r .asked) (r .buffer .asked))
+      ∙ ap (λ (k : ℕ). k + length (poolBytes (r .buffer .arch) (r .buffer .code) (r .constants) (r .asked) (r .buffer .asked))) code-length
+      ∙ length-poolBytes (r .buffer .arch) (r .buffer .code) (r .constants) (r .asked) (r .buffer .asked)
+
+  pub alignment-is : codeAlignment (pooled (r .buffer .arch) (view r) .pool) ≡ poolAlignment (r .constants) (r .asked) (r .buffer .asked)
+  alignment-is =
+      ap (λ (p : Pooled). codeAlignment (p .pool)) pooled-is
+      ∙ alignment-tables (r .buffer .code) (r .constants) (r .asked) (r .buffer .asked) (tied .sized)
 
   -- what the stages are handed once those labels are bound
   pub ready : Ready (r .code) (poolBound (r .buffer .code) (r .labels) (r .constants) (r .asked) (r .buffer .asked)) (r .events) (r .constants) (r .asked)

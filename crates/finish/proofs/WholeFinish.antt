@@ -22,16 +22,16 @@ use Rattle.buffer.specs.Tables.{labelSize}
 use Rattle.recording.specs.Calls.{Recording}
 use Rattle.recording.specs.View.{entries, view, relocAt}
 use Rattle.recording.proofs.Views.{word-set}
-use Rattle.fresh.specs.Pooled.{Pooled, pooled}
+use Rattle.fresh.specs.Pooled.{Pooled, pooled, codeAlignment}
 use Rattle.fresh.specs.Forms.{moves}
-use Rattle.pool.specs.steps.Pool.{labelAt, poolOffset, poolBound, poolUnbound, isAnyBound}
+use Rattle.pool.specs.steps.Pool.{labelAt, poolOffset, poolBound, poolUnbound, poolAlignment, isAnyBound}
 use Rattle.pool.proofs.Pool.{length-poolBound, poolUnbound-poolBound, setWord-same}
 use Rattle.finish.specs.declared.Outcome.{Outcome}
 use Rattle.finish.specs.declared.Finished.{Finished}
 use Rattle.finish.specs.Refusals.{allBound, whyNotLaid, whyNotWritten, whyNotInPlace, whyUnfit}
 use Rattle.finish.specs.Finish.{overWords, Left, refusedWith, relaxed, unrelaxed, finishedWith, unfinished, placedBy, finish}
 use Rattle.finish.specs.steps.Ready.{Ready, Placeable, pooledOf, placedAs, concluded}
-use Rattle.finish.proofs.SoundRecording.{pool-distinct, offsets-small, pooled-is, ready}
+use Rattle.finish.proofs.SoundRecording.{pool-distinct, offsets-small, pooled-is, alignment-is, ready}
 use Rattle.finish.proofs.FitOrRefused.{limits, asked-few, sound, Passed}
 use Rattle.finish.proofs.MappedTables.{set-over-words, over-words-set}
 
@@ -141,6 +141,9 @@ module _ (r : Recording) (segments : ℕ) (output : List ℕ) (pass : Passed r s
     pooled-as : pooled (r .buffer .arch) (view r) ≡ p
     pooled-as = pooled-is r (sound r segments (length output) (pass .stood) (pass .fit)) (asked-few r segments (length output) (pass .stood))
 
+    alignment-of : codeAlignment (pooled (r .buffer .arch) (view r) .pool) ≡ poolAlignment (r .constants) (r .asked) (r .buffer .asked)
+    alignment-of = alignment-is r (sound r segments (length output) (pass .stood) (pass .fit)) (asked-few r segments (length output) (pass .stood))
+
     labels-are : overWords (r .labels) (p .labels) ≡ bound
     labels-are =
         bound-words (r .buffer .code) (r .labels) (r .constants) (r .asked) (r .buffer .labels) (r .buffer .asked) small
@@ -152,10 +155,11 @@ module _ (r : Recording) (segments : ℕ) (output : List ℕ) (pass : Passed r s
     placed-is = rw (pooled-as, labels-are)
 
     module _ (placed : Outcome) (left : Left) (is : (placed, left) ≡ placedAs p (r .buffer) bound (r .relocs) ss output) where
-      finish-done : (f : Finished) → placed .refusal ≡ 0 → f ≡ finishedWith (r .buffer) placed → (f, left) ≡ finish r ss output
+      finish-done : (f : Finished) → placed .refusal ≡ 0 → f ≡ finishedWith (r .buffer) (poolAlignment (r .constants) (r .asked) (r .buffer .asked)) placed
+          → (f, left) ≡ finish r ss output
       unfolding finish
       finish-done f e ef =
-          rw (ef, placed-is ∙ sym is)
+          rw (ef, placed-is ∙ sym is, alignment-of)
           (sym (yes-eq (whyUnfit r (length ss) (length output)) 0 _ _ (rw count unfit) ∙ yes-eq (placed .refusal) 0 _ _ e))
 
       finish-refused : (f : Finished) (labels : List ℕ) → placed .refusal ≢ 0 → f ≡ unfinished (r .buffer) (placed .refusal)

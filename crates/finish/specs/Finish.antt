@@ -1,4 +1,5 @@
--- What finish answers and leaves in everything that it is lent, for every input: document 01, "finish".
+-- What finish answers and leaves in everything that it is lent, for every input: document 01, "finish"; document 02, Request One, "The finished record
+-- gives ..".
 use mathlib.Core.List.{List, [], _∷_, _++_, map}
 use Prim.Native.Nat.{ℕ, zero, suc, _*_}
 use lib.Dec.{eqb}
@@ -12,7 +13,7 @@ use Rattle.buffer.specs.declared.CodeBuffer.{CodeBuffer}
 use Rattle.buffer.specs.Tables.{relocWords}
 use Rattle.recording.specs.Calls.{Recording}
 use Rattle.recording.specs.View.{view}
-use Rattle.fresh.specs.Pooled.{Pooled, pooled}
+use Rattle.fresh.specs.Pooled.{Pooled, pooled, codeAlignment}
 use Rattle.fresh.specs.Fresh.{moved}
 use Rattle.fresh.specs.Rounds.{settled}
 use Rattle.fresh.specs.Fill.{assembled, inPlace}
@@ -72,23 +73,19 @@ unrelaxed p labels relocs ss output =
     (record { refusal = 0; len = length (p .code); layouts = 0 }, (labels, (relocs, (ss, over output 0 (inPlace p)))))
     (refusedWith why, (labels, (relocs, (ss, output))))
 
--- "Alignment is 32."
-abbrev pub codeAlignment : ℕ
-codeAlignment = 32
-
 abbrev pub withFinished : CodeBuffer → CodeBuffer
 withFinished b = record { arch = b .arch; symbols = b .symbols; finished = 1; refusal = b .refusal; code = b .code; labels = b .labels; events = b .events; uses = b .uses; refs = b .refs; constants = b .constants; asked = b .asked; relocs = b .relocs }
 
 -- "With the record, finish reports how many layouts it made."
-abbrev pub finishedWith : CodeBuffer → Outcome → Finished
-finishedWith b placed =
+abbrev pub finishedWith : CodeBuffer → ℕ → Outcome → Finished
+finishedWith b alignment placed =
     record {
       buffer = withFinished b;
       refusal = 0;
       code = record {
         arch = b .arch;
         len = placed .len;
-        alignment = codeAlignment;
+        alignment = alignment;
         layouts = placed .layouts;
         labels = b .labels;
         relocs = b .relocs;
@@ -114,9 +111,10 @@ unfoldable pub finish : Recording → List Segment → List ℕ → Finished × 
 finish r ss output =
     let b = r .buffer in
     let why = whyUnfit r (length ss) (length output) in
-    let placed = placedBy (pooled (b .arch) (view r)) r ss output in
+    let p = pooled (b .arch) (view r) in
+    let placed = placedBy p r ss output in
     pick (eqb why 0)
     (pick (eqb (placed .0 .refusal) 0)
-    (finishedWith b (placed .0), placed .1)
+    (finishedWith b (codeAlignment (p .pool)) (placed .0), placed .1)
     (unfinished b (placed .0 .refusal), (r .labels, placed .1 .1)))
     (unfinished b why, (r .labels, (r .relocs, (ss, output))))

@@ -20,7 +20,7 @@ pub struct CodeBufferFinalized {
     pub arch: u32,
     // Bytes of finished code.
     pub len: u32,
-    // What the code is to be loaded on a multiple of.
+    // What the code is to be loaded on a multiple of: 32, or 64 where a pooled constant has more than 32 bytes.
     pub alignment: u32,
     // Rounds of relaxation; 0 where no jump stands.
     pub layouts: u32,
@@ -118,8 +118,8 @@ fn unfinished(b: CodeBuffer, why: u32) -> Finished
     }
 }
 
-fn finished_with(mut b: CodeBuffer, placed: Outcome) -> Finished
-    ensures { λ r. ⌜ r ≡ finishedWith b placed ⌝ }
+fn finished_with(mut b: CodeBuffer, alignment: u32, placed: Outcome) -> Finished
+    ensures { λ r. ⌜ r ≡ finishedWith b alignment placed ⌝ }
 {
     b.finished = 1;
     Finished {
@@ -128,7 +128,7 @@ fn finished_with(mut b: CodeBuffer, placed: Outcome) -> Finished
         code: CodeBufferFinalized {
             arch: b.arch,
             len: placed.len,
-            alignment: 32,
+            alignment,
             layouts: placed.layouts,
             labels: b.labels,
             relocs: b.relocs,
@@ -151,7 +151,8 @@ fn conclude(
         pool::unbind(labels, constants, asked, b.asked as usize);
         return unfinished(b, placed.refusal);
     }
-    finished_with(b, placed)
+    let alignment = pool::code_alignment(constants, asked, b.asked as usize);
+    finished_with(b, alignment, placed)
 }
 
 // Finish up to a layout: 1 to 17, and without a jump all of it. `segments` is how many there is room for.

@@ -16,8 +16,9 @@ returns c =
 returns-2 : tie.Need-returns-2
 unfolding concluded
 returns-2 c =
+    let after-code-alignment : tie.After-code-alignment = search in
     let else1 : tie.Else1 = search in
-    rw (c .finished-with .ensures) (sym (yes-eq _ 0 _ _ (else1 .if1 .left)))
+    rw (c .finished-with .ensures, after-code-alignment .code-alignment .ensures) (sym (yes-eq _ 0 _ _ (else1 .if1 .left)))
 
 pub conclude-spec : {M : Type 1} → statement M
 conclude-spec =
@@ -28,5 +29,7 @@ conclude-spec =
     (λ c κs. search needs)
     (λ c. search needs)
     returns
+    (λ c. search needs)
+    (λ c κs. search needs)
     (λ c κs. search needs)
     returns-2)

@@ -23,7 +23,7 @@ use Rattle.fresh.specs.Fill.{inPlace}
 use Rattle.fresh.specs.Segments.{mapOffset}
 use Rattle.fresh.specs.steps.Runs.{runs}
 use Rattle.fresh.specs.Forms.{moves}
-use Rattle.pool.specs.steps.Pool.{labelAt, poolStart, poolOffset, poolBytes, poolWritten, poolUnbound, PoolFits, PoolLabels, PoolRoom}
+use Rattle.pool.specs.steps.Pool.{labelAt, poolStart, poolOffset, poolBytes, poolWritten, poolUnbound, poolAlignment, PoolFits, PoolLabels, PoolRoom}
 use Rattle.layout.specs.steps.Layout.{Rising}
 use Rattle.emit.specs.steps.Emit.{usesFilled, refsFilled, jumpsFilled, Emits, UsesFit, RefsFit, JumpsFit, WordsFit}
 use Rattle.checks.specs.steps.Fields.{refsClear}
@@ -175,7 +175,7 @@ pub record Starts (b : CodeBuffer) (code labels events uses refs constants asked
 -- the answer and the labels once a recording is placed: one that is refused gets the pool's labels back
 unfoldable pub concluded : CodeBuffer → List ℕ → List ℕ → Outcome → List ℕ → Finished × List ℕ
 concluded b constants asked placed labels =
-    pick (eqb (placed .refusal) 0) (finishedWith b placed, labels) (unfinished b (placed .refusal), poolUnbound labels constants asked (b .asked))
+    pick (eqb (placed .refusal) 0) (finishedWith b (poolAlignment constants asked (b .asked)) placed, labels) (unfinished b (placed .refusal), poolUnbound labels constants asked (b .asked))
 
 -- what finish leaves before a layout that is to be made: what is then relaxed and concluded is what finish answers and leaves
 pub record Begins (r : Recording) (labels output left : List ℕ) (segments : ℕ) : Type 0 where
