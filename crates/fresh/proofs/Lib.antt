@@ -9,9 +9,11 @@ pub mod Choices
 pub mod Loops
 pub mod Rounds
 pub mod Segments
+pub mod AlignedEnds
 pub mod Walk
 pub mod Least
 pub mod Within
+pub mod Apart
 pub mod Fill
 pub mod Past
 pub mod Demand

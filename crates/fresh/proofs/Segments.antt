@@ -109,20 +109,20 @@ starts-segments (e ∷ es) o n code c h =
     ) refl
 
 -- what one segment decides
-chosen-no : (s : Segment) (t d : ℕ) → t < s .«old_start» → chosen s t d ≡ d
+pub chosen-no : (s : Segment) (t d : ℕ) → t < s .«old_start» → chosen s t d ≡ d
 unfolding chosen
 chosen-no s t d h = rw (lt-leb (s .«old_start») t h, chosen)
 
-chosen-in : (s : Segment) (t d : ℕ) → s .«old_start» ≤ t → t < s .«old_end» → chosen s t d ≡ t - s .«old_start» + s .«new_start»
+pub chosen-in : (s : Segment) (t d : ℕ) → s .«old_start» ≤ t → t < s .«old_end» → chosen s t d ≡ t - s .«old_start» + s .«new_start»
 unfolding chosen image
 chosen-in s t d h k = rw (le-leb (s .«old_start») t h, chosen) (rw (lt-ltb t (s .«old_end») k, image))
 
-chosen-past : (s : Segment) (t d : ℕ) → s .«old_start» ≤ t → s .«old_end» ≤ t → chosen s t d ≡ t - s .«old_end» + s .«new_end»
+pub chosen-past : (s : Segment) (t d : ℕ) → s .«old_start» ≤ t → s .«old_end» ≤ t → chosen s t d ≡ t - s .«old_end» + s .«new_end»
 unfolding chosen image
 chosen-past s t d h k = rw (le-leb (s .«old_start») t h, chosen) (rw (le-ltb t (s .«old_end») k, image))
 
 -- no segment that starts past t decides
-decided-none : (es : List LayoutEvent) (o n len t d : ℕ) (c : Choice) → Ordered o len es → t < o → decided (segments o n es c) t d ≡ d
+pub decided-none : (es : List LayoutEvent) (o n len t d : ℕ) (c : Choice) → Ordered o len es → t < o → decided (segments o n es c) t d ≡ d
 unfolding Ordered segments decided
 decided-none [] o n len t d c h k = refl
 decided-none (e ∷ es) o n len t d c h k =

@@ -27,7 +27,7 @@ use Rattle.fresh.proofs.Forms.{length-form, field-inside}
 use Rattle.fresh.proofs.Segments.{writes-run, starts-run, placed-runs, starts-are, moved-map}
 
 -- a field of n bytes at t shares no byte with what stands between start and end, and has no place inside it
-abbrev Beside : ℕ → ℕ → ℕ → ℕ → Type 0
+abbrev pub Beside : ℕ → ℕ → ℕ → ℕ → Type 0
 Beside t n start end = (t + n ≤ start) ⊎ (end ≤ t)
 
 -- from o on, at or past t, the walk writes at least what is left of the field
