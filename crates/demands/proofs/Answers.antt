@@ -18,13 +18,14 @@ use Rattle.buffer.specs.Tables.{mostEntries, mostCode}
 use Rattle.recording.specs.Calls.{Recording}
 use Rattle.recording.specs.Sound.{Sound}
 use Rattle.recording.specs.View.{view}
-use Rattle.fresh.specs.Pooled.{Pooled, pooled}
+use Rattle.fresh.specs.Pooled.{Pooled, pooled, codeAlignment}
 use Rattle.fresh.specs.Fresh.{moved}
 use Rattle.fresh.specs.Rounds.{settled}
 use Rattle.fresh.specs.Fill.{assembled, inPlace}
 use Rattle.fresh.proofs.Fill.{length-inPlace}
 use Rattle.fresh.specs.Forms.{moves}
-use Rattle.finish.proofs.FitOrRefused.{limits, sound, asked-few, pooled-ends, passed-unfit}
+use Rattle.finish.proofs.SoundRecording.{pooled-ends}
+use Rattle.finish.proofs.FitOrRefused.{limits, sound, asked-few, passed-unfit}
 use Rattle.finish.specs.declared.Finished.{Finished}
 use Rattle.finish.specs.declared.Outcome.{Outcome}
 use Rattle.seqs.specs.Every.{every}
@@ -47,7 +48,7 @@ unfit-fit r ss output e =
     record {
       sound = sound r (length ss) (length output) (p .stood) (p .fit);
       few = asked-few r (length ss) (length output) (p .stood);
-      small = omega (arith, pooled-ends r (length ss) (length output) (p .stood) (p .fit), p .short);
+      small = omega (arith, pooled-ends r (sound r (length ss) (length output) (p .stood) (p .fit)) (asked-few r (length ss) (length output) (p .stood)), p .short);
       room = known .output-limit;
       segments = known .segments-limit;
     }
@@ -70,12 +71,13 @@ pub record Assembled (p : Pooled) (ss : List Segment) (labels output code table 
   pub mapped : table ≡ overWords labels (map (moved p (settled p .choice)) (p .labels))
   pub rounds : layouts ≡ settled p .rounds
 
--- Without one: no use is refused, and the code, which fits the output, is what is left.
-pub record Kept (p : Pooled) (output code : List ℕ) (len : ℕ) : Type 0 where
+-- Without one: no use is refused; the code, which fits the output, its length, and `labels` are left.
+pub record Kept (p : Pooled) (labels output code table : List ℕ) (len : ℕ) : Type 0 where
   pub none-refused : usesRefusal p (p .uses) ≡ 0
   pub fits : length (p .code) ≤ length output
   pub reported : len ≡ length (p .code)
   pub is : code ≡ inPlace p
+  pub unmoved : table ≡ labels
 
 taken : (output code : List ℕ) (n : ℕ) → n ≡ length code → length code ≤ length output → take n (over output 0 code) ≡ code
 taken output code n e h =
@@ -113,7 +115,8 @@ relaxed-leaves p count labels relocs ss output e =
     }
 
 unrelaxed-leaves : (p : Pooled) (labels relocs : List ℕ) (ss : List Segment) (output : List ℕ)
-    → unrelaxed p labels relocs ss output .0 .refusal ≡ 0 → Kept p output (codeOf (unrelaxed p labels relocs ss output)) (unrelaxed p labels relocs ss output .0 .len)
+    → unrelaxed p labels relocs ss output .0 .refusal ≡ 0
+    → Kept p labels output (codeOf (unrelaxed p labels relocs ss output)) (unrelaxed p labels relocs ss output .1 .0) (unrelaxed p labels relocs ss output .0 .len)
 unfolding unrelaxed whyNotInPlace
 unrelaxed-leaves p labels relocs ss output e =
     let why = whyNotInPlace p (length output) in
@@ -127,6 +130,7 @@ unrelaxed-leaves p labels relocs ss output e =
       is =
           ap codeOf (pick-yes (eqb why 0) _ _ zero)
           ∙ taken output (inPlace p) (length (p .code)) (sym (length-inPlace p)) (omega (arith, length-inPlace p));
+      unmoved = ap (λ (x : Outcome × Left). x .1 .0) (pick-yes (eqb why 0) _ _ zero);
     }
 
 -- What a finish that answers 0 has found, and the code that it leaves.
@@ -136,7 +140,10 @@ pub record Answered (r : Recording) (ss : List Segment) (output : List ℕ) : Ty
   pub jumped : moves (pooled (r .buffer .arch) (view r) .events) ≡ true
       → Assembled (pooled (r .buffer .arch) (view r)) ss (overWords (r .labels) (pooled (r .buffer .arch) (view r) .labels)) output (finishedCode r ss output)
       (finish r ss output .1 .0) (finish r ss output .0 .code .len) (finish r ss output .0 .code .layouts)
-  pub straight : moves (pooled (r .buffer .arch) (view r) .events) ≡ false → Kept (pooled (r .buffer .arch) (view r)) output (finishedCode r ss output) (finish r ss output .0 .code .len)
+  pub straight : moves (pooled (r .buffer .arch) (view r) .events) ≡ false
+      → Kept (pooled (r .buffer .arch) (view r)) (overWords (r .labels) (pooled (r .buffer .arch) (view r) .labels)) output (finishedCode r ss output)
+      (finish r ss output .1 .0) (finish r ss output .0 .code .len)
+  pub aligned : finish r ss output .0 .code .alignment ≡ codeAlignment (pooled (r .buffer .arch) (view r) .pool)
 
 pub finish-answered : (r : Recording) (ss : List Segment) (output : List ℕ) → finish r ss output .0 .refusal ≡ 0 → Answered r ss output
 unfolding finish placedBy
@@ -152,7 +159,7 @@ finish-answered r ss output e =
     chosen-zero (λ (x : Finished × Left). x .0 .refusal) (eqb (placed .0 .refusal) 0) _ _ (λ q. eqb-false (placed .0 .refusal) 0 q) e2 in
     let bound : allBound p (view r .relocs) ≡ true =
     chosen-zero (λ (x : Outcome × Left). x .0 .refusal) (allBound p (view r .relocs)) _ _ (λ q z. omega arith) (eqb-true (placed .0 .refusal) 0 done) in
-    let is : finish r ss output ≡ (finishedWith b (placed .0), placed .1) = pick-yes (eqb why 0) _ _ fit ∙ pick-yes (eqb (placed .0 .refusal) 0) _ _ done in
+    let is : finish r ss output ≡ (finishedWith b (codeAlignment (p .pool)) (placed .0), placed .1) = pick-yes (eqb why 0) _ _ fit ∙ pick-yes (eqb (placed .0 .refusal) 0) _ _ done in
     let inner : placed ≡ pick (moves (p .events)) (relaxed p (b .relocs) labels (r .relocs) ss output) (unrelaxed p labels (r .relocs) ss output) =
     pick-yes (allBound p (view r .relocs)) _ _ bound in
     let zero : placed .0 .refusal ≡ 0 = eqb-true (placed .0 .refusal) 0 done in
@@ -162,11 +169,12 @@ finish-answered r ss output e =
       jumped = λ jump.
           let all = inner ∙ pick-yes (moves (p .events)) (relaxed p (b .relocs) labels (r .relocs) ss output) (unrelaxed p labels (r .relocs) ss output) jump in
           subst (λ (x : Finished × Left). Assembled p ss labels output (take (x .0 .code .len) (x .1 .1 .1 .1)) (x .1 .0) (x .0 .code .len) (x .0 .code .layouts))
-          (sym (is ∙ ap (λ (x : Outcome × Left). (finishedWith b (x .0), x .1)) all))
+          (sym (is ∙ ap (λ (x : Outcome × Left). (finishedWith b (codeAlignment (p .pool)) (x .0), x .1)) all))
           (relaxed-leaves p (b .relocs) labels (r .relocs) ss output (subst (λ (x : Outcome × Left). x .0 .refusal ≡ 0) all zero));
       straight = λ none.
           let all = inner ∙ pick-no (moves (p .events)) (relaxed p (b .relocs) labels (r .relocs) ss output) (unrelaxed p labels (r .relocs) ss output) none in
-          subst (λ (x : Finished × Left). Kept p output (take (x .0 .code .len) (x .1 .1 .1 .1)) (x .0 .code .len))
-          (sym (is ∙ ap (λ (x : Outcome × Left). (finishedWith b (x .0), x .1)) all))
+          subst (λ (x : Finished × Left). Kept p labels output (take (x .0 .code .len) (x .1 .1 .1 .1)) (x .1 .0) (x .0 .code .len))
+          (sym (is ∙ ap (λ (x : Outcome × Left). (finishedWith b (codeAlignment (p .pool)) (x .0), x .1)) all))
           (unrelaxed-leaves p labels (r .relocs) ss output (subst (λ (x : Outcome × Left). x .0 .refusal ≡ 0) all zero));
+      aligned = ap (λ (x : Finished × Left). x .0 .code .alignment) is;
     }

@@ -1,6 +1,6 @@
--- The three demands at the C boundary, of `wargnifla_finish`.
+-- The three demands and what is claimed of pooled constants, at the C boundary, of `wargnifla_finish`.
 use mathlib.Core.Path.{_≡_, refl, sym, ap, _∙_, subst}
-use mathlib.Core.Logic.{_≢_}
+use mathlib.Core.Logic.{_≢_, ⊎-elim}
 use mathlib.Core.Bool.{Bool, true, false}
 use mathlib.Core.List.{List}
 use Prim.Native.Nat.{ℕ, _≤_, _<_}
@@ -12,7 +12,7 @@ use Rattle.seqs.specs.Pick.{pick}
 use Rattle.words.specs.Words.{wordAt}
 use Rattle.relax.specs.declared.Segment.{Segment}
 use Rattle.buffer.specs.declared.CodeBuffer.{CodeBuffer}
-use Rattle.recording.specs.View.{entries}
+use Rattle.recording.specs.View.{entries, view}
 use Rattle.fresh.specs.Forms.{moves}
 use Rattle.fresh.specs.Demand.{Demand3}
 use Rattle.fresh.proofs.Rounds.{rounds-bound}
@@ -26,11 +26,13 @@ use Rattle.wargnifla.proofs.Counts.{word-read, counts-stay}
 use Rattle.demands.specs.Demand1.{LentUnchanged}
 use Rattle.demands.specs.Demand2.{Bytes, Demand2}
 use Rattle.demands.specs.Demand2 as claim
+use Rattle.demands.specs.Constants.{Constants}
 use Rattle.demands.specs.Boundary.{Answer, finishedCode, labelsOf, wordOf, pooledIn, Demands}
 use Rattle.demands.proofs.Answers.{finish-answered}
 use Rattle.demands.proofs.Demand1.{refused-finish-changes-nothing}
 use Rattle.demands.proofs.Demand2.{demand2}
 use Rattle.demands.proofs.Demand3.{demand3-holds}
+use Rattle.demands.proofs.Constants.{constants-hold}
 
 -- whichever of three answers two tests pick
 one-of : (Q : Answer → Type 0) (s t : Bool) (x y z : Answer) → (s ≡ true → Q x) → Q y → (z .0 ≢ 0 → Q z) → pick s x (pick t y z) .0 ≢ 0
@@ -121,6 +123,12 @@ module _ (l : Lent) (ss : List Segment) (output finalized : List ℕ) (called : 
       ap (λ (a : Answer). wordOf a 3) (called .is)
       ∙ word-read finalized (recordOf (finishing.finish (recordingIn l) ss output .0 .code)) 3 (omega arith) (called .room) (layouts-small jump)
 
+  alignment-read : wordOf (finish l ss output finalized) 2 ≡ finishing.finish (recordingIn l) ss output .0 .code .alignment
+  alignment-read =
+      ap (λ (a : Answer). wordOf a 2) (called .is)
+      ∙ word-read finalized (recordOf (finishing.finish (recordingIn l) ss output .0 .code)) 2 (omega arith) (called .room)
+      (⊎-elim (λ (e : _ ≡ 32). omega arith) (λ (e : _ ≡ 64). omega arith) (constants-hold (recordingIn l) ss output (called .zero) .known))
+
   code-read : finishedCode (finish l ss output finalized) ≡ claim.finishedCode (recordingIn l) ss output
   code-read =
       ap (λ (n : ℕ). take n (finish l ss output finalized .1 .1 .0 .1 .1 .1)) len-read
@@ -147,4 +155,13 @@ c-finish-meets-the-demands l ss output finalized counts code =
           (subst (λ (c : List ℕ). Demand3 (pooledIn l) c (labels (labelsOf answer)) (f .0 .code .len) (f .0 .code .layouts)) (sym (code-read l ss output finalized called))
           (subst (λ (t : List ℕ). Demand3 (pooledIn l) made (labels t) (f .0 .code .len) (f .0 .code .layouts)) (sym (ap labelsOf (called .is)))
           (demand3-holds r ss output (called .zero) jump))));
+      constants = λ zero.
+          let called = c-finish-calls l ss output finalized zero in
+          let f = finishing.finish r ss output in
+          let made = claim.finishedCode r ss output in
+          let labels : List ℕ → List ℕ = λ t. entries (wordAt t) (r .buffer .labels) in
+          subst (Constants (view r) (finishedCode answer) (labels (labelsOf answer))) (sym (alignment-read l ss output finalized called))
+          (subst (λ (c : List ℕ). Constants (view r) c (labels (labelsOf answer)) (f .0 .code .alignment)) (sym (code-read l ss output finalized called))
+          (subst (λ (t : List ℕ). Constants (view r) made (labels t) (f .0 .code .alignment)) (sym (ap labelsOf (called .is)))
+          (constants-hold r ss output (called .zero))));
     }

@@ -1,6 +1,6 @@
 -- Every claim of the demands, restated in full: one that is dropped, or put under a premise, is refused here.
 use mathlib.Core.Path.{_≡_}
-use mathlib.Core.Logic.{_≢_}
+use mathlib.Core.Logic.{_≢_, _⊎_}
 use mathlib.Core.Bool.{true, false}
 use mathlib.Core.List.{List, map}
 use Prim.Native.Nat.{ℕ, _+_, _-_, _%_, _≤_, _<_}
@@ -18,8 +18,8 @@ use Rattle.relax.specs.declared.Alignment.{Alignment}
 use Rattle.buffer.specs.State.{none}
 use Rattle.buffer.specs.Calls.{padding}
 use Rattle.recording.specs.Calls.{Recording}
-use Rattle.recording.specs.View.{entries, view}
-use Rattle.fresh.specs.Pooled.{Pooled, pooled}
+use Rattle.recording.specs.View.{View, entries, view}
+use Rattle.fresh.specs.Pooled.{Pooled, askedConstant, pooled}
 use Rattle.fresh.specs.Forms.{moves}
 use Rattle.fresh.specs.Fresh.{Choice, moved, target}
 use Rattle.fresh.specs.Rounds.{allShort, jumps, Rounds, settled}
@@ -48,6 +48,7 @@ use Rattle.demands.specs.Demand2.{
   PoolPadded,
   Demand2,
 }
+use Rattle.demands.specs.Constants.{alignmentOf, offsetOf, Constants}
 use Rattle.demands.specs.Boundary.{Answer, finishedCode, labelsOf, wordOf, pooledIn, Demands}
 
 abbrev here : ℕ → ℕ
@@ -172,7 +173,27 @@ module _ {p : Pooled} {code labels : List ℕ} {len layouts : ℕ} (d : Demand3 
   long-jumps-are-least : NoAlign (p .events) → (e : Choice) → Fits p e → Includes (d .choice) e
   long-jumps-are-least = d .least
 
--- All three, at the C boundary.
+-- Pooled constants.
+module _ {v : View} {code labels : List ℕ} {alignment : ℕ} (d : Constants v code labels alignment) where
+  constants-stand : (j : ℕ) → j < length (v .asked) → part code (offsetOf v labels j) (length (askedConstant v j .bytes)) ≡ askedConstant v j .bytes
+  constants-stand = d .stands
+
+  constants-are-aligned : (j : ℕ) → j < length (v .asked) → offsetOf v labels j % alignmentOf v j ≡ 0
+  constants-are-aligned = d .aligned
+
+  alignment-is-32-or-64 : (alignment ≡ 32) ⊎ (alignment ≡ 64)
+  alignment-is-32-or-64 = d .known
+
+  alignment-is-a-multiple : (j : ℕ) → j < length (v .asked) → alignment % alignmentOf v j ≡ 0
+  alignment-is-a-multiple = d .multiple
+
+  alignment-is-least : (m : ℕ) → 32 ≤ m → ((j : ℕ) → j < length (v .asked) → alignmentOf v j ≤ m) → alignment ≤ m
+  alignment-is-least = d .least
+
+  loaded-constants-are-aligned : (base j : ℕ) → base % alignment ≡ 0 → j < length (v .asked) → (base + offsetOf v labels j) % alignmentOf v j ≡ 0
+  loaded-constants-are-aligned = d .loaded
+
+-- All of them, at the C boundary.
 module _ {l : Lent} {output finalized : List ℕ} {a : Answer} (d : Demands l output finalized a) where
   c-demand1 : a .0 ≢ 0 → LentUnchanged l output finalized a
   c-demand1 = d .one
@@ -183,3 +204,6 @@ module _ {l : Lent} {output finalized : List ℕ} {a : Answer} (d : Demands l ou
   c-demand3 : a .0 ≡ 0 → moves (pooledIn l .events) ≡ true
       → Demand3 (pooledIn l) (finishedCode a) (entries (wordAt (labelsOf a)) (recordingIn l .buffer .labels)) (wordOf a 1) (wordOf a 3)
   c-demand3 = d .three
+
+  c-constants : a .0 ≡ 0 → Constants (view (recordingIn l)) (finishedCode a) (entries (wordAt (labelsOf a)) (recordingIn l .buffer .labels)) (wordOf a 2)
+  c-constants = d .constants

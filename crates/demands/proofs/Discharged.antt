@@ -3,7 +3,8 @@ use mathlib.Core.Path.{_≡_, refl, sym, ap, _∙_, subst}
 use mathlib.Core.Logic.{_⊎_, inl, inr, _≢_, ⊎-elim}
 use mathlib.Core.Bool.{Bool, true, false, not, _&&_, cond}
 use mathlib.Core.List.{List, [], _∷_, _++_}
-use Prim.Native.Nat.{ℕ, zero, suc, _+_, _*_, _≤_, _<_}
+use Prim.Native.Nat.{ℕ, zero, suc, _+_, _*_, _%_, _≤_, _<_}
+use native.Mathlib.Nat.{mod-self}
 use native.Mathlib.Omega.{arith}
 use lib.Dec.{eqb, ltb}
 use lib.ListN.{length, getD, take, length-append, List·getD-eq-default}
@@ -22,7 +23,6 @@ use Rattle.fields.specs.Reach.{canReach, reachRefusal}
 use Rattle.relax.specs.declared.LayoutEvent.{LayoutEvent}
 use Rattle.relax.specs.declared.Segment.{Segment}
 use Rattle.relax.specs.Events.{eventOf, eventAt, endOf, startOf, noEvent}
-use Rattle.relax.proofs.Columns.{end-at}
 use Rattle.buffer.specs.declared.CodeBuffer.{CodeBuffer}
 use Rattle.buffer.specs.State.{none}
 use Rattle.buffer.specs.Refusals.{foreign}
@@ -31,15 +31,17 @@ use Rattle.recording.specs.Calls.{Recording}
 use Rattle.recording.specs.Sound.{Sound}
 use Rattle.recording.specs.View as tables
 use Rattle.recording.proofs.Views.{length-entries, getD-entries}
-use Rattle.fresh.specs.Pooled.{Pooled, pooled}
+use Rattle.fresh.specs.Pooled.{constantAlignment, Pooled, pooled}
 use Rattle.fresh.specs.Rounds.{jumps, settled}
 use Rattle.fresh.specs.Order.{Apart, WellFormed}
+use Rattle.fresh.proofs.Constants.{alignment-cases, alignment-range}
+use Rattle.fresh.proofs.AlignedEnds.{AlignsOn, EndsOn}
 use Rattle.fresh.proofs.Least.{Bound}
 use Rattle.fresh.proofs.Rounds.{rounds-settle, rounds-last, none-fits}
 use Rattle.fresh.proofs.Fill.{length-assembled}
 use Rattle.fresh.specs.Forms.{Branch, branches, roleOf, moves}
-use Rattle.pool.specs.steps.Pool.{poolOffset, poolEvent, poolBound}
-use Rattle.pool.proofs.Pool.{poolStart-suc, poolStart-grows, from-poolStart}
+use Rattle.pool.specs.steps.Pool.{sizeAt, poolStart, poolOffset, poolEvent, poolBound}
+use Rattle.pool.proofs.Pool.{poolStart-suc, poolStart-grows}
 use Rattle.fields.specs.Kinds.{sizeOf}
 use Rattle.fields.specs.Reach.{reachOf}
 use Rattle.emit.specs.steps.Emit.{Writes}
@@ -49,7 +51,7 @@ use Rattle.seqs.proofs.Every.{every-at}
 use Rattle.seqs.specs.Every.{every}
 use Rattle.finish.specs.Refusals.{isBound, jumpBound, relocBound, allBound, refClear, refReaches, useRefusal, usesRefusal}
 use Rattle.finish.proofs.SoundRecording.{tied, offsets-small, pooled-is, ready}
-use Rattle.finish.proofs.PooledInOrder.{AtTable, AtPool, event-at, ref-apart, pooled-length, well-formed, recorded-writes}
+use Rattle.finish.proofs.PooledInOrder.{AtTable, AtPool, event-at, ref-apart, pool-apart, well-formed, recorded-writes}
 use Rattle.demands.specs.Demand2 as demand
 use Rattle.demands.specs.Demand2.{Bytes, useOf, refOf, constantOf}
 use Rattle.demands.proofs.Bytes.{bytes-take, bytes-pooled}
@@ -126,8 +128,9 @@ module _ (r : Recording) (s : Sound r) (few : r .buffer .asked ≤ mostEntries) 
   landed : (l : ℕ) → l < b .labels → Landed (r .events) (b .events) (b .code) (r .constants) (r .asked) (b .asked) (wordAt bound l)
   landed = ready r s few .landed
 
-  label-small : (l : ℕ) → getD (p .labels) l none < modulus
-  label-small l =
+  -- every label's offset is a word
+  pub label-word : (l : ℕ) → getD (p .labels) l none < 4294967296
+  label-word l =
       rw (pooled-is r s few)
       (⊎-elim
       (λ (h : l < b .labels).
@@ -153,12 +156,12 @@ module _ (r : Recording) (s : Sound r) (few : r .buffer .asked ≤ mostEntries) 
       (l, ap (λ (x : List tables.Ref). getD x i (record { offset = 0; label = 0; code = 0; addend = 0 })) e ∙ getD-entries (tables.refAt (r .refs)) (b .refs) i _ l)
 
   -- without a jump
-  pub reaching : {ss : List Segment} {output code : List ℕ} {len : ℕ} → Bytes (r .code) → Fit r ss output → Kept p output code len → Reaching p
+  pub reaching : {ss : List Segment} {labels output code table : List ℕ} {len : ℕ} → Bytes (r .code) → Fit r ss output → Kept p labels output code table len → Reaching p
   reaching bytes fit kept =
       record {
         bytes = bytes-pooled (b .arch) (tables.view r) (length (tables.view r .asked)) (bytes-take (b .code) (r .code) bytes);
         recorded = omega (arith, fit .small);
-        labels = label-small;
+        labels = λ l. omega (arith, label-word l);
         within = λ i k h is. use-fits p (useOf p i) k is (use-refused p (p .uses) _ (kept .none-refused) i h) .0;
         reach = λ i k h is. use-fits p (useOf p i) k is (use-refused p (p .uses) _ (kept .none-refused) i h) .1;
       }
@@ -221,36 +224,53 @@ module _ (r : Recording) (s : Sound r) (few : r .buffer .asked ≤ mostEntries) 
     -- a constant of the pool lies apart from the events
     constant-apart : (i : ℕ) → i < length (q .pool) → Apart q (constantOf q i .offset) (length (constantOf q i .bytes))
     constant-apart i h =
+        let lt : i < b .asked = omega (arith, length-entries (poolPlaced (b .code) (r .constants) (r .asked)) (b .asked)) in
+        rw (getD-entries (poolPlaced (b .code) (r .constants) (r .asked)) (b .asked) i (record { offset = 0; bytes = [] }) lt)
+        (pool-apart (r .code) bound (r .events) (r .constants) (r .asked) (b .code) (b .labels) (b .events) (b .asked) ready64 (q .uses) (q .refs) i lt)
+
+    -- the alignments of the constants from number i on, of which only those after a constant of no bytes start where it stands
+    alignment-on : (i k : ℕ) → i ≤ k → poolStart (b .code) (r .constants) (r .asked) k ≤ poolOffset (b .code) (r .constants) (r .asked) i
+        → AlignsOn (constantAlignment (sizeAt (r .constants) (r .asked) i)) (poolEvent (b .code) (r .constants) (r .asked) k)
+    alignment-on i k le at =
+        record {
+          alignment = _;
+          is = refl;
+          some = omega (arith, alignment-range (sizeAt (r .constants) (r .asked) k));
+          multiple =
+              ⊎-elim
+              (λ (same : i ≡ k). rw (← same) (mod-self (constantAlignment (sizeAt (r .constants) (r .asked) i))))
+              (λ (ne : i ≢ k).
+              let none : sizeAt (r .constants) (r .asked) i ≡ 0 =
+              omega (arith, poolStart-suc (b .code) (r .constants) (r .asked) i, poolStart-grows (b .code) (r .constants) (r .asked) (suc i) k (omega arith)) in
+              rw none (alignment-cases (λ (a : ℕ). a % 8 ≡ 0) refl refl refl (sizeAt (r .constants) (r .asked) k)))
+              (eq-or-ne i k);
+        }
+
+    constant-ends : (i : ℕ) → i < length (q .pool) → EndsOn q (constantAlignment (length (constantOf q i .bytes))) (constantOf q i .offset)
+    constant-ends i h =
         let from = b .code in
         let ks = r .constants in
         let order = r .asked in
         let lt : i < b .asked = omega (arith, length-entries (poolPlaced from ks order) (b .asked)) in
-        let size = tied r s few .sized i lt in
-        let next = poolStart-suc from ks order i in
-        rw (getD-entries (poolPlaced from ks order) (b .asked) i (record { offset = 0; bytes = [] }) lt, size) (
-          omega (
-            arith,
-            pooled-length (r .code) bound (r .events) ks order from (b .labels) (b .events) (b .asked) ready64 (q .uses) (q .refs),
-            next,
-            poolStart-grows from ks order (suc i) (b .asked) (omega arith),
-          ),
-          λ j l.
+        let known : b .events + i < length (q .events) = omega (arith, many) in
+        rw (getD-entries (poolPlaced from ks order) (b .asked) i (record { offset = 0; bytes = [] }) lt, tied r s few .sized i lt)
+        (record {
+          number = b .events + i;
+          known = known;
+          ends =
               ⊎-elim
-              (λ (a : AtTable (r .events) (b .events) j (getD (q .events) j noEvent)).
-              inr (omega (arith, ap endOf (a .is) ∙ end-at (r .events) j, s .events .entry j (a .below) .ends, from-poolStart from ks order i)))
-              (λ (a : AtPool ks order from (b .events) (b .asked) j (getD (q .events) j noEvent)).
+              (λ (a : AtTable (r .events) (b .events) (b .events + i) (getD (q .events) (b .events + i) noEvent)). absurd (omega (arith, a .below)))
+              (λ (a : AtPool ks order from (b .events) (b .asked) (b .events + i) (getD (q .events) (b .events + i) noEvent)).
+              let same : a .number ≡ i = omega (arith, a .place) in
+              sym (ap endOf (a .is) ∙ ap (poolOffset from ks order) same))
+              (event-at (r .events) ks order from (b .events) (b .asked) (b .events + i) noEvent (omega (arith, many)));
+          on = λ k le l at.
               ⊎-elim
-              (λ (before : i < a .number).
-              inl (omega (arith, ap startOf (a .is), next, poolStart-grows from ks order (suc i) (a .number) (omega arith))))
-              (λ (ge : a .number ≤ i).
-              ⊎-elim
-              (λ (same : a .number ≡ i). inr (omega (arith, ap endOf (a .is) ∙ ap (poolOffset from ks order) same)))
-              (λ (ne : a .number ≢ i).
-              inr (omega (arith, ap endOf (a .is), poolStart-suc from ks order (a .number), poolStart-grows from ks order (suc (a .number)) i (omega arith))))
-              (eq-or-ne (a .number) i))
-              (lt-or-ge i (a .number)))
-              (event-at (r .events) ks order from (b .events) (b .asked) j noEvent (omega (arith, many))),
-        )
+              (λ (a : AtTable (r .events) (b .events) k (getD (q .events) k noEvent)). absurd (omega (arith, a .below)))
+              (λ (a : AtPool ks order from (b .events) (b .asked) k (getD (q .events) k noEvent)).
+              rw (a .is) (alignment-on i (a .number) (omega (arith, a .place)) (omega (arith, ap startOf (a .is)))))
+              (event-at (r .events) ks order from (b .events) (b .asked) k noEvent (omega (arith, many)));
+        })
 
     all-known : (i : ℕ) → i < length (p .events) → Writes (demand.eventOf p i)
     all-known = subst (λ (x : Pooled). (i : ℕ) → i < length (x .events) → Writes (demand.eventOf x i)) (sym pooled-q) event-known
@@ -278,5 +298,6 @@ module _ (r : Recording) (s : Sound r) (few : r .buffer .asked ≤ mostEntries) 
           native = ref-native;
           apart = λ i h. ref-apart p (refOf p i) (every-at (refClear p) (p .refs) _ (done .clear) i h);
           pool-apart = subst (λ (x : Pooled). (i : ℕ) → i < length (x .pool) → Apart x (constantOf x i .offset) (length (constantOf x i .bytes))) (sym pooled-q) constant-apart;
+          pool-aligned = subst (λ (x : Pooled). (i : ℕ) → i < length (x .pool) → EndsOn x (constantAlignment (length (constantOf x i .bytes))) (constantOf x i .offset)) (sym pooled-q) constant-ends;
           reach = λ i h. every-at (refReaches p c) (p .refs) _ (done .reach) i h;
         }

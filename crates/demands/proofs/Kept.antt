@@ -9,7 +9,7 @@ use lib.ListN.{length, getD, take, drop, length-drop, length-take}
 use lib.Seq.{length-take-le}
 use Rattle.seqs.specs.Over.{over}
 use Rattle.seqs.proofs.Numbers.{lt-or-ge, eq-or-ne}
-use Rattle.seqs.proofs.Overwrites.{over-nil, part-before, drop-over, part-over}
+use Rattle.seqs.proofs.Overwrites.{length-over, over-nil, part-before, drop-over, part-over}
 use Rattle.fields.specs.declared.LabelUse.{LabelUse}
 use Rattle.fields.specs.declared.Decoded.{Decoded}
 use Rattle.fields.specs.declared.Decoded.the-variants.{Use, Unsupported, Unknown}
@@ -106,6 +106,19 @@ pool-kept at [] l a n z miss = refl
 pool-kept at (k ∷ ks) l a n z miss =
     pool-kept at ks _ a n z (λ j h. miss (suc j) (omega arith))
     ∙ part-kept l (at (k .offset)) (k .bytes) (length (k .bytes)) a n (omega arith) (miss 0 (omega arith))
+
+-- A constant that no later one covers leaves its bytes.
+pub constant-written : (at : ℕ → ℕ) (ks : List Placed) (l : List ℕ) (z : Placed) (i : ℕ) → i < length ks
+    → at (getD ks i z .offset) + length (getD ks i z .bytes) ≤ length l
+    → ((j : ℕ) → i < j → j < length ks → Disjoint (at (getD ks i z .offset)) (length (getD ks i z .bytes)) (at (getD ks j z .offset)) (length (getD ks j z .bytes)))
+    → part (fillPool at ks l) (at (getD ks i z .offset)) (length (getD ks i z .bytes)) ≡ getD ks i z .bytes
+unfolding fillPool
+constant-written at [] l z i h room miss = absurd (omega arith)
+constant-written at (k ∷ ks) l z zero h room miss =
+    pool-kept at ks _ (at (k .offset)) (length (k .bytes)) z (λ j q. miss (suc j) (omega arith) (omega arith)) ∙ part-over l (at (k .offset)) (k .bytes) room
+constant-written at (k ∷ ks) l z (suc i) h room miss =
+    constant-written at ks (over l (at (k .offset)) (k .bytes)) z i (omega arith) (rw (length-over l (at (k .offset)) (k .bytes)) room)
+    (λ j q w. miss (suc j) (omega arith) (omega arith))
 
 -- the field of a jump
 abbrev pub FieldMisses : LayoutEvent → Bool → ℕ → ℕ → ℕ → Type 0

@@ -9,9 +9,11 @@ pub mod Bytes
 pub mod Staying
 pub mod Answers
 pub mod Discharged
+pub mod Offsets
 pub mod Recorded
 pub mod Demand2
 pub mod Demand3
+pub mod Constants
 pub mod Example
 pub mod Demand1
 pub mod Boundary

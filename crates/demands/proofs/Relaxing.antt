@@ -25,12 +25,13 @@ use Rattle.relax.specs.declared.LayoutEvent.the-variants.{Jump, Align}
 use Rattle.relax.specs.declared.RelaxableJump.{RelaxableJump}
 use Rattle.relax.specs.declared.Alignment.{Alignment}
 use Rattle.buffer.specs.State.{none}
-use Rattle.fresh.specs.Pooled.{Pooled}
+use Rattle.fresh.specs.Pooled.{constantAlignment, Pooled}
 use Rattle.fresh.specs.Forms.{form, width, Branch, fieldOf, pads, branches, branchOf, roleOf}
 use Rattle.fresh.specs.Fresh.{Choice, starts, walk, placed, moved, target}
 use Rattle.fresh.specs.Fill.{part, fillRefs, fillJumps, fill, assembled}
 use Rattle.fresh.specs.Demand.{Reach, Fits}
 use Rattle.fresh.specs.Order.{Apart, WellFormed}
+use Rattle.fresh.proofs.AlignedEnds.{EndsOn}
 use Rattle.fresh.proofs.Least.{Bound}
 use Rattle.fresh.proofs.Forms.{field-inside}
 use Rattle.fresh.proofs.Fill.{length-assembled, length-fillRefs}
@@ -58,6 +59,7 @@ pub record Fitting (p : Pooled) (c : Choice) : Type 0 where
   pub native : (i : ℕ) (k : LabelUse) → i < length (p .refs) → decoded (refOf p i .code) ≡ Use k → info k .x86 ≡ true
   pub apart : (i : ℕ) → i < length (p .refs) → Apart p (refOf p i .offset) (sizeOf (decoded (refOf p i .code)))
   pub pool-apart : (i : ℕ) → i < length (p .pool) → Apart p (constantOf p i .offset) (length (constantOf p i .bytes))
+  pub pool-aligned : (i : ℕ) → i < length (p .pool) → EndsOn p (constantAlignment (length (constantOf p i .bytes))) (constantOf p i .offset)
   pub reach : (i : ℕ) → i < length (p .refs) → refReaches p c (refOf p i) ≡ true
 
 -- n bytes from s to e, or the last d of them, share none with what lies before s or after e

@@ -1,4 +1,5 @@
--- The demands applied to two recordings as a C program lends them, with the numbers written out: a claim that says less than it should is refused here.
+-- The demands, and what is claimed of pooled constants, applied to recordings as a C program lends them, with the numbers written out: a claim that says
+-- less than it should is refused here.
 use mathlib.Core.Path.{_≡_, refl}
 use mathlib.Core.Bool.{true, false}
 use mathlib.Core.List.{List, [], _∷_, _++_, map}
@@ -17,7 +18,7 @@ use Rattle.encoder.specs.Nops as nop
 use Rattle.encoder.specs.Padding.{paddingLength}
 use Rattle.fields.specs.Words64.{plus, signExtend, range}
 use Rattle.fields.specs.Bits.{insertBits}
-use Rattle.fields.specs.Kinds.{archX64, archA64, decoded}
+use Rattle.fields.specs.Kinds.{archX86, archX64, archA64, decoded}
 use Rattle.fields.specs.Intel.{rel32}
 use Rattle.fields.specs.Arm.{b, adrp, addImmediate}
 use Rattle.fields.specs.Reach.{reachRefusal, canReach, canReachDelta, pagesReach}
@@ -30,11 +31,11 @@ use Rattle.buffer.specs.State.{none}
 use Rattle.buffer.specs.Refusals.{standing, isAlignment, lastEnd}
 use Rattle.checks.specs.Entries.{formFits, eventFits, keptOnly, eventsFit, outside, labelFits, labelsFit, useFits, usesFit, refFits, refsFit, relocsFit, constantFits, constantsFit, askedFits, askedOnce, isAsked, orderFits, entriesFit}
 use Rattle.checks.specs.Lent.{countsFit, withinLimits}
-use Rattle.fresh.specs.Pooled.{pooledOne}
+use Rattle.fresh.specs.Pooled.{pooledOne, codeAlignment}
 use Rattle.fresh.specs.Forms.{form, width, roleOf, moves}
 use Rattle.fresh.specs.Fresh.{Choice, items, writes, starts, stands, moved}
 use Rattle.fresh.specs.Rounds.{allShort, jumps, Rounds, reaches, isFar, farOf, any, join, settle}
-use Rattle.fresh.specs.Fill.{fillUse, fillUses, inPlace, fillField, fillRefs, fillJump, fillJumps, fillPool, fill, assembled}
+use Rattle.fresh.specs.Fill.{part, fillUse, fillUses, inPlace, fillField, fillRefs, fillJump, fillJumps, fillPool, fill, assembled}
 use Rattle.fresh.specs.Segments.{segments}
 use Rattle.finish.specs.Refusals.{poolBoundBefore, relocBound, allBound, refClear, refReaches, whyNotLaid, whyNotWritten, useRefusal, usesRefusal, whyNotInPlace, whyUnfit}
 use Rattle.finish.specs.Finish.{bytesOfAll, relocated, relaxed, unrelaxed, placedBy}
@@ -42,7 +43,7 @@ use Rattle.finish.specs.Finish as finishing
 use Rattle.wargnifla.specs.Boundary.{Lent, finish}
 use Rattle.demands.specs.Reading.{Reads}
 use Rattle.demands.specs.Demand2.{Bytes, UseMisses, ConstantMisses, IsPadding}
-use Rattle.demands.specs.Boundary.{Answer, finishedCode, pooledIn}
+use Rattle.demands.specs.Boundary.{Answer, finishedCode, wordOf, pooledIn}
 use Rattle.demands.proofs.Boundary.{c-finish-meets-the-demands}
 
 -- numbers below 256 are bytes
@@ -217,4 +218,57 @@ a64-meets =
       place = λ base loaded. uses 2 A64AddAbsLo12 (omega arith) refl after-third (behind-all 8 4 (omega arith)) refl (λ e. absurd (omega arith)) base loaded;
       pads = padded .whole (before-padding 12 4 (omega arith)) (behind-all 12 4 (omega arith));
       third = padded .each 14 (omega arith) (omega arith) (before-padding 14 1 (omega arith)) (behind-all 14 1 (omega arith));
+    }
+
+-- On X86: a byte of code and a constant of 33 bytes, which is asked for; and the same where it is not.
+abbrev wide : Lent
+wide =
+    record {
+      counts = bytesOfAll (archX86 ∷ 0 ∷ 0 ∷ 0 ∷ 1 ∷ 1 ∷ 0 ∷ 0 ∷ 0 ∷ 1 ∷ 1 ∷ 0 ∷ []);
+      code = 0x90 ∷ [];
+      labels = bytesOfAll (none ∷ []);
+      events = [];
+      uses = [];
+      refs = [];
+      constants = bytesOfAll (33 ∷ 0 ∷ []) ++ (replicate 33 1 ++ replicate 31 0);
+      asked = bytesOfAll (0 ∷ []);
+      relocs = [];
+    }
+
+abbrev unasked : Lent
+unasked =
+    record {
+      counts = bytesOfAll (archX86 ∷ 0 ∷ 0 ∷ 0 ∷ 1 ∷ 0 ∷ 0 ∷ 0 ∷ 0 ∷ 1 ∷ 0 ∷ 0 ∷ []);
+      code = 0x90 ∷ [];
+      labels = [];
+      events = [];
+      uses = [];
+      refs = [];
+      constants = bytesOfAll (33 ∷ none ∷ []) ++ (replicate 33 1 ++ replicate 31 0);
+      asked = [];
+      relocs = [];
+    }
+
+-- what is claimed of the constant, at 64, and of the alignment
+record WideMeets : Type 0 where
+  taken : finish wide [] (replicate 97 0) (replicate 24 0) .0 ≡ 0
+  stands : part (finishedCode (finish wide [] (replicate 97 0) (replicate 24 0))) 64 33 ≡ replicate 33 1
+  loaded : (base : ℕ) → base % 64 ≡ 0 → (base + 64) % 64 ≡ 0
+  given : wordOf (finish wide [] (replicate 97 0) (replicate 24 0)) 2 ≡ 64
+  -- without it the least that may be given
+  less : (m : ℕ) → 32 ≤ m → wordOf (finish unasked [] (replicate 1 0) (replicate 24 0)) 2 ≤ m
+
+wide-meets : WideMeets
+unfolding every all over pick wordAt nop.form nop.nopsBy nop.nops paddingLength standing lastEnd keptOnly eventsFit outside labelFits labelsFit usesFit refsFit relocsFit
+    constantFits constantsFit askedFits askedOnce isAsked orderFits entriesFit countsFit withinLimits pooledOne codeAlignment moves fillUses fillPool inPlace poolBoundBefore
+    relocBound allBound usesRefusal whyNotInPlace whyUnfit unrelaxed placedBy finishing.finish finish
+wide-meets =
+    let asks = c-finish-meets-the-demands wide [] (replicate 97 0) (replicate 24 0) (bytes-of (wide .counts) refl) (bytes-of (wide .code) refl) .constants refl in
+    let asks·not = c-finish-meets-the-demands unasked [] (replicate 1 0) (replicate 24 0) (bytes-of (unasked .counts) refl) (bytes-of (unasked .code) refl) .constants refl in
+    record {
+      taken = refl;
+      stands = asks .stands 0 (omega arith);
+      loaded = λ base on. asks .loaded base 0 on (omega arith);
+      given = refl;
+      less = λ m h. asks·not .least m h (λ j known. absurd (omega arith));
     }

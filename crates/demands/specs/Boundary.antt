@@ -1,4 +1,5 @@
--- The demands where a C program meets them: what it has once `wargnifla_finish` has answered, in the bytes that it lent.
+-- The demands, and what is claimed of pooled constants, where a C program meets them: what it has once `wargnifla_finish` has answered, in the bytes that
+-- it lent.
 use mathlib.Core.Path.{_≡_}
 use mathlib.Core.Logic.{_≢_}
 use mathlib.Core.Bool.{true}
@@ -14,6 +15,7 @@ use Rattle.finish.specs.Finish.{Left}
 use Rattle.wargnifla.specs.Boundary.{Lent, recordingIn}
 use Rattle.demands.specs.Demand1.{LentUnchanged}
 use Rattle.demands.specs.Demand2.{Demand2}
+use Rattle.demands.specs.Constants.{Constants}
 
 -- what `wargnifla_finish` answers and leaves: the answer, the counts, the tables and the output, and the record
 abbrev pub Answer : Type 0
@@ -33,14 +35,20 @@ wordOf a k = wordAt (a .1 .1 .1) k
 abbrev pub finishedCode : Answer → List ℕ
 finishedCode a = take (wordOf a 1) (outputOf a)
 
+-- the labels' offsets in the table that was lent
+abbrev pub offsetsOf : Lent → Answer → List ℕ
+offsetsOf l a = entries (wordAt (labelsOf a)) (recordingIn l .buffer .labels)
+
 -- the pooled recording of what is lent
 abbrev pub pooledIn : Lent → Pooled
 pooledIn l = pooled (recordingIn l .buffer .arch) (view (recordingIn l))
 
 -- The three demands of a finish. A number is answered: recording and output are unchanged. 0 is: the finished code meets demand 2 and, where a jump stands,
--- it, the labels' offsets, its length (word 1) and the layouts (word 3) meet demand 3.
+-- it, the labels' offsets, its length (word 1) and the layouts (word 3) meet demand 3; it, those offsets and the alignment (word 2) are what is claimed of
+-- pooled constants.
 pub record Demands (l : Lent) (output finalized : List ℕ) (a : Answer) : Type 0 where
   pub one : a .0 ≢ 0 → LentUnchanged l output finalized a
   pub two : a .0 ≡ 0 → Demand2 (recordingIn l) (finishedCode a)
   pub three : a .0 ≡ 0 → moves (pooledIn l .events) ≡ true
-      → Demand3 (pooledIn l) (finishedCode a) (entries (wordAt (labelsOf a)) (recordingIn l .buffer .labels)) (wordOf a 1) (wordOf a 3)
+      → Demand3 (pooledIn l) (finishedCode a) (offsetsOf l a) (wordOf a 1) (wordOf a 3)
+  pub constants : a .0 ≡ 0 → Constants (view (recordingIn l)) (finishedCode a) (offsetsOf l a) (wordOf a 2)

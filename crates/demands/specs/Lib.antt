@@ -1,4 +1,5 @@
 pub mod Demand1
 pub mod Reading
 pub mod Demand2
+pub mod Constants
 pub mod Boundary
