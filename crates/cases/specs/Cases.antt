@@ -1,5 +1,5 @@
--- The worked cases of document 01, "Reaches and landings", as rows of one table, and rows with a pool: small recordings, and what finish makes of them by
--- the definitions that its contract names.
+-- The worked cases of document 01, "Reaches and landings", as rows of one table, and rows with a pool, some of them for document 02, Request One: small
+-- recordings, and what finish makes of them by the definitions that its contract names.
 use mathlib.Core.Bool.{true, false}
 use mathlib.Core.List.{List, [], _∷_, _++_}
 use Prim.Native.Nat.{ℕ, _+_, _-_}
@@ -14,7 +14,7 @@ use Rattle.relax.specs.declared.LayoutEvent.the-variants.{Align}
 use Rattle.buffer.specs.State.{none}
 use Rattle.buffer.specs.Tables.{mostEntries, mostCode}
 use Rattle.recording.specs.View.{View}
-use Rattle.fresh.specs.Pooled.{Pooled, pooled}
+use Rattle.fresh.specs.Pooled.{Pooled, pooled, codeAlignment}
 use Rattle.fresh.specs.Forms.{moves}
 use Rattle.fresh.specs.Fresh.{Choice}
 use Rattle.fresh.specs.Rounds.{Settled, settled}
@@ -23,8 +23,8 @@ use Rattle.fresh.specs.Samples.{jmp, zeros}
 use Rattle.finish.specs.Refusals.{whyNotLaid, whyNotWritten, whyNotInPlace}
 
 pub data Answer : Type 0 where
-  -- finished length, layouts, long jumps, and the bytes that are looked at
-  finished : ℕ → ℕ → ℕ → List ℕ → Answer
+  -- finished length, alignment, layouts, long jumps, and the bytes that are looked at
+  finished : ℕ → ℕ → ℕ → ℕ → List ℕ → Answer
   -- the refusal's number
   refused : ℕ → Answer
 
@@ -45,12 +45,12 @@ abbrev pub withJump : Pooled → Settled → ℕ → ℕ → Answer
 withJump p s from count =
     let why = orElse (whyNotLaid p mostEntries) (whyNotWritten p mostCode) in
     let code = assembled p (s .choice) in
-    pick (eqb why 0) (finished (length code) (s .rounds) (longJumps (s .choice)) (part code from count)) (refused why)
+    pick (eqb why 0) (finished (length code) (codeAlignment (p .pool)) (s .rounds) (longJumps (s .choice)) (part code from count)) (refused why)
 
 abbrev pub withoutJump : Pooled → ℕ → ℕ → Answer
 withoutJump p from count =
     let why = whyNotInPlace p mostCode in
-    pick (eqb why 0) (finished (length (inPlace p)) 0 0 (part (inPlace p) from count)) (refused why)
+    pick (eqb why 0) (finished (length (inPlace p)) (codeAlignment (p .pool)) 0 0 (part (inPlace p) from count)) (refused why)
 
 abbrev pub answer : Row → Answer
 answer r =
@@ -84,49 +84,68 @@ constant code events bytes =
       relocs = [];
     }
 
--- A to L; then a constant of 8 bytes on X64 and on AArch64, and a jump to one of 9 bytes
+-- A to L; then a constant of 8 bytes on X64 and on AArch64, and a jump to one of 9 bytes; then constants of 32 and of 33 bytes, and a jump of 5 bytes and
+-- 59 zeros before one of 64 bytes, whose alignment gains 3 bytes of padding when the jump becomes short
 unfoldable pub table : List Row
 table =
-    record { recording = zeros 132 (jmp 0 0 ∷ []) (132 ∷ []); from = 0; count = 0; expected = finished 129 1 0 [] }
-    ∷ record { recording = zeros 133 (jmp 0 0 ∷ []) (133 ∷ []); from = 0; count = 0; expected = finished 133 2 1 [] }
-    ∷ record { recording = zeros 138 (jmp 0 0 ∷ jmp 5 1 ∷ []) (135 ∷ 138 ∷ []); from = 0; count = 0; expected = finished 138 3 2 [] }
+    record { recording = zeros 132 (jmp 0 0 ∷ []) (132 ∷ []); from = 0; count = 0; expected = finished 129 32 1 0 [] }
+    ∷ record { recording = zeros 133 (jmp 0 0 ∷ []) (133 ∷ []); from = 0; count = 0; expected = finished 133 32 2 1 [] }
+    ∷ record { recording = zeros 138 (jmp 0 0 ∷ jmp 5 1 ∷ []) (135 ∷ 138 ∷ []); from = 0; count = 0; expected = finished 138 32 3 2 [] }
     ∷ record {
       recording = zeros 16 (jmp 0 0 ∷ Align (record { start = 5; len = 11; align = 16 }) ∷ []) (16 ∷ []);
       from = 0;
       count = 16;
-      expected = finished 16 1 0 (0xEB ∷ 0x0E ∷ 0x66 ∷ 0x0F ∷ 0x1F ∷ 0x84 ∷ 0 ∷ 0 ∷ 0 ∷ 0 ∷ 0 ∷ 0x0F ∷ 0x1F ∷ 0x44 ∷ 0 ∷ 0 ∷ []);
+      expected = finished 16 32 1 0 (0xEB ∷ 0x0E ∷ 0x66 ∷ 0x0F ∷ 0x1F ∷ 0x84 ∷ 0 ∷ 0 ∷ 0 ∷ 0 ∷ 0 ∷ 0x0F ∷ 0x1F ∷ 0x44 ∷ 0 ∷ 0 ∷ []);
     }
-    ∷ record { recording = zeros 131 (jmp 126 0 ∷ []) (0 ∷ []); from = 126; count = 2; expected = finished 128 1 0 (0xEB ∷ 0x80 ∷ []) }
+    ∷ record { recording = zeros 131 (jmp 126 0 ∷ []) (0 ∷ []); from = 126; count = 2; expected = finished 128 32 1 0 (0xEB ∷ 0x80 ∷ []) }
     ∷ record {
       recording = zeros 132 (jmp 127 0 ∷ []) (0 ∷ []);
       from = 127;
       count = 5;
-      expected = finished 132 2 1 (0xE9 ∷ 0x7C ∷ 0xFF ∷ 0xFF ∷ 0xFF ∷ []);
+      expected = finished 132 32 2 1 (0xE9 ∷ 0x7C ∷ 0xFF ∷ 0xFF ∷ 0xFF ∷ []);
     }
-    ∷ record { recording = usage 0x14000000 0 11 8; from = 0; count = 4; expected = finished 8 0 0 (bytesOf 0x14000002) }
-    ∷ record { recording = usage 0x10000000 4 13 0; from = 4; count = 4; expected = finished 8 0 0 (bytesOf 0x10FFFFE0) }
-    ∷ record { recording = usage 0x90000000 0x0FFC 14 0x1000; from = 0x0FFC; count = 4; expected = finished 0x1000 0 0 (bytesOf 0xB0000000) }
-    ∷ record { recording = usage 0x91000000 0 16 0x0123; from = 0; count = 4; expected = finished 0x0123 0 0 (bytesOf 0x91048C00) }
+    ∷ record { recording = usage 0x14000000 0 11 8; from = 0; count = 4; expected = finished 8 32 0 0 (bytesOf 0x14000002) }
+    ∷ record { recording = usage 0x10000000 4 13 0; from = 4; count = 4; expected = finished 8 32 0 0 (bytesOf 0x10FFFFE0) }
+    ∷ record { recording = usage 0x90000000 0x0FFC 14 0x1000; from = 0x0FFC; count = 4; expected = finished 0x1000 32 0 0 (bytesOf 0xB0000000) }
+    ∷ record { recording = usage 0x91000000 0 16 0x0123; from = 0; count = 4; expected = finished 0x0123 32 0 0 (bytesOf 0x91048C00) }
     ∷ record { recording = usage 0x54000000 0 10 6; from = 0; count = 4; expected = refused refusals.branchOutOfReach }
     ∷ record { recording = usage 0x58000000 0 12 6; from = 0; count = 4; expected = refused refusals.labelTooFarAhead }
     ∷ record {
       recording = pooled archX64 (constant (0xC3 ∷ []) [] (1 ∷ 2 ∷ 3 ∷ 4 ∷ 5 ∷ 6 ∷ 7 ∷ 8 ∷ []));
       from = 0;
       count = 16;
-      expected = finished 16 0 0 (0xC3 ∷ 0x0F ∷ 0x1F ∷ 0x80 ∷ 0 ∷ 0 ∷ 0 ∷ 0 ∷ 1 ∷ 2 ∷ 3 ∷ 4 ∷ 5 ∷ 6 ∷ 7 ∷ 8 ∷ []);
+      expected = finished 16 32 0 0 (0xC3 ∷ 0x0F ∷ 0x1F ∷ 0x80 ∷ 0 ∷ 0 ∷ 0 ∷ 0 ∷ 1 ∷ 2 ∷ 3 ∷ 4 ∷ 5 ∷ 6 ∷ 7 ∷ 8 ∷ []);
     }
     ∷ record {
       recording = pooled archA64 (constant (bytesOf 0xD65F03C0) [] (1 ∷ 2 ∷ 3 ∷ 4 ∷ 5 ∷ 6 ∷ 7 ∷ 8 ∷ []));
       from = 4;
       count = 12;
-      expected = finished 16 0 0 (0 ∷ 0 ∷ 0 ∷ 0 ∷ 1 ∷ 2 ∷ 3 ∷ 4 ∷ 5 ∷ 6 ∷ 7 ∷ 8 ∷ []);
+      expected = finished 16 32 0 0 (0 ∷ 0 ∷ 0 ∷ 0 ∷ 1 ∷ 2 ∷ 3 ∷ 4 ∷ 5 ∷ 6 ∷ 7 ∷ 8 ∷ []);
     }
     ∷ record {
       recording = pooled archX64 (constant (replicate 5 0) (jmp 0 0 ∷ []) (1 ∷ 2 ∷ 3 ∷ 4 ∷ 5 ∷ 6 ∷ 7 ∷ 8 ∷ 9 ∷ []));
       from = 0;
       count = 25;
       expected =
-          finished 25 1 0
+          finished 25 32 1 0
           (0xEB ∷ 0x0E ∷ 0x66 ∷ 0x0F ∷ 0x1F ∷ 0x84 ∷ 0 ∷ 0 ∷ 0 ∷ 0 ∷ 0 ∷ 0x0F ∷ 0x1F ∷ 0x44 ∷ 0 ∷ 0 ∷ 1 ∷ 2 ∷ 3 ∷ 4 ∷ 5 ∷ 6 ∷ 7 ∷ 8 ∷ 9 ∷ []);
+    }
+    ∷ record {
+      recording = pooled archX64 (constant (0x90 ∷ []) [] (replicate 32 1));
+      from = 15;
+      count = 2;
+      expected = finished 48 32 0 0 (0 ∷ 1 ∷ []);
+    }
+    ∷ record {
+      recording = pooled archX64 (constant (0x90 ∷ []) [] (replicate 33 1));
+      from = 63;
+      count = 2;
+      expected = finished 97 64 0 0 (0 ∷ 1 ∷ []);
+    }
+    ∷ record {
+      recording = pooled archX64 (constant (replicate 64 0) (jmp 0 0 ∷ []) (replicate 64 1));
+      from = 0;
+      count = 2;
+      expected = finished 128 64 1 0 (0xEB ∷ 0x3E ∷ []);
     }
     ∷ []
