@@ -1,7 +1,5 @@
 -- What is claimed of pooled constants: what a finish that answers 0 leaves meets it.
-use mathlib.Core.Path.{_≡_, refl, sym, ap, _∙_, subst}
-use mathlib.Core.Logic.{_≢_}
-use mathlib.Core.Bool.{Bool, true, false}
+use mathlib.Core.Path.{_≡_, sym, ap, _∙_, subst}
 use mathlib.Core.List.{List, [], map}
 use Prim.Native.Nat.{ℕ, suc, _+_, _%_, _≤_, _<_}
 use native.Mathlib.Nat.{add-mod, zero-mod}
@@ -15,7 +13,7 @@ use Rattle.buffer.specs.State.{none}
 use Rattle.buffer.specs.Tables.{mostEntries}
 use Rattle.recording.specs.Calls.{Recording}
 use Rattle.recording.specs.Sound.{Sound}
-use Rattle.recording.specs.View.{View, entries, view}
+use Rattle.recording.specs.View.{entries, view}
 use Rattle.recording.proofs.Views.{length-entries, getD-entries}
 use Rattle.fresh.specs.Pooled.{constantAlignment, Placed, Pooled, askedConstant, pooled, codeAlignment}
 use Rattle.fresh.specs.Forms.{moves}
@@ -29,7 +27,7 @@ use Rattle.fresh.proofs.AlignedEnds.{multiple-of, end-on-multiple}
 use Rattle.fresh.proofs.Within.{moved-within}
 use Rattle.fresh.proofs.Apart.{moved-apart}
 use Rattle.fresh.proofs.Fill.{length-fillRefs, length-fillJumps, length-fillUses}
-use Rattle.pool.specs.steps.Pool.{sizeAt, labelAt, bytesAt, poolStart, poolOffset, poolBound}
+use Rattle.pool.specs.steps.Pool.{sizeAt, labelAt, poolStart, poolBound}
 use Rattle.pool.proofs.Pool.{poolStart-suc, poolStart-grows}
 use Rattle.finish.specs.Finish.{finish}
 use Rattle.finish.specs.steps.Tables.{poolPlaced}
@@ -46,6 +44,10 @@ use Rattle.demands.proofs.Offsets.{offsets-moved, offsets-kept}
 -- sums of multiples
 sum-multiple : (x y m : ℕ) → x % m ≡ 0 → y % m ≡ 0 → (x + y) % m ≡ 0
 sum-multiple x y m e f = add-mod x y m ∙ rw (e, f) (zero-mod m)
+
+-- what the definitions have for a constant that is not there
+abbrev nowhere : Placed
+nowhere = record { offset = 0; bytes = [] }
 
 module _ (r : Recording) (s : Sound r) (few : r .buffer .asked ≤ mostEntries) where
   abbrev b : CodeBuffer
@@ -73,8 +75,8 @@ module _ (r : Recording) (s : Sound r) (few : r .buffer .asked ≤ mostEntries) 
 
   placed-as : (j : ℕ) → j < length (p .pool) → constantOf p j ≡ poolPlaced (b .code) (r .constants) (r .asked) j
   placed-as j h =
-      ap (λ (ks : List Placed). getD ks j (record { offset = 0; bytes = [] })) pool-is
-      ∙ getD-entries (poolPlaced (b .code) (r .constants) (r .asked)) (b .asked) j (record { offset = 0; bytes = [] }) (below j h)
+      ap (λ (ks : List Placed). getD ks j nowhere) pool-is
+      ∙ getD-entries (poolPlaced (b .code) (r .constants) (r .asked)) (b .asked) j nowhere (below j h)
 
   -- the constant asked for as number j is number j of the pool
   same-bytes : (j : ℕ) → j < length (p .pool) → askedConstant (view r) j .bytes ≡ constantOf p j .bytes
@@ -130,17 +132,17 @@ module _ (r : Recording) (s : Sound r) (few : r .buffer .asked ≤ mostEntries) 
         let stands-on : (j : ℕ) → j < length (view r .asked) → offsetOf (view r) labels j % alignmentOf (view r) j ≡ 0 =
         λ j h. rw (label-at j (own j h), own-alignment j (own j h)) (f .aligned j (own j h)) in
         let divides : (j : ℕ) → j < length (view r .asked) → codeAlignment (p .pool) % alignmentOf (view r) j ≡ 0 =
-        λ j h. rw (own-alignment j (own j h)) (code-alignment-multiple (record { offset = 0; bytes = [] }) (p .pool) j (own j h)) in
+        λ j h. rw (own-alignment j (own j h)) (code-alignment-multiple nowhere (p .pool) j (own j h)) in
         record {
           stands = λ j h.
               rw (label-at j (own j h), same-bytes j (own j h))
-              (constant-written at (p .pool) l (record { offset = 0; bytes = [] }) j (own j h) (f .room j (own j h))
+              (constant-written at (p .pool) l nowhere j (own j h) (f .room j (own j h))
               (λ i lt k x from to since until. omega (arith, f .order j i lt k (omega arith))));
           aligned = stands-on;
           known = code-alignment-known (p .pool);
           multiple = divides;
           least = λ m h each.
-              code-alignment-least (record { offset = 0; bytes = [] }) (p .pool) m h
+              code-alignment-least nowhere (p .pool) m h
               (λ j k. rw (← own-alignment j k) (each j (omega (arith, pool-count))));
           loaded = λ base j h k. sum-multiple base (offsetOf (view r) labels j) (alignmentOf (view r) j) (multiple-of base (codeAlignment (p .pool)) (alignmentOf (view r) j) h (divides j k)) (stands-on j k);
         }

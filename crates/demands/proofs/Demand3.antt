@@ -8,7 +8,7 @@ use Rattle.words.specs.Words.{wordAt}
 use Rattle.relax.specs.declared.Segment.{Segment}
 use Rattle.recording.specs.Calls.{Recording}
 use Rattle.recording.specs.View.{entries, view}
-use Rattle.fresh.specs.Pooled.{Pooled, pooled}
+use Rattle.fresh.specs.Pooled.{pooled}
 use Rattle.fresh.specs.Rounds.{settled}
 use Rattle.fresh.specs.Segments.{mapOffset, segmentsOf}
 use Rattle.fresh.specs.Demand.{Demand3}

@@ -1,6 +1,6 @@
 -- What the theorems on finished code ask of a pooled recording follows from what a finish that answers 0 has found of a sound one.
 use mathlib.Core.Path.{_≡_, refl, sym, ap, _∙_, subst}
-use mathlib.Core.Logic.{_⊎_, inl, inr, _≢_, ⊎-elim}
+use mathlib.Core.Logic.{_⊎_, _≢_, ⊎-elim}
 use mathlib.Core.Bool.{Bool, true, false, not, _&&_, cond}
 use mathlib.Core.List.{List, [], _∷_, _++_}
 use Prim.Native.Nat.{ℕ, zero, suc, _+_, _*_, _%_, _≤_, _<_}
@@ -17,7 +17,6 @@ use Rattle.words.specs.Words.{wordAt}
 use Rattle.fields.specs.declared.LabelUse.{LabelUse}
 use Rattle.fields.specs.declared.Decoded.{Decoded}
 use Rattle.fields.specs.declared.Decoded.the-variants.{Use}
-use Rattle.fields.specs.Words64.{modulus}
 use Rattle.fields.specs.Kinds.{info, patchSize, isArch, decoded}
 use Rattle.fields.specs.Reach.{canReach, reachRefusal}
 use Rattle.relax.specs.declared.LayoutEvent.{LayoutEvent}

@@ -1,25 +1,23 @@
 -- What stands where an alignment ends stays on its multiple, however the code is laid out.
-use mathlib.Core.Path.{_≡_, refl, sym, ap, _∙_}
+use mathlib.Core.Path.{_≡_, sym, ap, _∙_}
 use mathlib.Core.Logic.{_≢_, ⊎-elim}
 use mathlib.Core.Bool.{Bool}
 use mathlib.Core.List.{List, [], _∷_}
 use Prim.Native.Nat.{ℕ, zero, suc, _+_, _-_, _%_, _≤_, _<_}
 use native.Mathlib.Nat.{mod-mod-of-dvd, dvd-of-mod-eq-zero, zero-mod}
 use native.Mathlib.Omega.{arith}
-use lib.Dec.{eqb}
 use lib.ListN.{length, getD}
 use borrow.Author.Tests.{ne-eqb}
 use Rattle.seqs.proofs.Numbers.{lt-or-ge}
 use Rattle.relax.specs.declared.Alignment.{Alignment}
 use Rattle.relax.specs.declared.LayoutEvent.{LayoutEvent}
 use Rattle.relax.specs.declared.LayoutEvent.the-variants.{Align}
-use Rattle.relax.specs.declared.Segment.{Segment}
 use Rattle.relax.specs.Events.{startOf, endOf, noEvent}
 use Rattle.buffer.specs.State.{none}
 use Rattle.fresh.specs.Pooled.{Pooled}
 use Rattle.fresh.specs.Forms.{width}
 use Rattle.fresh.specs.Fresh.{Choice, isLong, others, moved}
-use Rattle.fresh.specs.Segments.{segment, segments, chosen, decided, mapOffset, segmentsOf}
+use Rattle.fresh.specs.Segments.{segment, segments, chosen, decided, mapOffset}
 use Rattle.fresh.specs.Order.{Ordered, Lies, WellFormed}
 use Rattle.fresh.proofs.Forms.{padding-ends}
 use Rattle.fresh.proofs.Segments.{chosen-no, chosen-in, chosen-past, decided-none, moved-map}

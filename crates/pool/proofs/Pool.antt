@@ -1,13 +1,13 @@
 -- Laws of the pool: one turn of each of its loops, where it ends, and what binding its labels and taking that back leave.
 use mathlib.Core.Path.{_≡_, refl, sym, ap, _∙_}
 use mathlib.Core.Logic.{_≢_, ⊎-elim}
-use mathlib.Core.Bool.{Bool, true, false, cond, not, _||_}
+use mathlib.Core.Bool.{Bool, true, false, not, _||_}
 use mathlib.Core.List.{List, [], _∷_, _++_}
 use Prim.Native.Nat.{ℕ, zero, suc, _+_, _*_, _-_, _≤_, _<_}
 use native.Mathlib.Nat.{not-suc-le-zero}
 use native.Mathlib.Numerals.{add-one}
 use native.Mathlib.Omega.{arith}
-use lib.Dec.{eqb, leb}
+use lib.Dec.{eqb}
 use lib.ListN.{length, getD, take, drop, replicate, length-append, length-take, length-drop, length-replicate}
 use Rattle.seqs.specs.Over.{over}
 use Rattle.seqs.proofs.Numbers.{eq-or-ne, lt-or-ge}
@@ -15,7 +15,6 @@ use Rattle.seqs.proofs.Overwrites.{length-over, over-append, over-mid, over-all
 use Rattle.words.specs.Words.{wordAt, setWord, bytesOf}
 use Rattle.words.proofs.Laws.{length-setWord, wordAt-same, wordAt-other}
 use Rattle.encoder.specs.Padding.{paddingLength}
-use Rattle.encoder.proofs.Padding.{padding-below}
 use Rattle.buffer.specs.State.{none}
 use Rattle.buffer.specs.Calls.{padding}
 use Rattle.buffer.proofs.Appends.{padding-length, over-padded}
