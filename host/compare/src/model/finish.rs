@@ -3,19 +3,16 @@
 use super::assembly::{self, Placed};
 use super::counts::{Counts, passes_limit};
 use super::pool::{Event, Field, Pooled};
-use super::{Refusal, entries, fields};
+use super::{Refusal, Rules, entries, fields};
 use crate::{Lent, NONE, Part};
-
-/// The alignment of finished code.
-const ALIGNMENT: u32 = 32;
 
 /// Finishes a recording: its refusal, or 0. Nothing is written where the
 /// record is lent too short; a refused finish gives a record of zeros.
-pub fn finish(lent: &mut Lent) -> Refusal {
+pub fn finish(lent: &mut Lent, rules: Rules) -> Refusal {
     if lent.room(Part::Record) < 1 {
         return 1;
     }
-    let refusal = attempt(lent).err().unwrap_or(0);
+    let refusal = attempt(lent, rules).err().unwrap_or(0);
     if refusal != 0 {
         lent.set_words(Part::Record, 0, &[0; 6]);
     }
@@ -30,7 +27,7 @@ struct Finished {
     relocation_offsets: Vec<u32>,
 }
 
-fn attempt(lent: &mut Lent) -> Result<(), Refusal> {
+fn attempt(lent: &mut Lent, rules: Rules) -> Result<(), Refusal> {
     let mut counts = Counts::read(lent).ok_or(1u32)?;
     let within = [Part::Segments, Part::Output];
     let within = !within.iter().any(|part| passes_limit(lent, *part));
@@ -38,10 +35,11 @@ fn attempt(lent: &mut Lent) -> Result<(), Refusal> {
     if !entries::fit(lent, &counts) {
         return Err(1);
     }
-    let pooled = Pooled::new(lent, &counts)?;
+    let pooled = Pooled::new(lent, &counts, rules)?;
     if !pooled.all_bound() {
         return Err(15);
     }
+    let alignment = alignment(lent, &counts, &pooled, rules);
     let finished = if pooled.has_jump() {
         relax(lent, &pooled)?
     } else {
@@ -49,8 +47,15 @@ fn attempt(lent: &mut Lent) -> Result<(), Refusal> {
     };
     counts.finished = 1;
     counts.write(lent);
-    write(lent, &counts, &finished);
+    write(lent, &counts, &finished, alignment);
     Ok(())
+}
+
+fn alignment(lent: &Lent, counts: &Counts, pooled: &Pooled, rules: Rules) -> u32 {
+    let added = 0..counts.of(Part::Constants);
+    let added = added.map(|entry| lent.word(Part::Constants, entry, 0) as usize);
+    let pooled = pooled.pool.iter().map(|constant| constant.bytes.len());
+    (rules.code_alignment)(&added.collect::<Vec<_>>(), &pooled.collect::<Vec<_>>())
 }
 
 /// With a jump: 16, 17, the rounds, 18, 23. The settled segments stay in
@@ -161,7 +166,7 @@ fn check_use(pooled: &Pooled, field: &Field) -> Result<(), Refusal> {
 }
 
 /// Leaves final offsets, code and record.
-fn write(lent: &mut Lent, counts: &Counts, finished: &Finished) {
+fn write(lent: &mut Lent, counts: &Counts, finished: &Finished, alignment: u32) {
     for (label, offset) in finished.labels.iter().enumerate() {
         lent.set_word(Part::Labels, label, 0, *offset);
     }
@@ -172,7 +177,7 @@ fn write(lent: &mut Lent, counts: &Counts, finished: &Finished) {
     let record = [
         counts.arch,
         finished.code.len() as u32,
-        ALIGNMENT,
+        alignment,
         finished.layouts,
         finished.labels.len() as u32,
         finished.relocation_offsets.len() as u32,

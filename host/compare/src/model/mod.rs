@@ -1,8 +1,9 @@
 //! A plain model of document 01, over the same bytes that the C functions are
 //! lent: what each call answers, and what it leaves in everything lent.
 //!
-//! It is written from document 01 and the readings of docs/DECISIONS.md, with
-//! vectors and without care for speed, so that it can be read beside them.
+//! It is written from document 01, the requests of document 02 and the readings
+//! of docs/DECISIONS.md, with vectors and without care for speed, so that it can
+//! be read beside them.
 
 mod assembly;
 mod calls;
@@ -11,19 +12,22 @@ mod entries;
 mod fields;
 mod finish;
 mod pool;
+mod rules;
 mod sheet;
 
 use crate::{Boundary, Lent, NONE, Part, Reply};
 use calls::{Call, Recording};
 use counts::Counts;
+pub use rules::{Rules, code_alignment};
 
 /// The number of a refusal.
 type Refusal = u32;
 
-/// Document 01 on lent memory.
+/// Document 01, as the requests of document 02 have changed it, on lent memory.
 #[derive(Default)]
 pub struct Model {
     pub lent: Lent,
+    pub rules: Rules,
 }
 
 impl Model {
@@ -110,6 +114,6 @@ impl Boundary for Model {
     }
 
     fn finish(&mut self) -> Reply {
-        Reply::new(finish::finish(&mut self.lent), 0)
+        Reply::new(finish::finish(&mut self.lent, self.rules), 0)
     }
 }

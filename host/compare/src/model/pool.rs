@@ -1,8 +1,8 @@
 //! The recording as finish gets it, its constants pooled.
 
-use super::Refusal;
 use super::calls::{JUMP, padding, padding_length};
 use super::counts::Counts;
+use super::{Refusal, Rules};
 use crate::{LABEL_TARGET, Lent, MOST_CODE, NONE, Part, X64};
 
 /// A jump with its condition, or an alignment.
@@ -89,7 +89,7 @@ pub struct Pooled {
 impl Pooled {
     /// Reads tables whose entries fit, and pools the constants in the order
     /// of asking. 13: a constant's label is bound; 14: the code is too long.
-    pub fn new(lent: &Lent, counts: &Counts) -> Result<Self, Refusal> {
+    pub fn new(lent: &Lent, counts: &Counts, rules: Rules) -> Result<Self, Refusal> {
         let mut pooled = Self::read(lent, counts);
         let asked = 0..counts.of(Part::Asked);
         let asked = asked.map(|entry| lent.word(Part::Asked, entry, 0) as usize);
@@ -101,7 +101,8 @@ impl Pooled {
             return Err(13);
         }
         for (label, bytes) in constants {
-            pooled.add(label, bytes);
+            let multiple = (rules.constant_multiple)(bytes.len());
+            pooled.add(label, bytes, multiple);
         }
         if pooled.code.len() > MOST_CODE {
             return Err(14);
@@ -136,9 +137,8 @@ impl Pooled {
 
     /// Aligns the end of the code for a constant, binds its label there, and
     /// leaves room for its bytes.
-    fn add(&mut self, label: u32, bytes: Vec<u8>) {
+    fn add(&mut self, label: u32, bytes: Vec<u8>, multiple: u32) {
         let start = self.code.len() as u32;
-        let multiple = if bytes.len() <= 8 { 8 } else { 16 };
         let length = padding_length(start, multiple);
         if self.arch == X64 {
             self.events.push(Event::Align {

@@ -1,0 +1,40 @@
+//! What the requests of document 02 have changed, apart from the rest, so that
+//! a self-test can put wrong rules in the place of these.
+
+/// The least alignment that a finish reports.
+const LEAST_ALIGNMENT: u32 = 32;
+
+/// Request One: constants for the widest registers.
+#[derive(Clone, Copy)]
+pub struct Rules {
+    /// The multiple that a constant of a size stands on.
+    pub constant_multiple: fn(size: usize) -> u32,
+    /// The alignment that a finish reports, by the sizes of all constants and
+    /// of those that are pooled.
+    pub code_alignment: fn(added: &[usize], pooled: &[usize]) -> u32,
+}
+
+impl Default for Rules {
+    fn default() -> Self {
+        Self {
+            constant_multiple,
+            code_alignment: |_, pooled| code_alignment(pooled),
+        }
+    }
+}
+
+/// "A constant of more than 32 bytes stands on a multiple of 64, the others as
+/// before."
+fn constant_multiple(size: usize) -> u32 {
+    match size {
+        0..=8 => 8,
+        9..=32 => 16,
+        _ => 64,
+    }
+}
+
+/// "The greater of 32 and the largest alignment among pooled constants."
+pub fn code_alignment(sizes: &[usize]) -> u32 {
+    let multiples = sizes.iter().map(|size| constant_multiple(*size));
+    multiples.fold(LEAST_ALIGNMENT, u32::max)
+}
