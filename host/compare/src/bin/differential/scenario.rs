@@ -6,6 +6,9 @@ use std::fmt;
 use compare::{Boundary, Lent, Part, Random, Reply};
 use reference::{Call, write_sheet, write_text};
 
+/// The most bytes that a pooled constant takes, with its padding.
+const MOST_POOLED: usize = 63 + 64;
+
 /// One step on a recording.
 #[derive(Clone)]
 pub enum Step {
@@ -124,7 +127,7 @@ impl Room {
                 self.add(Part::Labels, 1);
                 self.add(Part::Asked, 1);
                 self.add(Part::Segments, 1);
-                self.add(Part::Output, 16 + 64);
+                self.add(Part::Output, MOST_POOLED);
             }
             Call::Relocation { .. } => self.add(Part::Relocations, 1),
             Call::Bind(_) => {}

@@ -5,6 +5,8 @@ use std::borrow::Cow;
 use compare::{AARCH64, LABEL_TARGET, Random, X64};
 use reference::Call;
 
+use crate::scenario::Step;
+
 /// The most bytes that one call of a sheet carries.
 const SHEET_BYTES: usize = 12;
 
@@ -227,6 +229,23 @@ impl Draft {
             return random.below(self.symbols + unknown);
         }
         self.any_label(random).wrapping_add(LABEL_TARGET)
+    }
+
+    /// Sheets that make the calls, direct calls between them for constants
+    /// that no sheet carries, and a finish.
+    pub fn into_steps(self) -> Vec<Step> {
+        let mut steps = Vec::new();
+        for call in self.calls {
+            match (call, steps.last_mut()) {
+                (Call::Constant(bytes), _) if bytes.len() > SHEET_BYTES => {
+                    steps.push(Step::Constant(bytes.into_owned()));
+                }
+                (call, Some(Step::Sheet(calls))) => calls.push(call),
+                (call, _) => steps.push(Step::Sheet(vec![call])),
+            }
+        }
+        steps.push(Step::Finish);
+        steps
     }
 
     /// Whether jumps and refs are kept.

@@ -60,11 +60,23 @@ fn lent_to_the_limit(random: &mut Random) -> Scenario {
 
 /// Code that fills its limit or passes it, and a constant after it.
 fn full_code(random: &mut Random) -> Scenario {
-    let short = random.pick(&[0, 1, 7, 8, 16]);
+    let (size, short) = random.pick(&[
+        (8, 0),
+        (8, 1),
+        (8, 7),
+        (8, 8),
+        (8, 16),
+        (32, 31),
+        (32, 32),
+        (33, 63),
+        (33, 64),
+        (64, 63),
+        (64, 64),
+    ]);
     let count = MOST_CODE - short;
     let steps = vec![
         Step::Bytes(vec![0x5A; count]),
-        Step::Constant(random.bytes(8)),
+        Step::Constant(random.bytes(size)),
         Step::Sheet(vec![Call::ConstantLabel(0)]),
         Step::Bytes(vec![1; random.below(2) as usize * (short + 1)]),
         Step::Finish,

@@ -40,7 +40,7 @@ pub fn draft(random: &mut Random) -> Draft {
     draft
 }
 
-fn add_call(draft: &mut Draft, random: &mut Random, has_jumps: bool) {
+pub fn add_call(draft: &mut Draft, random: &mut Random, has_jumps: bool) {
     match random.below(20) {
         0..=2 => plain(draft, random),
         3 => gap(draft, random),
@@ -80,7 +80,7 @@ fn gap(draft: &mut Draft, random: &mut Random) {
     draft.zeros(count);
 }
 
-fn jump(draft: &mut Draft, random: &mut Random) {
+pub fn jump(draft: &mut Draft, random: &mut Random) {
     let label = if random.chance(30) {
         draft.label()
     } else {
@@ -143,7 +143,7 @@ fn constant(draft: &mut Draft, random: &mut Random) -> u32 {
     draft.constant(random.bytes(size))
 }
 
-fn ask(draft: &mut Draft, random: &mut Random) {
+pub fn ask(draft: &mut Draft, random: &mut Random) {
     let constant = if draft.constants() == 0 {
         constant(draft, random)
     } else {

@@ -7,6 +7,7 @@ mod draft;
 mod limits;
 mod mixed;
 mod parts;
+mod pools;
 mod reaches;
 mod rooms;
 mod short;
@@ -93,7 +94,7 @@ pub fn all() -> Vec<Family> {
     vec![
         Family {
             name: "short",
-            about: "all sheets of few calls over six small alphabets",
+            about: "all recordings of few calls over seven small alphabets",
             source: Source::Numbered {
                 total: short::total(),
                 make: short::scenario,
@@ -149,6 +150,13 @@ pub fn all() -> Vec<Family> {
             50_000,
             true,
             direct::scenario,
+        ),
+        Family::random(
+            "pools",
+            "constants of every alignment, asked for or not",
+            50_000,
+            true,
+            pools::scenario,
         ),
         Family::random(
             "tables",

@@ -1,19 +1,19 @@
-//! All sheets of few calls over small alphabets.
+//! All recordings of few calls over small alphabets.
 
 use compare::{AARCH64, LABEL_TARGET, X64, X86};
 use reference::Call;
 
 use super::draft::Draft;
-use crate::scenario::{Scenario, Step};
+use crate::scenario::Scenario;
 
 /// What adds a call or a few to a recording.
 type Letter = fn(&mut Draft);
 
-/// An architecture, the letters that its sheets are made of, and how many of
-/// them follow its first ones at most.
+/// An architecture, the letters that its recordings are made of, and how many
+/// of them follow its first ones at most.
 struct Alphabet {
     arch: u32,
-    /// The letters that each of its sheets begins with.
+    /// The letters that each of its recordings begins with.
     first: &'static [Letter],
     letters: &'static [Letter],
     most: u32,
@@ -22,16 +22,16 @@ struct Alphabet {
 }
 
 impl Alphabet {
-    /// The number of its sheets.
-    fn sheets(&self) -> u64 {
+    /// The number of its recordings.
+    fn recordings(&self) -> u64 {
         (0..=self.most)
             .map(|n| (self.letters.len() as u64).pow(n))
             .sum()
     }
 
-    /// The calls of a sheet: its number, written in a system with as many
-    /// digits as there are letters, shorter sheets first.
-    fn sheet(&self, mut number: u64) -> Vec<Call<'static>> {
+    /// The recording of a number, which is written in a system with as many
+    /// digits as there are letters; shorter recordings come first.
+    fn recording(&self, mut number: u64) -> Draft {
         let digits = self.letters.len() as u64;
         let mut length = 0;
         while number >= digits.pow(length) {
@@ -49,29 +49,29 @@ impl Alphabet {
         while let Some(label) = draft.unbound_label().filter(|_| self.binds_rest) {
             draft.bind(label);
         }
-        draft.calls
+        draft
     }
 }
 
-/// The number of all sheets of all alphabets.
+/// The number of all recordings of all alphabets.
 pub fn total() -> u64 {
-    ALPHABETS.iter().map(Alphabet::sheets).sum()
+    ALPHABETS.iter().map(Alphabet::recordings).sum()
 }
 
-/// Every sheet has a number below [`total`].
+/// Every recording has a number below [`total`].
 pub fn scenario(number: u64) -> Scenario {
     let mut rest = number;
     for alphabet in &ALPHABETS {
-        if rest < alphabet.sheets() {
-            let steps = vec![Step::Sheet(alphabet.sheet(rest)), Step::Finish];
+        if rest < alphabet.recordings() {
+            let steps = alphabet.recording(rest).into_steps();
             return Scenario::new(alphabet.arch, 1, number, steps);
         }
-        rest -= alphabet.sheets();
+        rest -= alphabet.recordings();
     }
-    unreachable!("a sheet's number is below the total")
+    unreachable!("a recording's number is below the total")
 }
 
-const ALPHABETS: [Alphabet; 6] = [
+const ALPHABETS: [Alphabet; 7] = [
     // Jumps over gaps that bring them to their limits.
     Alphabet {
         arch: X64,
@@ -151,6 +151,27 @@ const ALPHABETS: [Alphabet; 6] = [
         ],
         most: 5,
         binds_rest: false,
+    },
+    // Constants of 32 bytes and of 33, and jumps across their padding.
+    Alphabet {
+        arch: X64,
+        first: &[new_label],
+        letters: &[
+            |d| constant(d, vec![7; 32]),
+            |d| constant(d, vec![9; 33]),
+            |d| d.ask(0),
+            |d| d.ask(1),
+            |d| d.bind(0),
+            |d| d.zeros(1),
+            |d| d.zeros(62),
+            |d| d.align(64),
+            |d| d.jump(0, 5, 16),
+            |d| d.jump(1, 6, 4),
+            |d| ref_here(d, 4, 0),
+            |d| d.use_at(0, 1, 1),
+        ],
+        most: 5,
+        binds_rest: true,
     },
     Alphabet {
         arch: X86,

@@ -55,7 +55,8 @@ fn write(random: &mut Random, filled: &Room) -> Step {
 /// Small numbers above all, and those that stand for something.
 fn value(random: &mut Random) -> u32 {
     match random.below(10) {
-        0..=5 => random.below(18),
+        0..=4 => random.below(18),
+        5 => random.pick(&[8, 9, 31, 32, 33, 63, 64, 65]),
         6 => random.below(300),
         7 => random.pick(&[NONE, NONE - 1, LABEL_TARGET, LABEL_TARGET + 1]),
         8 => random.pick(&[4096, 8192, 65_536, 65_537, 16_777_215, 16_777_216]),
