@@ -2,7 +2,7 @@
 
 use std::fmt;
 
-use compare::{Boundary, Lent, Model, Ours, Part, Reply};
+use compare::{Boundary, Lent, Model, Ours, Part, Reply, Rules};
 use reference::{DEPARTURES, Departure};
 
 use crate::fault::Fault;
@@ -59,6 +59,13 @@ impl Runner {
             model: Model::default(),
             departures,
         }
+    }
+
+    /// A runner whose model follows other rules.
+    pub fn ruled_by(rules: Rules) -> Self {
+        let mut runner = Self::default();
+        runner.model.rules = rules;
+        runner
     }
 
     pub fn run(&mut self, scenario: &Scenario) -> Result<Outcome, Disagreement> {
@@ -131,7 +138,7 @@ impl Runner {
 
     fn compare(&self, (ours, model): (Reply, Reply)) -> Result<(), String> {
         if ours != model {
-            return Err(format!("ours answers {ours:?}, document 01 {model:?}"));
+            return Err(format!("ours answers {ours:?}, the model {model:?}"));
         }
         for part in Part::ALL {
             let guarded = self.ours.part(part);
@@ -157,5 +164,5 @@ fn differing(part: Part, ours: &[u8], model: &[u8]) -> String {
     let at = at.expect("the two differ");
     let entry = at / part.entry_bytes();
     let (ours, model) = (ours[at], model[at]);
-    format!("{part:?}: byte {at} (entry {entry}) is {ours:02X}, by document 01 {model:02X}")
+    format!("{part:?}: byte {at} (entry {entry}) is {ours:02X}, by the model {model:02X}")
 }

@@ -1,6 +1,8 @@
 //! Shows that the comparison can fail: every fault put into ours is found,
 //! against the model even where a departure leaves the Rust aside.
 
+mod requests;
+
 use compare::{Lent, Part, Reply};
 use reference::{Call, Departure, run_calls};
 
@@ -50,8 +52,10 @@ pub fn run() -> Findings {
             against_model(&family, &mut runner, &mut findings);
             against_rust(&family, &mut runner, &mut findings);
             with_departures(&family, &mut runner, &mut findings);
+            requests::as_wide_as_the_change(&family, &mut runner, &mut findings);
         }
     }
+    requests::with_wrong_rules(&mut findings);
     findings
 }
 

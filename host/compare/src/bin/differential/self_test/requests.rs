@@ -1,0 +1,110 @@
+//! What the requests of document 02 changed: programs that err there are
+//! found, and the departures are as wide as the change.
+
+use compare::{AARCH64, Rules, X64, X86, code_alignment};
+use reference::Call;
+
+use super::{Findings, INPUTS};
+use crate::families::{self, Family};
+use crate::runner::Runner;
+use crate::scenario::{Scenario, Step};
+
+/// Inputs that each wrong rule is tried on.
+const TRIED: u64 = 400;
+
+/// Architectures, with a jump and without, on each of which a wrong rule must
+/// be found.
+const WHERE: [(u32, bool); 4] = [(X86, false), (X64, false), (X64, true), (AARCH64, false)];
+
+/// Programs that pool constants otherwise than Request One says.
+fn wrong_rules() -> [(&'static str, Rules); 5] {
+    let right = Rules::default();
+    let standing = |constant_multiple| Rules {
+        constant_multiple,
+        ..right
+    };
+    let reporting = |code_alignment| Rules {
+        code_alignment,
+        ..right
+    };
+    [
+        ("32 bytes stand on 64", standing(wide_from_32_on)),
+        (
+            "33 bytes stand on 16, and 64 is reported",
+            standing(as_before),
+        ),
+        (
+            "33 bytes stand on 64, and 32 is reported",
+            reporting(|_, _| 32),
+        ),
+        (
+            "constants count that nobody asked for",
+            reporting(|added, _| code_alignment(added)),
+        ),
+        (
+            "33 bytes stand on 16, and 32 is reported",
+            Rules {
+                constant_multiple: as_before,
+                code_alignment: |_, _| 32,
+            },
+        ),
+    ]
+}
+
+fn wide_from_32_on(size: usize) -> u32 {
+    if size < 32 { as_before(size) } else { 64 }
+}
+
+fn as_before(size: usize) -> u32 {
+    if size <= 8 { 8 } else { 16 }
+}
+
+/// Puts each wrong rule in the place of the model's own: ours, which follows
+/// that, differs from it on some input of each kind.
+pub fn with_wrong_rules(findings: &mut Findings) {
+    let pools = families::all()
+        .into_iter()
+        .find(|family| family.name == "pools");
+    let pools = pools.expect("it is one of the families");
+    let inputs: Vec<Scenario> = (0..TRIED).map(|index| pools.scenario(0, index)).collect();
+    for (name, rules) in wrong_rules() {
+        let mut runner = Runner::ruled_by(rules);
+        for kind in WHERE {
+            let mut inputs = inputs.iter().filter(|input| kind_of(input) == kind);
+            let found = inputs.any(|input| runner.run(input).is_err());
+            findings.add(found, || format!("{name}: architecture and jump {kind:?}"));
+        }
+    }
+}
+
+/// The architecture, and whether a jump is recorded.
+fn kind_of(scenario: &Scenario) -> (u32, bool) {
+    let is_jump = |call: &Call<'_>| matches!(call, Call::Jump { .. });
+    let has_jump = |step: &Step| step.calls().iter().any(is_jump);
+    (scenario.arch, scenario.steps.iter().any(has_jump))
+}
+
+/// Of the recordings that finish, those that meet a departure would differ
+/// from the Rust, and no others.
+pub fn as_wide_as_the_change(family: &Family, runner: &mut Runner, findings: &mut Findings) {
+    let mut undeparted = Runner::departing(&[]);
+    for index in 0..INPUTS {
+        let scenario = family.scenario(0, index);
+        let is_by_hand = |step: &Step| matches!(step, Step::Write { .. });
+        if scenario.steps.iter().any(is_by_hand) {
+            continue;
+        }
+        let outcome = runner.run(&scenario);
+        let Some(outcome) = outcome.ok().filter(|outcome| outcome.refusal == 0) else {
+            continue;
+        };
+        let departs = outcome.departure;
+        let differs = undeparted.run(&scenario).is_err();
+        findings.add(differs == departs.is_some(), || {
+            format!(
+                "{} {index}: departure {departs:?}, differs: {differs}",
+                family.name
+            )
+        });
+    }
+}
