@@ -338,7 +338,8 @@ impl CodeBuffer {
         })
     }
 
-    /// Adds a constant of at most 64 bytes. It is pooled only if its label is asked for.
+    /// Adds a constant of at most 64 bytes. It is pooled only if its label is asked for, on a multiple of 8 up to 8 bytes, of 16 up to 32 and of 64
+    /// beyond.
     ///
     /// # Errors
     ///

@@ -55,7 +55,29 @@ impl CodeBufferFinalized {
         &self.relocs
     }
 
-    /// The multiple that the code is to be loaded on.
+    /// The multiple that the code is to be loaded on: the greater of 32 and the largest alignment among the constants that finish pooled, so 32 or 64.
+    /// Code that is loaded on a multiple of it has every pooled constant on a multiple of its own ([`AsmConstant::alignment`]).
+    ///
+    /// A constant that was added and never asked for does not count, and neither do alignments in the code: these count from its start.
+    ///
+    /// ```
+    /// use std::alloc::Layout;
+    /// use wargnifla::{Arch, CodeBuffer};
+    ///
+    /// # fn main() -> Result<(), Box<dyn std::error::Error>> {
+    /// let mut buffer = CodeBuffer::new(Arch::X64);
+    /// let vector = buffer.add_constant(&[7; 64])?;
+    /// let vector = buffer.get_label_for_constant(vector)?;
+    /// buffer.put1(0xC3)?;
+    /// let code = buffer.finish()?;
+    /// assert_eq!((code.label_offset(vector), code.alignment()), (64, 64));
+    /// let memory = Layout::from_size_align(code.total_size(), code.alignment() as usize)?;
+    /// # assert_eq!((memory.size(), memory.align()), (128, 64));
+    /// # Ok(())
+    /// # }
+    /// ```
+    ///
+    /// [`AsmConstant::alignment`]: crate::AsmConstant::alignment
     #[must_use]
     pub fn alignment(&self) -> u32 {
         self.alignment

@@ -267,7 +267,7 @@ pub struct AsmConstant {
 }
 
 impl AsmConstant {
-    /// The multiple that a constant stands on.
+    /// The multiple that finish sets a constant on: 8 up to 8 bytes, 16 up to 32, and 64 up to 64, for the widest vectors.
     #[must_use]
     pub const fn alignment(&self) -> u32 {
         constant_alignment(self.data.len())
@@ -276,7 +276,11 @@ impl AsmConstant {
 
 /// The multiple that a constant of a size stands on.
 pub(crate) const fn constant_alignment(size: usize) -> u32 {
-    if size <= 8 { 8 } else { 16 }
+    match size {
+        0..=8 => 8,
+        9..=32 => 16,
+        _ => 64,
+    }
 }
 
 /// What a recording holds at some time, but for its bytes.
@@ -450,19 +454,20 @@ mod tests {
         let recording = Recording {
             arch: Arch::X64,
             code_len: 3,
-            labels: vec![UNBOUND, UNBOUND],
+            labels: vec![UNBOUND; 3],
             events: Vec::new(),
             uses: Vec::new(),
             refs: Vec::new(),
-            constants: vec![constant(4, 1), constant(9, 0)],
-            asked: vec![Constant::from_id(1), Constant::from_id(0)],
+            constants: vec![constant(4, 1), constant(33, 2), constant(9, 0)],
+            asked: [2, 0, 1].map(Constant::from_id).into(),
             relocs: Vec::new(),
             names: LabelNames::default(),
         };
         let pooled = recording.pooled();
-        assert_eq!(pooled.labels, [16, 32]);
-        assert_eq!(pooled.len, 36);
+        assert_eq!(pooled.labels, [16, 32, 64]);
+        assert_eq!(pooled.len, 64 + 33);
         assert_eq!(pooled.events[0].end(), 16);
         assert_eq!(pooled.events[1].start(), 25);
+        assert_eq!(pooled.events[2].start(), 36);
     }
 }

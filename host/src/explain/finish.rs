@@ -49,7 +49,7 @@ fn bound_constant(recording: &Recording) -> Found {
 
 fn too_large_pool(pooled: &Pooled) -> String {
     format!(
-        "the code with its pooled constants has {} bytes, more than 16,777,216",
+        "the code with its pooled constants and their padding has {} bytes, more than 16,777,216",
         pooled.len
     )
 }

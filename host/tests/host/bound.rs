@@ -7,9 +7,12 @@ use crate::random::Random;
 #[test]
 fn a_finished_code_may_be_as_long_as_its_bound() {
     let text = "n; z 5; j 0 5 0 e; z 4091; a 4096; z 1; l 0; 4 ( c 010203040506070809 ); k 3; k 0";
-    let mut buffer = crate::recorded(Arch::X64, text).unwrap();
-    let code = buffer.finish().unwrap();
+    let code = crate::finished(text);
     assert_eq!(code.total_size(), 8193 + (15 + 9) + (7 + 9));
+    let wide = "5A".repeat(64);
+    let text = format!("n; z 5; j 0 5 0 e; z 4091; a 4096; z 1; l 0; c {wide}; k 0");
+    let code = crate::finished(&text);
+    assert_eq!(code.total_size(), 8193 + (63 + 64));
 }
 
 fn put_jump(buffer: &mut CodeBuffer, label: Label, random: &mut Random) -> Result<(), Error> {

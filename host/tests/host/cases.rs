@@ -1,6 +1,6 @@
 //! Document 01's cases that a whole recording shows.
 
-use wargnifla::{Arch, CodeBuffer, CodeBufferFinalized, Label};
+use wargnifla::{Arch, CodeBufferFinalized, Label};
 
 use crate::{finished, recorded};
 
@@ -99,16 +99,4 @@ fn a_recording_without_a_jump_keeps_its_bytes_and_patches_uses() {
         code.data(),
         [0xE8, 0xFF, 0xFF, 0xFF, 0xFF, 0x0F, 0x1F, 0x00, 0xC3]
     );
-}
-
-#[test]
-fn the_record_says_32_on_every_architecture_with_a_jump_and_without() {
-    let with_a_jump = finished("n; z 5; j 0 5 0; l 0");
-    assert_eq!(with_a_jump.alignment(), 32);
-    for arch in [Arch::X86, Arch::X64, Arch::AArch64] {
-        let mut buffer = CodeBuffer::new(arch);
-        let constant = buffer.add_constant(&[7; 64]).unwrap();
-        buffer.get_label_for_constant(constant).unwrap();
-        assert_eq!(buffer.finish().unwrap().alignment(), 32);
-    }
 }

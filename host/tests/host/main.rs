@@ -2,9 +2,11 @@
 
 mod bound;
 mod cases;
+mod differences;
 mod header;
 mod limits;
 mod listings;
+mod pools;
 mod random;
 mod refusals;
 mod sheets;

@@ -279,6 +279,11 @@ fn number_14_code_with_pool_beyond_the_limit() {
         14,
         "has 16777217 bytes, more than 16,777,216",
     );
+    refuses(
+        &format!("z 16777153; c {}; k 0", "00".repeat(33)),
+        14,
+        "the code with its pooled constants and their padding has 16777249 bytes",
+    );
 }
 
 #[test]

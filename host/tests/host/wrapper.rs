@@ -41,13 +41,13 @@ fn a_constants_label_is_made_once() {
     assert_eq!(buffer.label_count(), 1);
     buffer.put1(0xC3).unwrap();
     let code = buffer.finish().unwrap();
-    assert_eq!((small.id(), code.label_offset(asked)), (0, 16));
+    assert_eq!((small.id(), code.label_offset(asked)), (0, 64));
     assert_eq!(
         code.total_size(),
-        80,
+        128,
         "a constant never asked for is not pooled"
     );
-    assert_eq!(code.data()[16..], [2; 64]);
+    assert_eq!(code.data()[64..], [2; 64]);
     assert_eq!(buffer.recording().asked, [Constant::from_id(1)]);
 }
 
