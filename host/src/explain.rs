@@ -12,7 +12,7 @@ use crate::recording::LayoutEvent;
 /// Where the tables do not show the reason; the wrapper's tables always do.
 const NO_REASON: &str = "the tables do not show why";
 
-/// An event with the offsets that it was recorded at: `the jump from 4 to 9`.
-fn named_event(event: &LayoutEvent) -> String {
-    format!("{} from {} to {}", event.name(), event.start(), event.end())
+/// An event's name with the offsets that it was recorded at: `the jump from 4 to 9`.
+fn with_offsets(name: &str, event: &LayoutEvent) -> String {
+    format!("{name} from {} to {}", event.start(), event.end())
 }

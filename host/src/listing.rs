@@ -4,7 +4,8 @@ use std::fmt::Write;
 use std::ops::Range;
 
 use crate::recording::{
-    AsmReloc, Label, LabelNames, LayoutEvent, Pooled, Recording, RelaxableJump, RelocTarget,
+    AsmReloc, Constant, Label, LabelNames, LayoutEvent, Pooled, Recording, RelaxableJump,
+    RelocTarget,
 };
 use crate::relax::map;
 use crate::{
@@ -156,22 +157,16 @@ fn rows(texts: &Texts<'_>) -> Vec<Row> {
 }
 
 fn event_rows(texts: &Texts<'_>, pooled: &Pooled) -> Vec<Row> {
-    let Texts {
-        recording,
-        finished,
-        ..
-    } = texts;
+    let finished = texts.finished;
     let row = |(i, event): (usize, &LayoutEvent)| {
         let (start, end) = placed(finished, i, event);
         match event {
             LayoutEvent::Jump(jump) => Row::new(start, end, texts.jump(jump, start, end)),
             LayoutEvent::Align { len, align, .. } => {
-                // Events past the recording's own are the pool's, one for each constant.
-                let pool = i.checked_sub(recording.events.len());
-                let owner = pool.map(|i| pooled.constants[i].constant.id());
+                let what = padding_text(*align, pooled.owner(i), end - start, *len);
                 Row {
                     line: padding_line(finished.arch()),
-                    ..Row::new(start, end, padding_text(*align, owner, end - start, *len))
+                    ..Row::new(start, end, what)
                 }
             }
         }
@@ -199,9 +194,9 @@ fn padding_line(arch: Arch) -> usize {
 }
 
 /// `align 16: 14 bytes of padding, 11 recorded`; `owner` is the pooled constant that it is for.
-pub(crate) fn padding_text(align: u32, owner: Option<u32>, len: u32, recorded: u32) -> String {
+pub(crate) fn padding_text(align: u32, owner: Option<Constant>, len: u32, recorded: u32) -> String {
     let owner = owner.map_or(String::new(), |constant| {
-        format!(" for constant {constant}")
+        format!(" for constant {}", constant.id())
     });
     let now = match len {
         0 => "no padding".into(),

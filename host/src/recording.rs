@@ -400,6 +400,24 @@ pub struct Pooled {
 }
 
 impl Pooled {
+    /// The constant that an event, by its index, is the alignment of; none of a recorded event.
+    #[must_use]
+    pub fn owner(&self, event: usize) -> Option<Constant> {
+        let recorded = self.events.len() - self.constants.len();
+        let index = event.checked_sub(recorded)?;
+        Some(self.constants[index].constant)
+    }
+
+    /// An event, by its index, as a message names it: `the jump`, `the alignment to 16`, `the alignment to 64 for constant 0`.
+    #[must_use]
+    pub fn event_name(&self, event: usize) -> String {
+        let name = self.events[event].name();
+        match self.owner(event) {
+            Some(constant) => format!("{name} for constant {}", constant.id()),
+            None => name,
+        }
+    }
+
     fn place(&mut self, constant: Constant, entry: &AsmConstant) {
         let align = alignment(self.len, entry.alignment());
         let offset = align.end();
@@ -469,5 +487,7 @@ mod tests {
         assert_eq!(pooled.events[0].end(), 16);
         assert_eq!(pooled.events[1].start(), 25);
         assert_eq!(pooled.events[2].start(), 36);
+        assert_eq!(pooled.owner(2), Some(Constant::from_id(1)));
+        assert_eq!(pooled.event_name(2), "the alignment to 64 for constant 1");
     }
 }

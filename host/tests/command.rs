@@ -529,6 +529,10 @@ fn refusals_show_the_second_place_that_they_speak_of() {
         "standard input:1: note: the jump comes from here\n    a: jmp a\n       ^^^",
     );
     note(
+        "a: jmp a; constant 01\nconstant-label 0\nref 6 a X86BranchRel8",
+        "standard input:2: note: the alignment to 8 for constant 0 comes from here\n    constant-label 0\n    ^^^^^^^^^^^^^^",
+    );
+    note(
         "a:\njmp a\nbytes AA\nref 5 a X86BranchRel8 1000",
         "standard input:1: note: label a is bound here\n    a:\n    ^^",
     );

@@ -149,7 +149,7 @@ fn touched(calls: &[Call], call: &Call, recording: &Recording) -> Option<(usize,
         Some(pool) => Entry::Asked(pool),
     };
     let at = call_of_entry(calls, recording.arch, entry)?;
-    let what = pooled.events[index].name();
+    let what = pooled.event_name(index);
     Some((at, format!("{what} comes from here")))
 }
 

@@ -118,10 +118,12 @@ impl<'a> RoundsReport<'a> {
         let event = &self.pooled.events[index];
         let start = self.style.offsets.text(event.start());
         let what = event.mnemonic();
-        let Some(&call) = self.calls.get(index) else {
-            let constant = self.pooled.constants[index - self.recording.events.len()].constant;
-            return format!("{what} for constant {}", constant.id());
-        };
-        format!("{what} recorded at {start} ({})", self.input.where_is(call))
+        match self.pooled.owner(index) {
+            Some(constant) => format!("{what} for constant {}", constant.id()),
+            None => {
+                let place = self.input.where_is(self.calls[index]);
+                format!("{what} recorded at {start} ({place})")
+            }
+        }
     }
 }

@@ -1,6 +1,6 @@
 //! Refused recording calls.
 
-use super::{NO_REASON, named_event};
+use super::{NO_REASON, with_offsets};
 use crate::call::broken_form;
 use crate::recording::{Label, RelocTarget};
 use crate::tables::Tables;
@@ -130,7 +130,7 @@ fn unfit_jump(tables: &Tables, start: u32, length: u32, condition: u32) -> Optio
     {
         return Some(format!(
             "the jump at {start} starts before the end of {}",
-            named_event(&event)
+            with_offsets(&event.name(), &event)
         ));
     }
     let (label, offset) = (0..)

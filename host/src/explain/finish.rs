@@ -1,6 +1,6 @@
 //! Refused finishes.
 
-use super::{NO_REASON, named_event};
+use super::{NO_REASON, with_offsets};
 use crate::ffi::Segment;
 use crate::recording::{
     AsmFixup, Label, LabelNames, LabelRef, LayoutEvent, Pooled, Recording, RelocTarget,
@@ -117,12 +117,13 @@ fn unfit_field(field: &LabelRef, pooled: &Pooled) -> Option<String> {
     let before = pooled
         .events
         .partition_point(|event| u64::from(event.start()) < end);
-    let event = &pooled.events[before.checked_sub(1)?];
+    let touched = before.checked_sub(1)?;
+    let event = &pooled.events[touched];
     (start < event.end()).then(|| {
         format!(
             "the field of the ref at {start}, {}, touches {}",
             counted(size as usize, "byte"),
-            named_event(event)
+            with_offsets(&pooled.event_name(touched), event)
         )
     })
 }

@@ -59,16 +59,14 @@ fn finished_text(placed: &Placed) -> String {
 
 /// `["jmp", start, length, label, "line 6"]`; the label of an alignment is -1.
 fn events(picture: &Picture<'_>, placed: &Placed) -> String {
-    let own = picture.recording.events.len();
     array(placed.pooled.events.iter().enumerate().map(|(i, event)| {
         let label = match event {
             LayoutEvent::Jump(jump) => jump.label.id().to_string(),
             LayoutEvent::Align { .. } => "-1".into(),
         };
         let mut what = event.mnemonic();
-        if let Some(pool) = i.checked_sub(own) {
-            let constant = placed.pooled.constants[pool].constant.id();
-            what += &format!(" for constant {constant}");
+        if let Some(constant) = placed.pooled.owner(i) {
+            what += &format!(" for constant {}", constant.id());
         }
         let len = event.end() - event.start();
         let place = picture.places.get(i).map_or("", String::as_str);

@@ -98,10 +98,8 @@ impl Rows<'_> {
                     ("jump", pick("event", event), what)
                 }
                 LayoutEvent::Align { align, .. } => {
-                    let pool = event.checked_sub(self.picture.recording.events.len());
-                    let owner = pool.map(|index| pooled.constants[index].constant.id());
                     let lengths = (part.new.len() as u32, part.old.len() as u32);
-                    let what = padding_text(*align, owner, lengths.0, lengths.1);
+                    let what = padding_text(*align, pooled.owner(event), lengths.0, lengths.1);
                     ("padding", pick("event", event), what)
                 }
             },

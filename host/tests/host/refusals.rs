@@ -340,7 +340,14 @@ fn number_17_a_refs_field() {
     );
     unfit(
         "n; l 0; b 0000; j 0 2 0; c 11; k 0; r 5 0 1",
-        "touches the alignment to 8 from 2 to 8",
+        "touches the alignment to 8 for constant 0 from 2 to 8",
+    );
+    unfit(
+        &format!(
+            "n; l 0; b 0000; j 0 2 0; c {}; k 0; r 16 0 1",
+            "00".repeat(33)
+        ),
+        "touches the alignment to 64 for constant 0 from 2 to 64",
     );
 }
 
