@@ -84,6 +84,17 @@ fn sheets_of_fields_and_constants() {
             "X86CallPLTRel4: symbol 0",
         ],
     );
+    shows(
+        "wide-constant.txt",
+        "X64: 136 bytes, alignment 64, layouts 1, long jumps 0 of 2",
+        &[
+            "11  31 00 00 00                 X86JmpRel32: label weights at 64, distance 49",
+            "21  67 00 00 00                 X86JmpRel32: label bias at 128, distance 103",
+            "62  66 90                       align 64 for constant 0: 2 bytes of padding, 58 recorded",
+            "64  00 00 00 00 00 00 F0 3F     constant 0, label weights",
+            "128                              align 8 for constant 1: no padding",
+        ],
+    );
 }
 
 #[test]

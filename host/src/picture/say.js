@@ -145,13 +145,20 @@ function sayPadding(layout, event) {
     return [...said, element("p", crossedByText(event))];
 }
 
+// The pooled constant that a label is made for, if it is made for one.
+function sayConstant(label) {
+    const own = DATA.constants.filter(([, of]) => of === label);
+    return own.map(([number, , size]) => element("p", `Constant ${number} stands here, ${count(size, "byte")}.`));
+}
+
 function sayLabel(layout, label) {
     const from = jumps().filter(jump => EVENTS[jump].label === label);
     const by = layout.pushed(label), pushed = layout.step > 1 && by !== 0 ? `, pushed by ${by} since the step before` : "";
     const title = `${labelText(label)} at ${offset(layout.label(label))}${pushed}`;
-    if (from.length === 0) return [element("h2", title), element("p", "No jump goes to it.")];
+    const said = [element("h2", title), ...sayConstant(label)];
+    if (from.length === 0) return [...said, element("p", "No jump goes to it.")];
     const entries = from.map(jump => `${eventText(jump)}: distance ${layout.distance(jump)}, ${stateText(layout.state(jump))}`);
-    return [element("h2", title), element("p", `${count(from.length, "jump")} to it:`), list(entries, "jump")];
+    return [...said, element("p", `${count(from.length, "jump")} to it:`), list(entries, "jump")];
 }
 
 // What happens in a step, in general.

@@ -286,6 +286,24 @@ fn what_is_chosen_stands_out_and_is_explained() {
 }
 
 #[test]
+fn padding_and_label_of_a_constant_are_explained() {
+    let Some(browser) = find() else { return };
+    let script = format!(
+        "{TOOLS}
+        note(detail());
+        picked('event2').dispatchEvent(new PointerEvent('pointerover', {{ bubbles: true, pointerType: 'mouse' }}));
+        note(detail());"
+    );
+    let page = page(&sheet("wide-constant"));
+    let noted = lines(&browser, &page, "step=2&pick=label0", &script);
+    let expected = [
+        "label weights at 64Constant 0 stands here, 64 bytes.No jump goes to it.",
+        "align 64 for constant 02 bytes of padding, from 62 to 64; 58 recorded.No jump crosses it.",
+    ];
+    assert_eq!(noted, expected);
+}
+
+#[test]
 fn two_thousand_jumps_stay_within_bounds() {
     let Some(browser) = find() else { return };
     let script = format!(

@@ -23,7 +23,7 @@ fn sheets() -> Vec<(String, String)> {
         })
         .collect();
     sheets.sort_unstable();
-    assert!(sheets.len() >= 9);
+    assert!(sheets.len() >= 10);
     sheets
 }
 
