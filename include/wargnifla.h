@@ -74,7 +74,8 @@ enum wargnifla_refusal {
  * extend nothing.
  *
  * Labels are numbered from 0 in the order of making, and so are constants. A constant has no label until it is asked for; its label then takes the
- * next number among the labels, and asking again gives the same one. */
+ * next number among the labels, and asking again gives the same one. Finish sets those that were asked for behind the code, each on a multiple of 8
+ * up to 8 bytes, of 16 up to 32, and of 64 up to 64 (wargnifla_constant_alignment). */
 enum wargnifla_call {
     WARGNIFLA_CALL_BYTES = 1,          /* count (0 to 12), the bytes: code by count */
     WARGNIFLA_CALL_NEW_LABEL = 2,      /* none: labels by 1 */
@@ -182,6 +183,10 @@ enum wargnifla_count {
 /* What finish reports, 6 words; it answers 1 to fewer bytes, and then writes nothing.
  *
  *   0 architecture   1 bytes of finished code   2 alignment of the code   3 layouts   4 labels   5 relocations
+ *
+ * The alignment is what the code is to be loaded on a multiple of, so that every constant comes to stand on a multiple of its own: the greater of
+ * 32 and the largest alignment among the constants that were asked for. So it is 32, or 64 where one of these has more than 32 bytes. Constants that
+ * were only added do not count, nor do alignments in the code. A refused finish reports zeros.
  */
 #define WARGNIFLA_RECORD_BYTES 24
 
@@ -275,10 +280,11 @@ uint32_t wargnifla_add_reloc(uint8_t *counts, size_t counts_len, uint8_t *relocs
                              uint32_t target, uint64_t addend);
 
 /* How long the finished code can be, from numbers known when memory is set aside. A jump gains at most 4 bytes, an alignment 4,095, and a constant
- * that is asked for takes at most 64 and 15 of padding. Where finish answers 0 the code is never longer than WARGNIFLA_MOST_CODE, since no longer
- * output may be lent. */
+ * that is asked for takes at most WARGNIFLA_MOST_POOLED, its 64 bytes and 63 of padding. Where finish answers 0 the code is never longer than
+ * WARGNIFLA_MOST_CODE, since no longer output may be lent. */
+#define WARGNIFLA_MOST_POOLED 127
 #define WARGNIFLA_MOST_OUTPUT(code, jumps, alignments, asked) \
-    WARGNIFLA_CAPPED((size_t)(code) + 4 * (size_t)(jumps) + 4095 * (size_t)(alignments) + 79 * (size_t)(asked))
+    WARGNIFLA_CAPPED((size_t)(code) + 4 * (size_t)(jumps) + 4095 * (size_t)(alignments) + WARGNIFLA_MOST_POOLED * (size_t)(asked))
 #define WARGNIFLA_CAPPED(length) ((length) < WARGNIFLA_MOST_CODE ? (length) : (size_t)WARGNIFLA_MOST_CODE)
 
 /* From here on: inline functions over a struct of tables, in place of the long lists of arguments. */
@@ -299,7 +305,7 @@ typedef struct {
 typedef struct {
     uint32_t arch;
     uint32_t length;    /* bytes of finished code */
-    uint32_t alignment; /* what the code is to be loaded on a multiple of */
+    uint32_t alignment; /* what the code is to be loaded on a multiple of: 32 or 64 */
     uint32_t layouts;   /* rounds of relaxation; 0 without a jump */
     uint32_t labels;
     uint32_t relocs;
@@ -472,8 +478,11 @@ static inline uint64_t wargnifla_event_growth(const uint8_t *event) {
     return (uint64_t)most - length;
 }
 
-/* What a constant of a size can take in the pool: it is aligned on 8 up to 8 bytes, else on 16. */
-static inline uint64_t wargnifla_pooled_growth(uint32_t size) { return (uint64_t)size + (size <= 8 ? 7 : 15); }
+/* The multiple that finish sets a constant of a size on. */
+static inline uint32_t wargnifla_constant_alignment(uint32_t size) { return size <= 8 ? 8 : size <= 32 ? 16 : 64; }
+
+/* What a constant of a size can take in the pool: its bytes, and padding one less than its multiple. */
+static inline uint64_t wargnifla_pooled_growth(uint32_t size) { return (uint64_t)size + wargnifla_constant_alignment(size) - 1; }
 
 /* How long the finished code of a recording can be: what is recorded, every jump long, every padding one less than its multiple, and the pool; at
  * most WARGNIFLA_MOST_CODE. With an output of this length finish answers 23 only where the code is longer than any output that may be lent. */

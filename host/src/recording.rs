@@ -267,7 +267,8 @@ pub struct AsmConstant {
 }
 
 impl AsmConstant {
-    /// The multiple that finish sets a constant on: 8 up to 8 bytes, 16 up to 32, and 64 up to 64, for the widest vectors.
+    /// The multiple that finish sets a constant on: 8 up to 8 bytes, 16 up to 32, and 64 up to 64, for the widest vectors. So a vector of 32 bytes is
+    /// to be loaded as one that need not be aligned.
     #[must_use]
     pub const fn alignment(&self) -> u32 {
         constant_alignment(self.data.len())

@@ -2,7 +2,7 @@
 
 use std::fmt::Debug;
 
-use wargnifla::{Arch, Call, LabelUse, Refusal, Reloc};
+use wargnifla::{Arch, AsmConstant, Call, LabelUse, Refusal, Reloc};
 
 const HEADER: &str = include_str!("../../../include/wargnifla.h");
 
@@ -151,6 +151,15 @@ fn limits_and_the_stack_of_finish() {
     assert_eq!(number("WARGNIFLA_MOST_ENTRIES"), wargnifla::MOST_ENTRIES);
     assert_eq!(number("WARGNIFLA_MOST_CONSTANT"), wargnifla::MOST_CONSTANT);
     assert_eq!(number("WARGNIFLA_FINISH_STACK"), wargnifla::FINISH_STACK);
+    let longest = AsmConstant {
+        data: vec![0; wargnifla::MOST_CONSTANT],
+        label: None,
+    };
+    let padding = longest.alignment() as usize - 1;
+    assert_eq!(
+        number("WARGNIFLA_MOST_POOLED"),
+        padding + longest.data.len()
+    );
 }
 
 #[test]
