@@ -175,7 +175,7 @@ pub fn all() -> Vec<Family> {
         Family::random(
             "limits",
             "lent memory at the limits and above",
-            30,
+            100,
             false,
             limits::scenario,
         ),
