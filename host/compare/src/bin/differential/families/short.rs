@@ -152,13 +152,12 @@ const ALPHABETS: [Alphabet; 7] = [
         most: 5,
         binds_rest: false,
     },
-    // Constants of 32 bytes and of 33, and jumps across their padding.
+    // Constants of 33 bytes and of 32, and jumps across their padding.
     Alphabet {
         arch: X64,
-        first: &[new_label],
+        first: &[new_label, |d| constant(d, vec![9; 33])],
         letters: &[
             |d| constant(d, vec![7; 32]),
-            |d| constant(d, vec![9; 33]),
             |d| d.ask(0),
             |d| d.ask(1),
             |d| d.bind(0),
