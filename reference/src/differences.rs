@@ -1,8 +1,8 @@
-//! Where the Rust and document 01 part, kept as data.
+//! Where the Rust and this project part, kept as data.
 //!
 //! A line of reference/differences.txt is
-//! `NAME | NUMBER | ARCH | SHEET => ANSWER`: the refusal of document 01 (0
-//! for none), the architecture's name, a sheet as text, and the Rust's answer.
+//! `NAME | NUMBER | ARCH | SHEET => ANSWER`: this project's refusal (0 for
+//! none), the architecture's name, a sheet as text, and the Rust's answer.
 //! Empty lines and lines that start with `#` say nothing.
 
 use crate::{
@@ -12,7 +12,7 @@ use crate::{
 
 pub struct Difference {
     pub name: String,
-    /// The refusal that document 01 answers with; 0 where it answers none.
+    /// The refusal that this project answers with; 0 where it answers none.
     pub number: u32,
     pub arch: String,
     pub sheet: String,
