@@ -44,8 +44,8 @@ abbrev pub pooledIn : Lent → Pooled
 pooledIn l = pooled (recordingIn l .buffer .arch) (view (recordingIn l))
 
 -- The three demands of a finish. A number is answered: recording and output are unchanged. 0 is: the finished code meets demand 2 and, where a jump stands,
--- it, the labels' offsets, its length (word 1) and the layouts (word 3) meet demand 3; it, those offsets and the alignment (word 2) are what is claimed of
--- pooled constants.
+-- it, the labels' offsets, its length (word 1) and the layouts (word 3) meet demand 3. Of pooled constants it, those offsets and the alignment (word 2) are
+-- as claimed.
 pub record Demands (l : Lent) (output finalized : List ℕ) (a : Answer) : Type 0 where
   pub one : a .0 ≢ 0 → LentUnchanged l output finalized a
   pub two : a .0 ≡ 0 → Demand2 (recordingIn l) (finishedCode a)

@@ -21,7 +21,7 @@ pub record Constants (v : View) (code labels : List ℕ) (alignment : ℕ) : Typ
   -- a constant's bytes stand at its offset, and "A constant of more than 32 bytes stands on a multiple of 64, the others as before"
   pub stands : (j : ℕ) → j < length (v .asked) → part code (offsetOf v labels j) (length (askedConstant v j .bytes)) ≡ askedConstant v j .bytes
   pub aligned : (j : ℕ) → j < length (v .asked) → offsetOf v labels j % alignmentOf v j ≡ 0
-  -- "The finished record gives the greater of 32 and the largest alignment among pooled constants": no greater number than these ask for
+  -- "The finished record gives the greater of 32 and the largest alignment among pooled constants": a multiple of each, and no more than 32 and these ask
   pub known : (alignment ≡ 32) ⊎ (alignment ≡ 64)
   pub multiple : (j : ℕ) → j < length (v .asked) → alignment % alignmentOf v j ≡ 0
   pub least : (m : ℕ) → 32 ≤ m → ((j : ℕ) → j < length (v .asked) → alignmentOf v j ≤ m) → alignment ≤ m

@@ -60,7 +60,6 @@ stays-on m (e ∷ es) o n len t d c h le hn hd on =
       decided-none es (endOf e) ((segment o n e (isLong c)) .«new_end») len t d (others c) (h .1) (omega arith),
     ) hd)
     (λ (at : startOf e ≤ t).
-    let same : startOf e - o ≡ 0 = omega (arith, h .0) in
     let end : (segment o n e (isLong c)) .«new_end» % m ≡ 0 = aligns-on (on 0 (omega arith) at) (isLong c) (n + (startOf e - o)) in
     ⊎-elim
     (λ (inside : t < endOf e).
