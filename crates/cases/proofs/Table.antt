@@ -1,4 +1,4 @@
--- Document 01's cases hold of the definitions.
+-- The cases of document 01, and those with a pool, hold of the definitions.
 use mathlib.Core.Path.{_≡_, refl}
 use mathlib.Core.List.{map}
 use Rattle.seqs.specs.Every.{every}
@@ -20,7 +20,7 @@ use Rattle.fresh.specs.Fill.{fillUse, fillUses, fillField, fillRefs, fillJump, 
 use Rattle.finish.specs.Refusals.{refClear, refReaches, whyNotLaid, whyNotWritten, useRefusal, usesRefusal, whyNotInPlace}
 use Rattle.cases.specs.Cases.{Row, answer, table}
 
--- Every case of the table is answered as document 01 says.
+-- Every case of the table is answered as its row says.
 pub cases-hold : map answer table ≡ map (λ (r : Row). r .expected) table
 unfolding table every pick decoded reachRefusal canReach canReachDelta pagesReach signExtend range insertBits patched heldAddend wordAt over nop.form nop.nopsBy
     nop.nops paddingLength pooledOne codeAlignment form width roleOf moves items writes starts stands moved jumps reaches isFar farOf any join settle fillUse fillUses fillField fillRefs

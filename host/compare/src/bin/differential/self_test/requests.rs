@@ -94,17 +94,18 @@ pub fn as_wide_as_the_change(family: &Family, runner: &mut Runner, findings: &mu
         if scenario.steps.iter().any(is_by_hand) {
             continue;
         }
-        let outcome = runner.run(&scenario);
-        let Some(outcome) = outcome.ok().filter(|outcome| outcome.refusal == 0) else {
+        let name = || format!("{} {index}", family.name);
+        let Ok(outcome) = runner.run(&scenario) else {
+            findings.add(false, || format!("{}: differs, no departure met", name()));
             continue;
         };
+        if outcome.refusal != 0 {
+            continue;
+        }
         let departs = outcome.departure;
         let differs = undeparted.run(&scenario).is_err();
         findings.add(differs == departs.is_some(), || {
-            format!(
-                "{} {index}: departure {departs:?}, differs: {differs}",
-                family.name
-            )
+            format!("{}: departure {departs:?}, differs: {differs}", name())
         });
     }
 }
