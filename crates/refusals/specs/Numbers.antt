@@ -93,6 +93,18 @@ labelTooFarBack = 22
 abbrev pub outputTooSmall : ℕ
 outputTooSmall = 23
 
+-- ELF has no type here for a relocation's kind, or none for the architecture
+abbrev pub noElfType : ℕ
+noElfType = 24
+
+-- a relocation's addend plus its label's offset leaves signed 64 bits
+abbrev pub addendOverflow : ℕ
+addendOverflow = 25
+
+-- the entries of ELF exceed the lent output
+abbrev pub elfOutputTooSmall : ℕ
+elfOutputTooSmall = 26
+
 -- of what recording calls refuse by, the numbers from here on are recorded, but for a bind's
 abbrev pub firstRecorded : ℕ
 firstRecorded = unsupportedUse

@@ -69,5 +69,14 @@ pub const LABEL_TOO_FAR_BACK: u32 = 22;
 // The finished code exceeds the lent output.
 pub const OUTPUT_TOO_SMALL: u32 = 23;
 
+// ELF has no type here for a relocation's kind, or none for the architecture.
+pub const NO_ELF_TYPE: u32 = 24;
+
+// A relocation's addend plus its label's offset leaves signed 64 bits.
+pub const ADDEND_OVERFLOW: u32 = 25;
+
+// The entries of ELF exceed the lent output.
+pub const ELF_OUTPUT_TOO_SMALL: u32 = 26;
+
 // Of what recording calls refuse by, the numbers from here on are recorded, but for a bind's.
 pub const FIRST_RECORDED: u32 = UNSUPPORTED_USE;
