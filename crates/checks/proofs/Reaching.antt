@@ -1,15 +1,11 @@
--- Labels that are named, fields that are clear, and the first use that does not reach.
-use mathlib.Core.Path.{_≡_, refl, sym, _∙_}
-use mathlib.Core.Logic.{_≢_, ⊎-elim}
+-- Labels that are named, and fields that are clear.
+use mathlib.Core.Path.{_≡_, sym, _∙_}
+use mathlib.Core.Logic.{_≢_}
 use mathlib.Core.Bool.{true, false}
 use mathlib.Core.List.{List}
-use Prim.Native.Nat.{ℕ, zero, suc, _+_, _-_, _*_, _≤_, _<_}
-use native.Mathlib.Nat.{not-suc-le-zero}
-use native.Mathlib.Numerals.{add-one}
+use Prim.Native.Nat.{ℕ, _+_, _-_, _*_, _≤_, _<_}
 use native.Mathlib.Omega.{arith}
 use borrow.Author.Tests.{eq-eqb, ne-eqb, lt-ltb, le-ltb, le-leb, lt-leb}
-use Rattle.seqs.proofs.Numbers.{eq-or-ne}
-use Rattle.seqs.proofs.Picking.{yes-eq, no-eq}
 use Rattle.words.specs.Words.{wordAt}
 use Rattle.fields.specs.Kinds.{decoded, patchSize}
 use Rattle.fields.specs.declared.Decoded.{Decoded}
@@ -30,7 +26,7 @@ use Rattle.relax.specs.Events.{eventWords}
 use Rattle.buffer.specs.Tables.{refWords, relocWords}
 use Rattle.pool.specs.steps.Pool.{poolStart}
 use Rattle.fields.specs.Kinds.{sizeOf}
-use Rattle.checks.specs.steps.Fields.{isBoundAt, jumpBound, targetBound, clearOfEvents, clearOfPool, refClear, whyUnreached, whyUses}
+use Rattle.checks.specs.steps.Fields.{isBoundAt, jumpBound, targetBound, clearOfEvents, clearOfPool, refClear}
 
 pub jump-none : (events labels : List ℕ) (i kind : ℕ) → kind ≡ wordAt events (i * eventWords) → kind ≢ 1 → true ≡ jumpBound events labels i
 jump-none events labels i kind e h = rw (ne-eqb (wordAt events (i * eventWords)) 1 (λ (q : wordAt events (i * eventWords) ≡ 1). h (e ∙ q)))
@@ -86,26 +82,3 @@ module _ {refs events : List ℕ} {n code : ℕ} {constants asked : List ℕ} {m
       → clearOfPool code constants asked m from (from + size) ≡ refClear refs events n code constants asked m i
   unfolding refClear
   ref-rest h e = rw (← r .at, ← r .long, ← r .end, le-leb (from + size) len h, e)
-
-module _ (uses labels : List ℕ) (len : ℕ) where
-  pub why-none : whyUses uses labels len 0 ≡ 0
-  unfolding whyUses
-  why-none = refl
-
-  pub why-next : (i why : ℕ) → whyUses uses labels len i ≡ 0 → why ≡ whyUnreached uses labels len i → why ≡ 0 → whyUses uses labels len (i + 1) ≡ 0
-  unfolding whyUses
-  why-next i why h e z = rw (add-one i, h) (yes-eq 0 0 _ _ refl ∙ sym e ∙ z)
-
-  pub why-first : (n i why : ℕ) → i < n → whyUses uses labels len i ≡ 0 → why ≡ whyUnreached uses labels len i → why ≢ 0 → why ≡ whyUses uses labels len n
-  unfolding whyUses
-  why-first zero i why l h e z = absurd (not-suc-le-zero l)
-  why-first (suc n) i why l h e z =
-      ⊎-elim
-      (λ (same : i ≡ n). e ∙ rw same (sym (yes-eq (whyUses uses labels len n) 0 _ _ (rw same at h))))
-      (λ other.
-      let before = why-first n i why (omega arith) h e z in
-      before ∙ sym (no-eq (whyUses uses labels len n) 0 _ _ (λ (q : whyUses uses labels len n ≡ 0). z (before ∙ q))))
-      (eq-or-ne i n)
-
-  pub why-end : (n i : ℕ) → i ≤ n → n ≤ i → whyUses uses labels len i ≡ 0 → 0 ≡ whyUses uses labels len n
-  why-end n i h l e = let same : i ≡ n = omega arith in sym (rw same at e)

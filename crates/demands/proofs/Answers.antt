@@ -3,7 +3,7 @@ use mathlib.Core.Path.{_≡_, refl, sym, ap, _∙_, subst}
 use mathlib.Core.Logic.{_≢_}
 use mathlib.Core.Bool.{Bool, true, false, not}
 use mathlib.Core.List.{List, map}
-use Prim.Native.Nat.{ℕ, _+_, _≤_}
+use Prim.Native.Nat.{ℕ, _≤_}
 use native.Mathlib.Omega.{arith}
 use lib.Dec.{eqb, ltb}
 use lib.ListN.{length, take}
@@ -12,7 +12,8 @@ use Rattle.refusals.specs.Numbers as refusals
 use Rattle.seqs.specs.Over.{over}
 use Rattle.seqs.specs.Pick.{pick}
 use Rattle.seqs.proofs.Picking.{pick-yes, pick-no, passed, neither}
-use Rattle.seqs.proofs.Overwrites.{take-over-end}
+use Rattle.seqs.proofs.Overwrites.{take-over-front}
+use Rattle.words.specs.Words.{overWords}
 use Rattle.relax.specs.declared.Segment.{Segment}
 use Rattle.buffer.specs.Tables.{mostEntries, mostCode}
 use Rattle.recording.specs.Calls.{Recording}
@@ -30,7 +31,7 @@ use Rattle.finish.specs.declared.Finished.{Finished}
 use Rattle.finish.specs.declared.Outcome.{Outcome}
 use Rattle.seqs.specs.Every.{every}
 use Rattle.finish.specs.Refusals.{allBound, refClear, refReaches, whyNotLaid, whyNotWritten, usesRefusal, whyNotInPlace, whyUnfit}
-use Rattle.finish.specs.Finish.{overWords, Left, relaxed, unrelaxed, finishedWith, placedBy, finish}
+use Rattle.finish.specs.Finish.{Left, relaxed, unrelaxed, finishedWith, placedBy, finish}
 use Rattle.demands.specs.Demand2.{finishedCode}
 
 -- a recording that is fit: its entries are those that recordings write, and the pooled code, the output and the table of segments are small
@@ -80,8 +81,7 @@ pub record Kept (p : Pooled) (labels output code table : List ℕ) (len : ℕ) :
   pub unmoved : table ≡ labels
 
 taken : (output code : List ℕ) (n : ℕ) → n ≡ length code → length code ≤ length output → take n (over output 0 code) ≡ code
-taken output code n e h =
-    let z : n ≡ 0 + length code = omega arith in ap (λ (m : ℕ). take m (over output 0 code)) z ∙ take-over-end output 0 code (omega arith)
+taken output code n e h = ap (λ (m : ℕ). take m (over output 0 code)) e ∙ take-over-front output code h
 
 -- the bytes that a stage leaves, as many as it says
 abbrev codeOf : Outcome × Left → List ℕ

@@ -9,7 +9,8 @@ use lib.Dec.{ltb}
 use lib.ListN.{length, take}
 use borrow.Author.Tests.{ltb-true, ltb-false}
 use Rattle.seqs.specs.Pick.{pick}
-use Rattle.words.specs.Words.{wordAt}
+use Rattle.words.specs.Words.{wordAt, overWords}
+use Rattle.words.proofs.Entries.{word-read}
 use Rattle.relax.specs.declared.Segment.{Segment}
 use Rattle.buffer.specs.declared.CodeBuffer.{CodeBuffer}
 use Rattle.recording.specs.View.{entries, view}
@@ -20,9 +21,8 @@ use Rattle.fresh.proofs.Tests.{split}
 use Rattle.layout.proofs.Settled.{jumps-le}
 use Rattle.finish.specs.declared.CodeBufferFinalized.{CodeBufferFinalized}
 use Rattle.finish.specs.Finish as finishing
-use Rattle.finish.specs.Finish.{overWords}
 use Rattle.wargnifla.specs.Boundary.{recordSize, Lent, countsOf, recordOf, recordingIn, tooShort, finish}
-use Rattle.wargnifla.proofs.Counts.{word-read, counts-stay}
+use Rattle.wargnifla.proofs.Counts.{counts-stay}
 use Rattle.demands.specs.Demand1.{LentUnchanged}
 use Rattle.demands.specs.Demand2.{Bytes, Demand2}
 use Rattle.demands.specs.Demand2 as claim

@@ -5,7 +5,7 @@ use mathlib.Core.Bool.{true, false}
 use mathlib.Core.List.{List, map}
 use Prim.Native.Nat.{ℕ, _+_, _-_, _%_, _≤_, _<_}
 use lib.ListN.{length, getD, replicate}
-use Rattle.words.specs.Words.{wordAt}
+use Rattle.words.specs.Words.{wordAt, overWords}
 use Rattle.encoder.specs.Intel.{AreNops}
 use Rattle.fields.specs.declared.LabelUse.{LabelUse}
 use Rattle.fields.specs.declared.Decoded.the-variants.{Use}
@@ -26,7 +26,7 @@ use Rattle.fresh.specs.Rounds.{allShort, jumps, Rounds, settled}
 use Rattle.fresh.specs.Fill.{part, assembled}
 use Rattle.fresh.specs.Demand.{Fits, NoAlign, Includes, Demand3}
 use Rattle.finish.specs.declared.Finished.{Finished}
-use Rattle.finish.specs.Finish.{Left, overWords}
+use Rattle.finish.specs.Finish.{Left}
 use Rattle.wargnifla.specs.Boundary.{recordSize, recordOf, Lent, recordingIn}
 use Rattle.demands.specs.Reading.{Reads}
 use Rattle.demands.specs.Demand1.{zeros, Unchanged, LentUnchanged}

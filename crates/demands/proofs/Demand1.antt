@@ -8,13 +8,14 @@ use borrow.Author.Tests.{eqb-false}
 use lib.Dec.{eqb}
 use lib.ListN.{length}
 use Rattle.seqs.specs.Pick.{pick}
+use Rattle.words.specs.Words.{overWords}
 use Rattle.relax.specs.declared.Segment.{Segment}
 use Rattle.recording.specs.Calls.{Recording}
 use Rattle.recording.specs.View.{view}
 use Rattle.fresh.specs.Pooled.{pooled}
 use Rattle.finish.specs.declared.Finished.{Finished}
 use Rattle.finish.specs.Refusals.{allBound, whyUnfit}
-use Rattle.finish.specs.Finish.{overWords, Left, placedBy, finish}
+use Rattle.finish.specs.Finish.{Left, placedBy, finish}
 use Rattle.finish.proofs.WholeFinish.{LeftAlone, stages-refused}
 use Rattle.demands.specs.Demand1.{Unchanged}
 

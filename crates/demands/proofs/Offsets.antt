@@ -8,7 +8,7 @@ use native.Mathlib.Omega.{arith}
 use lib.ListN.{length, getD}
 use Rattle.seqs.proofs.Numbers.{eq-or-ne}
 use Rattle.seqs.proofs.Overwrites.{length-over}
-use Rattle.words.specs.Words.{wordAt}
+use Rattle.words.specs.Words.{wordAt, bytesOfAll, overWords}
 use Rattle.relax.specs.declared.Segment.{Segment}
 use Rattle.buffer.specs.State.{none}
 use Rattle.recording.specs.Calls.{Recording}
@@ -19,7 +19,7 @@ use Rattle.fresh.specs.Fresh.{Choice, moved, target}
 use Rattle.fresh.specs.Rounds.{settled}
 use Rattle.fresh.specs.Forms.{moves}
 use Rattle.fresh.proofs.Within.{moved-le}
-use Rattle.finish.specs.Finish.{bytesOfAll, overWords, finish}
+use Rattle.finish.specs.Finish.{finish}
 use Rattle.finish.proofs.MappedTables.{word-over, map-entries}
 use Rattle.demands.proofs.Relaxing.{Fitting}
 use Rattle.demands.proofs.Answers.{finish-answered}

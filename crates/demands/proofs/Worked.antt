@@ -12,7 +12,7 @@ use Rattle.seqs.specs.Every.{every, all}
 use Rattle.seqs.specs.Over.{over}
 use Rattle.seqs.specs.Pick.{pick}
 use Rattle.seqs.proofs.Booleans.{both-true}
-use Rattle.words.specs.Words.{wordAt}
+use Rattle.words.specs.Words.{wordAt, bytesOfAll}
 use Rattle.encoder.specs.Intel.{AreNops}
 use Rattle.encoder.specs.Nops as nop
 use Rattle.encoder.specs.Padding.{paddingLength}
@@ -38,7 +38,7 @@ use Rattle.fresh.specs.Rounds.{allShort, jumps, Rounds, reaches, isFar, farOf, 
 use Rattle.fresh.specs.Fill.{part, fillUse, fillUses, inPlace, fillField, fillRefs, fillJump, fillJumps, fillPool, fill, assembled}
 use Rattle.fresh.specs.Segments.{segments}
 use Rattle.finish.specs.Refusals.{poolBoundBefore, relocBound, allBound, refClear, refReaches, whyNotLaid, whyNotWritten, useRefusal, usesRefusal, whyNotInPlace, whyUnfit}
-use Rattle.finish.specs.Finish.{bytesOfAll, relocated, relaxed, unrelaxed, placedBy}
+use Rattle.finish.specs.Finish.{relocated, relaxed, unrelaxed, placedBy}
 use Rattle.finish.specs.Finish as finishing
 use Rattle.wargnifla.specs.Boundary.{Lent, finish}
 use Rattle.demands.specs.Reading.{Reads}

@@ -4,10 +4,11 @@ use mathlib.Core.Path.{_≡_}
 use mathlib.Core.List.{List}
 use Prim.Native.Nat.{ℕ, _≤_}
 use lib.ListN.{length}
+use Rattle.words.specs.Words.{overWords}
 use Rattle.recording.specs.Calls.{Recording}
 use Rattle.finish.specs.declared.CodeBufferFinalized.{CodeBufferFinalized}
 use Rattle.finish.specs.declared.Finished.{Finished}
-use Rattle.finish.specs.Finish.{Left, overWords}
+use Rattle.finish.specs.Finish.{Left}
 use Rattle.wargnifla.specs.Boundary.{recordSize, recordOf, Lent}
 
 abbrev pub zeros : CodeBufferFinalized

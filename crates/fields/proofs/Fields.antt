@@ -10,7 +10,7 @@ use lib.Bits.{or-lt}
 use lib.ListN.{length, take, getD}
 use Rattle.seqs.proofs.Numbers.{lt-or-ge, eq-or-ne}
 use Rattle.words.specs.Words.{wordAt, bytesOf}
-use Rattle.words.proofs.Laws.{wordAt-bytesOf}
+use Rattle.words.proofs.Laws.{wordAt-bytesOf, wordAt-small}
 use Rattle.fields.specs.declared.LabelUse.{LabelUse}
 use Rattle.fields.specs.declared.LabelUse.the-variants.{
   X86JmpRel32,
@@ -56,10 +56,6 @@ unfolding wordAt
 number-read size v (inl one) h = let l : v < 256 = subst (λ (n : ℕ). v < 2 ^ (8 * n)) one h in rw one (omega arith)
 number-read size v (inr four) h = rw four (wordAt-bytesOf v (subst (λ (n : ℕ). v < 2 ^ (8 * n)) four h))
 
-word-lt : (bytes : List ℕ) → ((i : ℕ) → getD bytes i 0 < 256) → wordAt bytes 0 < 4294967296
-unfolding wordAt
-word-lt bytes small = omega (arith, small 0, small 1, small 2, small 3)
-
 -- A field: as many bytes as its kind has.
 pub record Field (k : LabelUse) (bytes : List ℕ) : Type 0 where
   pub size : length bytes ≡ patchSize k
@@ -72,7 +68,7 @@ patched-number k offset target bytes f =
     ap (λ (l : List ℕ). wordAt l 0) (patched-field k offset target bytes (f .size))
     ∙ number-read (patchSize k) (patchedWord k (wordAt bytes 0) offset target)
     (⊎-elim (λ one. inl one) (λ other. inr (four-unless-one k other)) (eq-or-ne (patchSize k) 1))
-    (patched-lt k offset target (wordAt bytes 0) (word-lt bytes (f .small)))
+    (patched-lt k offset target (wordAt bytes 0) (wordAt-small bytes 0 (f .small)))
 
 -- Demand 2 of one field: patched, it means by the manuals what its target demands, wherever the code is loaded.
 pub field-means : (k : LabelUse) (base offset target : ℕ) (bytes : List ℕ) → Field k bytes → offset < modulus → target < modulus

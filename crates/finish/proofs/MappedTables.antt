@@ -1,41 +1,28 @@
 -- The tables of labels and relocations once their offsets are mapped.
 use mathlib.Core.Path.{_≡_, refl, sym, ap, _∙_}
 use mathlib.Core.Logic.{⊎-elim}
-use mathlib.Core.List.{List, [], _∷_, _++_, map, append-assoc, append-nil, map-append}
+use mathlib.Core.List.{List, [], _∷_, _++_, map, map-append}
 use Prim.Native.Nat.{ℕ, zero, suc, _+_, _*_, _≤_, _<_}
 use native.Mathlib.Omega.{arith}
-use lib.ListN.{length, set, length-append}
+use lib.ListN.{length, set}
 use Rattle.seqs.specs.Over.{over}
 use Rattle.seqs.proofs.Numbers.{lt-or-ge}
-use Rattle.seqs.proofs.Overwrites.{length-over, over-append, over-nil}
-use Rattle.words.specs.Words.{bytesOf, wordAt, setWord}
+use Rattle.seqs.proofs.Overwrites.{length-over, over-nil}
+use Rattle.words.specs.Words.{bytesOf, wordAt, setWord, bytesOfAll, overWords}
 use Rattle.words.proofs.Laws.{wordAt-same, wordAt-other}
+use Rattle.words.proofs.Entries.{length-bytesOfAll, over-words-append}
 use Rattle.recording.specs.View.{entries}
 use Rattle.recording.proofs.Views.{length-entries}
 use Rattle.fresh.proofs.Past.{over-front}
 use Rattle.emit.specs.steps.Emit.{mappedWords}
-use Rattle.finish.specs.Finish.{bytesOfAll, overWords, relocated}
-
-bytesOfAll-more : (ws : List ℕ) (w : ℕ) → bytesOfAll (ws ++ (w ∷ [])) ≡ bytesOfAll ws ++ bytesOf w
-bytesOfAll-more [] w = append-nil (bytesOf w)
-bytesOfAll-more (x ∷ ws) w =
-    ap (λ (l : List ℕ). bytesOf x ++ l) (bytesOfAll-more ws w) ∙ sym (append-assoc (bytesOf x) (bytesOfAll ws) (bytesOf w))
-
-length-bytesOfAll : (f : ℕ → ℕ) (n : ℕ) → length (bytesOfAll (entries f n)) ≡ n * 4
-length-bytesOfAll f zero = refl
-length-bytesOfAll f (suc n) =
-    ap length (bytesOfAll-more (entries f n) (f n))
-    ∙ length-append (bytesOfAll (entries f n)) (bytesOf (f n))
-    ∙ omega (arith, length-bytesOfAll f n)
+use Rattle.finish.specs.Finish.{relocated}
 
 -- words set one after another are words written over the first
 pub set-over-words : (f : ℕ → ℕ) (t : List ℕ) (n : ℕ) → setWord (overWords t (entries f n)) n (f n) ≡ overWords t (entries f (suc n))
 unfolding setWord
 set-over-words f t n =
-    let e : n * 4 ≡ 0 + length (bytesOfAll (entries f n)) = omega (arith, length-bytesOfAll f n) in
-    ap (λ (k : ℕ). over (overWords t (entries f n)) k (bytesOf (f n))) e
-    ∙ over-append t 0 (bytesOfAll (entries f n)) (bytesOf (f n))
-    ∙ ap (over t 0) (sym (bytesOfAll-more (entries f n) (f n)))
+    let e : n * 4 ≡ length (entries f n) * 4 = omega (arith, length-entries f n) in
+    ap (λ (k : ℕ). over (overWords t (entries f n)) k (bytesOf (f n))) e ∙ over-words-append t (entries f n) (f n ∷ [])
 
 -- a word written so is read
 pub word-over : (f : ℕ → ℕ) (t : List ℕ) (n i : ℕ) → i < n → n * 4 ≤ length t → f i < 4294967296 → wordAt (overWords t (entries f n)) i ≡ f i
@@ -80,4 +67,4 @@ pub over-words-set : (t : List ℕ) (f : ℕ → ℕ) (n k v : ℕ) → k < n �
 unfolding setWord
 over-words-set t f n k v h =
     ap (over t 0) (bytesOfAll-set (entries f n) k v (omega (arith, length-entries f n)))
-    ∙ sym (over-front t (bytesOfAll (entries f n)) (k * 4) (bytesOf v) (omega (arith, length-bytesOfAll f n)))
+    ∙ sym (over-front t (bytesOfAll (entries f n)) (k * 4) (bytesOf v) (omega (arith, length-bytesOfAll (entries f n), length-entries f n)))

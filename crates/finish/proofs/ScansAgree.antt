@@ -8,7 +8,7 @@ use native.Mathlib.Omega.{arith}
 use lib.Dec.{eqb, leb}
 use lib.ListN.{length}
 use borrow.Author.Tests.{ne-eqb, lt-ltb}
-use Rattle.seqs.specs.Pick.{pick, orElse}
+use Rattle.seqs.specs.Pick.{pick, orElse, firstOf}
 use Rattle.seqs.proofs.Every.{all-of, every-append}
 use Rattle.seqs.proofs.Numbers.{lt-or-ge, eq-or-ne}
 use Rattle.seqs.proofs.Picking.{no-eq}
@@ -183,7 +183,7 @@ uses-more p (x ∷ us) u = rw (uses-more p us u) (sym (or-else-last (useRefusal 
 pub uses-refused : (p : Pooled) (uses labels : List ℕ) (count len n : ℕ) → p .labels ≡ tables.entries (wordAt labels) count → length (p .code) ≡ len
     → ((i : ℕ) → i < n → wordAt uses (i * useWords + 1) < count)
     → usesRefusal p (tables.entries (tables.useAt uses) n) ≡ checked.whyUses uses labels len n
-unfolding checked.whyUses checked.whyUnreached usesRefusal useRefusal
+unfolding checked.whyUses checked.whyUnreached usesRefusal useRefusal firstOf
 uses-refused p uses labels count len zero el ec known = refl
 uses-refused p uses labels count len (suc n) el ec known =
     uses-more p (tables.entries (tables.useAt uses) n) (tables.useAt uses n)

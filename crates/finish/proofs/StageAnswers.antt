@@ -11,10 +11,11 @@ use lib.ListN.{length, take, drop, replicate}
 use Rattle.refusals.specs.Numbers as refusals
 use Rattle.seqs.specs.Over.{over}
 use Rattle.seqs.specs.Pick.{first, orElse}
-use Rattle.seqs.proofs.Numbers.{lt-or-ge, eq-or-ne}
+use Rattle.seqs.proofs.Numbers.{eq-or-ne}
 use Rattle.seqs.proofs.Overwrites.{length-over}
 use Rattle.seqs.proofs.Picking.{no-eq, yes-eq, passed, neither}
-use Rattle.words.specs.Words.{wordAt}
+use Rattle.seqs.proofs.Scans.{each-none}
+use Rattle.words.specs.Words.{wordAt, overWords}
 use Rattle.fields.specs.declared.Decoded.{Decoded}
 use Rattle.fields.specs.declared.Decoded.the-variants.{Use, Unsupported, Unknown}
 use Rattle.fields.specs.Words64.{plus, minus, signExtend}
@@ -48,7 +49,7 @@ use Rattle.layout.proofs.Settled.{relaxed-entries, relaxed-settled, finished-pl
 use Rattle.finish.specs.declared.Outcome.{Outcome}
 use Rattle.seqs.specs.Every.{every}
 use Rattle.finish.specs.Refusals.{reachesBy, refReaches, whyNotLaid, whyNotWritten, whyNotInPlace}
-use Rattle.finish.specs.Finish.{refusedWith, overWords, relocated, settledSegments, relaxed}
+use Rattle.finish.specs.Finish.{refusedWith, relocated, settledSegments, relaxed}
 use Rattle.finish.specs.steps.Tables.{tablesPooled}
 use Rattle.finish.specs.steps.Ready.{Relaxable, Layable, codeWritten, endOfRuns, Writing, codeCopied, Copying, Keepable, kept}
 use Rattle.finish.proofs.ScansAgree.{refs-clear, uses-refused}
@@ -66,10 +67,7 @@ why-by len output e h = h ∙ ap (λ (t : Bool). first ((not t, refusals.refOutO
 -- no use is refused where the first refusal is none
 each-reached : (uses labels : List ℕ) (len n : ℕ) → whyUses uses labels len n ≡ 0 → (i : ℕ) → i < n → whyUnreached uses labels len i ≡ 0
 unfolding whyUses
-each-reached uses labels len zero h i k = absurd (omega arith)
-each-reached uses labels len (suc n) h i k =
-    let both = neither (whyUses uses labels len n) (whyUnreached uses labels len n) h in
-    ⊎-elim (λ (lt : i < n). each-reached uses labels len n (both .0) i lt) (λ ge. let e : i ≡ n = omega arith in rw e (both .1)) (lt-or-ge i n)
+each-reached uses labels len n h i k = each-none (whyUnreached uses labels len) n h i k
 
 field-within : (uses labels : List ℕ) (len i : ℕ) → whyUnreached uses labels len i ≡ 0 → wordAt uses (i * useWords) + sizeOf (decoded (wordAt uses (i * useWords + 2))) ≤ len
 unfolding whyUnreached

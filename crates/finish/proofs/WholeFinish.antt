@@ -14,7 +14,7 @@ use Rattle.seqs.proofs.Booleans.{both-false}
 use Rattle.seqs.proofs.Numbers.{lt-or-ge, eq-or-ne}
 use Rattle.seqs.proofs.Overwrites.{over-nil}
 use Rattle.seqs.proofs.Picking.{yes-eq, no-eq}
-use Rattle.words.specs.Words.{wordAt, setWord}
+use Rattle.words.specs.Words.{wordAt, setWord, overWords}
 use Rattle.relax.specs.declared.Segment.{Segment}
 use Rattle.buffer.specs.declared.CodeBuffer.{CodeBuffer}
 use Rattle.buffer.specs.State.{none}
@@ -29,7 +29,7 @@ use Rattle.pool.proofs.Pool.{length-poolBound, poolUnbound-poolBound, setWord-s
 use Rattle.finish.specs.declared.Outcome.{Outcome}
 use Rattle.finish.specs.declared.Finished.{Finished}
 use Rattle.finish.specs.Refusals.{allBound, whyNotLaid, whyNotWritten, whyNotInPlace, whyUnfit}
-use Rattle.finish.specs.Finish.{overWords, Left, refusedWith, relaxed, unrelaxed, finishedWith, unfinished, placedBy, finish}
+use Rattle.finish.specs.Finish.{Left, refusedWith, relaxed, unrelaxed, finishedWith, unfinished, placedBy, finish}
 use Rattle.finish.specs.steps.Ready.{Ready, Placeable, pooledOf, placedAs, concluded}
 use Rattle.finish.proofs.SoundRecording.{pool-distinct, offsets-small, pooled-is, alignment-is, ready}
 use Rattle.finish.proofs.FitOrRefused.{limits, asked-few, sound, Passed}

@@ -1,13 +1,13 @@
 -- What finish answers and leaves in everything that it is lent, for every input: document 01, "finish"; document 02, Request One, "The finished record
 -- gives ..".
-use mathlib.Core.List.{List, [], _∷_, _++_, map}
+use mathlib.Core.List.{List, map}
 use Prim.Native.Nat.{ℕ, zero, suc, _*_}
 use lib.Dec.{eqb}
 use lib.ListN.{length}
 use Rattle.refusals.specs.Numbers as refusals
 use Rattle.seqs.specs.Over.{over}
 use Rattle.seqs.specs.Pick.{pick}
-use Rattle.words.specs.Words.{bytesOf, wordAt, setWord}
+use Rattle.words.specs.Words.{wordAt, setWord, overWords}
 use Rattle.relax.specs.declared.Segment.{Segment}
 use Rattle.buffer.specs.declared.CodeBuffer.{CodeBuffer}
 use Rattle.buffer.specs.Tables.{relocWords}
@@ -22,14 +22,6 @@ use Rattle.fresh.specs.Forms.{moves}
 use Rattle.finish.specs.declared.Finished.{Finished}
 use Rattle.finish.specs.declared.Outcome.{Outcome}
 use Rattle.finish.specs.Refusals.{allBound, whyNotLaid, whyNotWritten, whyNotInPlace, whyUnfit}
-
--- a table of words, the first of them anew
-abbrev pub bytesOfAll : List ℕ → List ℕ
-bytesOfAll [] = []
-bytesOfAll (w ∷ ws) = bytesOf w ++ bytesOfAll ws
-
-abbrev pub overWords : List ℕ → List ℕ → List ℕ
-overWords table ws = over table 0 (bytesOfAll ws)
 
 -- the table of relocations, whose entries are six words, with each of the first n offsets mapped
 unfoldable pub relocated : (ℕ → ℕ) → List ℕ → ℕ → List ℕ

@@ -17,7 +17,7 @@ use Rattle.words.specs.Words.{wordAt, setWord}
 use Rattle.seqs.specs.Over.{over}
 use Rattle.seqs.proofs.Overwrites.{length-over}
 use Rattle.words.proofs.Laws.{length-setWord, wordAt-same, wordAt-before, wordAt-other}
-use Rattle.words.proofs.Entries.{Small, setWords, length-setWords, setWords-below, setWords-in}
+use Rattle.words.proofs.Entries.{Small, small-at, setWords, length-setWords, setWords-below, setWords-in}
 use Rattle.fields.specs.Kinds.{decoded, archX64}
 use Rattle.relax.proofs.Columns.{end-at}
 use Rattle.buffer.specs.declared.CodeBuffer.{CodeBuffer}
@@ -52,7 +52,7 @@ appended t u k vs e room small =
     record {
       size = ap length e ∙ length-setWords t k vs;
       below = λ j l. ap (λ (x : List ℕ). wordAt x j) e ∙ setWords-below t k vs j l;
-      written = λ i l. ap (λ (x : List ℕ). wordAt x (k + i)) e ∙ setWords-in t k vs room small i l;
+      written = λ i l. ap (λ (x : List ℕ). wordAt x (k + i)) e ∙ setWords-in t k vs room i l (small-at vs i small);
     }
 
 -- what is written after those words leaves them

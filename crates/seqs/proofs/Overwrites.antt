@@ -146,3 +146,7 @@ module _ {A : Type 0} where
       let e : 0 + suc (length ys) ≡ suc (0 + length ys) = omega arith in rw e (ap (λ (l : List A). y ∷ l) (take-over-end xs zero ys (omega arith)))
   take-over-end (x ∷ xs) (suc n) ys h =
       let e : suc n + length ys ≡ suc (n + length ys) = omega arith in rw e (ap (λ (l : List A). x ∷ l) (take-over-end xs n ys (omega arith)))
+
+  -- what was written over the front
+  pub take-over-front : (xs ys : List A) → length ys ≤ length xs → take (length ys) (over xs 0 ys) ≡ ys
+  take-over-front xs ys h = let e : 0 + length ys ≡ length ys = omega arith in rw e at (take-over-end xs 0 ys (omega arith))

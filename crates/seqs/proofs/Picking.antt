@@ -16,6 +16,11 @@ module _ {A : Type 0} where
   unfolding pick
   pick-no t x y e = rw e
 
+  pub pick-either : (P : A → Type 0) (t : Bool) (x y : A) → P x → P y → P (pick t x y)
+  unfolding pick
+  pick-either P true x y a b = a
+  pick-either P false x y a b = b
+
   pub yes-lt : (a b : ℕ) (x y : A) → a < b → pick (ltb a b) x y ≡ x
   yes-lt a b x y h = pick-yes (ltb a b) x y (lt-ltb a b h)
 

@@ -1,40 +1,15 @@
 -- Counts as lent bytes: what is written is read, and counts that a call hands back unchanged leave the bytes unchanged.
-use mathlib.Core.Path.{_≡_, refl, sym, ap, _∙_}
-use mathlib.Core.List.{List, [], _∷_}
-use Prim.Native.Nat.{ℕ, zero, suc, _+_, _*_, _≤_, _<_}
+use mathlib.Core.Path.{_≡_, sym, _∙_}
+use mathlib.Core.List.{List}
+use Prim.Native.Nat.{ℕ, _≤_, _<_}
 use native.Mathlib.Omega.{arith}
 use lib.ListN.{length, getD}
-use Rattle.words.specs.Words.{wordAt, setWord}
-use Rattle.words.proofs.Laws.{wordAt-same, wordAt-other, length-setWord}
-use Rattle.words.proofs.Entries.{setWords}
+use Rattle.words.specs.Words.{wordAt, overWords}
+use Rattle.words.proofs.Entries.{words-over, word-read}
 use Rattle.buffer.specs.declared.CodeBuffer.{CodeBuffer}
 use Rattle.recording.proofs.Words.{Words}
 use Rattle.pool.proofs.Pool.{setWord-same}
-use Rattle.finish.specs.Finish.{overWords}
 use Rattle.wargnifla.specs.Boundary.{countsSize, countsAt, countsOf}
-use Rattle.wargnifla.proofs.Crossing.{words-over}
-
--- words written from word k on leave the words before it
-words-before : (t : List ℕ) (k : ℕ) (vs : List ℕ) (j : ℕ) → j < k → wordAt (setWords t k vs) j ≡ wordAt t j
-words-before t k [] j h = refl
-words-before t k (v ∷ vs) j h = words-before (setWord t k v) (k + 1) vs j (omega arith) ∙ wordAt-other t k v j (λ e. omega arith)
-
--- and are read
-words-after : (t : List ℕ) (k : ℕ) (vs : List ℕ) (i : ℕ) → i < length vs → (k + length vs) * 4 ≤ length t → getD vs i 0 < 4294967296
-    → wordAt (setWords t k vs) (k + i) ≡ getD vs i 0
-words-after t k [] i h room small = absurd (omega arith)
-words-after t k (v ∷ vs) zero h room small =
-    let e : k + 0 ≡ k = omega arith in
-    rw e (words-before (setWord t k v) (k + 1) vs k (omega arith) ∙ wordAt-same t k v (omega arith) small)
-words-after t k (v ∷ vs) (suc i) h room small =
-    let e : k + suc i ≡ k + 1 + i = omega arith in
-    rw e (words-after (setWord t k v) (k + 1) vs i (omega arith) (omega (arith, length-setWord t k v)) small)
-
--- A word written over lent bytes is read from them.
-pub word-read : (t vs : List ℕ) (i : ℕ) → i < length vs → length vs * 4 ≤ length t → getD vs i 0 < 4294967296 → wordAt (overWords t vs) i ≡ getD vs i 0
-word-read t vs i h room small =
-    let e : 0 + i ≡ i = omega arith in
-    ap (λ (l : List ℕ). wordAt l i) (sym (words-over t 0 vs)) ∙ rw e at (words-after t 0 vs i h (omega arith) small)
 
 -- Counts that are words are read as they were written.
 pub counts-read : (t : List ℕ) (b : CodeBuffer) → countsSize ≤ length t → Words b → countsAt (overWords t (countsOf b)) ≡ b

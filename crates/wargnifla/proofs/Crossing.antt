@@ -2,13 +2,12 @@
 use mathlib.Core.Path.{_≡_, sym, ap, _∙_}
 use mathlib.Core.List.{List, [], _∷_}
 use Prim.Native.Nat.{ℕ, _+_, _*_, _≤_, _<_}
-use native.Mathlib.Omega.{arith}
 use lib.ListN.{length}
 use Rattle.seqs.specs.Over.{over}
-use Rattle.seqs.proofs.Overwrites.{over-nil, over-append}
+use Rattle.seqs.proofs.Overwrites.{over-append}
 use Rattle.seqs.proofs.Picking.{yes-lt, no-lt}
-use Rattle.words.specs.Words.{bytesOf, setWord}
-use Rattle.words.proofs.Entries.{setWords, four-words}
+use Rattle.words.specs.Words.{bytesOf, setWord, bytesOfAll, overWords}
+use Rattle.words.proofs.Entries.{four-words, words-over}
 use Rattle.relax.specs.declared.Segment.{Segment}
 use Rattle.buffer.specs.declared.CodeBuffer.{CodeBuffer}
 use Rattle.buffer.specs.declared.Recorded.{Recorded}
@@ -19,18 +18,8 @@ use Rattle.checks.specs.Lent.{recordingOf}
 use Rattle.finish.specs.declared.CodeBufferFinalized.{CodeBufferFinalized}
 use Rattle.finish.specs.declared.Finished.{Finished}
 use Rattle.finish.specs.Finish as finishing
-use Rattle.finish.specs.Finish.{bytesOfAll, overWords}
 use Rattle.sheet.specs.Run as sheets
 use Rattle.wargnifla.specs.Boundary.{Lent, countsAt, countsOf, recordOf, start, putBytes, addConstant, addReloc, lentOf, lentWith, runSheet, finish}
-
--- words written one after the other are their bytes over what was there
-pub words-over : (t : List ℕ) (k : ℕ) (vs : List ℕ) → setWords t k vs ≡ over t (k * 4) (bytesOfAll vs)
-unfolding setWord
-words-over t k [] = sym (over-nil t (k * 4))
-words-over t k (v ∷ vs) =
-    let e : (k + 1) * 4 ≡ k * 4 + 4 = omega arith in
-    words-over (setWord t k v) (k + 1) vs
-    ∙ (ap (λ (at : ℕ). over (over t (k * 4) (bytesOf v)) at (bytesOfAll vs)) e ∙ over-append t (k * 4) (bytesOf v) (bytesOfAll vs))
 
 -- bytes with four words written, and as they were after each of the first three
 pub record FourWritten (t : List ℕ) (k a b c d : ℕ) (one two three four : List ℕ) : Type 0 where

@@ -6,6 +6,7 @@ use native.Mathlib.Omega.{arith}
 use lib.ListN.{length}
 use Rattle.seqs.proofs.Picking.{no-lt}
 use Rattle.seqs.proofs.Overwrites.{length-over}
+use Rattle.words.specs.Words.{bytesOfAll, overWords}
 use Rattle.buffer.specs.Calls as calls
 use Rattle.recording.specs.Calls.{Recording, Word, Word64, Call, after, afterAll, begun}
 use Rattle.recording.specs.Calls as call
@@ -13,7 +14,6 @@ use Rattle.recording.specs.Sound.{Sound}
 use Rattle.recording.proofs.LongerTables.{keeps-growth}
 use Rattle.recording.proofs.Recordings.{keeps-sound, calls-sound, begun-sound}
 use Rattle.recording.proofs.Words.{Words, call-words, calls-words, start-words}
-use Rattle.finish.specs.Finish.{bytesOfAll, overWords}
 use Rattle.sheet.specs.Run as sheets
 use Rattle.sheet.proofs.Sheets.{sheet-makes-calls}
 use Rattle.wargnifla.specs.Boundary.{countsSize, countsAt, countsOf, Lent, lentOf, recordingIn, lentWith, start, putBytes, addConstant, addReloc, runSheet}

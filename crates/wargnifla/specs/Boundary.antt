@@ -7,7 +7,7 @@ use lib.Dec.{ltb}
 use lib.ListN.{length}
 use Rattle.refusals.specs.Numbers as refusals
 use Rattle.seqs.specs.Pick.{pick}
-use Rattle.words.specs.Words.{wordAt}
+use Rattle.words.specs.Words.{wordAt, overWords}
 use Rattle.relax.specs.declared.Segment.{Segment}
 use Rattle.buffer.specs.declared.CodeBuffer.{CodeBuffer}
 use Rattle.buffer.specs.State.{none}
@@ -15,7 +15,6 @@ use Rattle.buffer.specs.Calls as calls
 use Rattle.recording.specs.Calls.{Recording}
 use Rattle.finish.specs.declared.CodeBufferFinalized.{CodeBufferFinalized}
 use Rattle.finish.specs.Finish as finishing
-use Rattle.finish.specs.Finish.{overWords}
 use Rattle.sheet.specs.Run as sheets
 
 -- the bytes of counts, twelve words, and of a record, six

@@ -7,7 +7,7 @@ ghost use mathlib.Core.List.{[], _∷_};
 ghost use Prim.Native.Nat.{_+_, _*_, _≤_};
 ghost use lib.ListN.{length};
 ghost use Rattle.seqs.specs.Over.{over};
-ghost use Rattle.finish.specs.Finish.{bytesOfAll, overWords};
+ghost use Rattle.words.specs.Words.{bytesOfAll, overWords};
 ghost use Rattle.wargnifla.specs.Boundary.{countsAt, countsOf, recordOf, start, putBytes, addConstant, addReloc, lentOf, runSheet, finish, countsSize, recordSize};
 use buffer::CodeBuffer;
 use finish::CodeBufferFinalized;

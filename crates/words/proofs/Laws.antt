@@ -59,3 +59,8 @@ wordAt-other bytes k v j h =
     (λ lt. wordAt-before bytes (bytesOf v) (k * 4) j (omega arith))
     (λ ge. untouched bytes (bytesOf v) (k * 4) j (λ i l. getD-over-after bytes (k * 4) (bytesOf v) (j * 4 + i) 0 (omega arith)))
     (lt-or-ge j k)
+
+-- what is read of bytes is a word
+pub wordAt-small : (bytes : List ℕ) (k : ℕ) → ((i : ℕ) → getD bytes i 0 < 256) → wordAt bytes k < 4294967296
+unfolding wordAt
+wordAt-small bytes k small = omega (arith, small (k * 4), small (k * 4 + 1), small (k * 4 + 2), small (k * 4 + 3))

@@ -1,5 +1,5 @@
 -- Little-endian 32-bit words in a list of bytes (document 01: "Offsets and words are 32-bit, little-endian").
-use mathlib.Core.List.{List, [], _∷_}
+use mathlib.Core.List.{List, [], _∷_, _++_}
 use Prim.Native.Nat.{ℕ, _+_, _*_, _/_, _%_}
 use lib.ListN.{getD}
 use Rattle.seqs.specs.Over.{over}
@@ -19,3 +19,12 @@ wordAt bytes k =
 -- the bytes with v as word k
 unfoldable pub setWord : List ℕ → ℕ → ℕ → List ℕ
 setWord bytes k v = over bytes (k * 4) (bytesOf v)
+
+-- words as bytes, one after the other
+abbrev pub bytesOfAll : List ℕ → List ℕ
+bytesOfAll [] = []
+bytesOfAll (w ∷ ws) = bytesOf w ++ bytesOfAll ws
+
+-- a table with its first words anew
+abbrev pub overWords : List ℕ → List ℕ → List ℕ
+overWords table ws = over table 0 (bytesOfAll ws)

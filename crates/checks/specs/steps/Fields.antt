@@ -2,10 +2,10 @@
 -- table with the pool's labels bound, `len` the length of the pooled code.
 use mathlib.Core.Bool.{Bool, not, _&&_, _||_}
 use mathlib.Core.List.{List}
-use Prim.Native.Nat.{ℕ, zero, suc, _+_, _-_, _*_}
+use Prim.Native.Nat.{ℕ, _+_, _-_, _*_}
 use lib.Dec.{eqb, leb, ltb}
 use Rattle.refusals.specs.Numbers as refusals
-use Rattle.seqs.specs.Pick.{pick}
+use Rattle.seqs.specs.Pick.{pick, firstOf}
 use Rattle.words.specs.Words.{wordAt}
 use Rattle.fields.specs.Kinds.{decoded, sizeOf}
 use Rattle.fields.specs.Reach.{reachOf}
@@ -74,5 +74,4 @@ whyUnreached uses labels len i =
 
 -- "tried together for each use in order": the first refusal of the first n uses
 unfoldable pub whyUses : List ℕ → List ℕ → ℕ → ℕ → ℕ
-whyUses uses labels len zero = 0
-whyUses uses labels len (suc n) = pick (eqb (whyUses uses labels len n) 0) (whyUnreached uses labels len n) (whyUses uses labels len n)
+whyUses uses labels len n = firstOf (whyUnreached uses labels len) n
