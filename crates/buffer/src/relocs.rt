@@ -77,7 +77,8 @@ pub fn is_foreign_kind(kind: u32, arch: u32) -> bool
     true
 }
 
-fn put_reloc(relocs: &mut [u8], i: usize, offset: u32, kind: u32, target: u32, addend: u64)
+// Makes entry `i` of `relocs`.
+pub fn put_reloc(relocs: &mut [u8], i: usize, offset: u32, kind: u32, target: u32, addend: u64)
     requires { ⌜ i * relocSize + relocSize ≤ length (now relocs) ⌝ }
     ensures { λ _. ⌜ now (relocs .exit) ≡ setWord (setWord (setWord (setWord (setWord (setWord (now (relocs .entry)) (i * relocWords) offset) (i * relocWords + 1) kind) (i * relocWords + 2) target) (i * relocWords + 3) 0) (i * relocWords + 4) (addend % 4294967296)) (i * relocWords + 5) (addend / 4294967296) ⌝ }
 {
