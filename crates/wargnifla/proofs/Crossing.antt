@@ -18,8 +18,9 @@ use Rattle.checks.specs.Lent.{recordingOf}
 use Rattle.finish.specs.declared.CodeBufferFinalized.{CodeBufferFinalized}
 use Rattle.finish.specs.declared.Finished.{Finished}
 use Rattle.finish.specs.Finish as finishing
+use Rattle.elf.specs.Elf as elf
 use Rattle.sheet.specs.Run as sheets
-use Rattle.wargnifla.specs.Boundary.{Lent, countsAt, countsOf, recordOf, start, putBytes, addConstant, addReloc, lentOf, lentWith, runSheet, finish}
+use Rattle.wargnifla.specs.Boundary.{Lent, countsAt, countsOf, recordOf, recordAt, start, putBytes, addConstant, addReloc, lentOf, lentWith, runSheet, finish, writeRelas}
 
 -- bytes with four words written, and as they were after each of the first three
 pub record FourWritten (t : List ℕ) (k a b c d : ℕ) (one two three four : List ℕ) : Type 0 where
@@ -169,3 +170,14 @@ module _ (counts counts' : List ℕ) where
           (λ (x : Finished × finishing.Left). (x .0 .refusal, (overWords counts (countsOf (x .0 .buffer)), (x .1, overWords finalized (recordOf (x .0 .code))))))
           (e ∙ ap (λ (x : CodeBuffer). finishing.finish (recordingOf x code labels events uses refs constants asked relocs) segments output) r)
           ∙ sym (no-lt _ 24 _ _ s ∙ no-lt _ 48 _ _ h))
+
+-- relocations are written across the boundary: the record is read as `code`, and the call answers `a`
+module _ (finalized labels relocs : List ℕ) (section : ℕ) (output : List ℕ) where
+  pub relas-short : length finalized < 24 → (1, output) ≡ writeRelas finalized labels relocs section output
+  unfolding writeRelas
+  relas-short h = sym (yes-lt _ 24 _ _ h)
+
+  pub relas-cross : (code : CodeBufferFinalized) (a : ℕ × List ℕ) → 24 ≤ length finalized → code ≡ recordAt finalized
+      → a ≡ elf.writeRelas code labels relocs section output → a ≡ writeRelas finalized labels relocs section output
+  unfolding writeRelas
+  relas-cross code a h r e = e ∙ ap (λ (x : CodeBufferFinalized). elf.writeRelas x labels relocs section output) r ∙ sym (no-lt _ 24 _ _ h)

@@ -15,6 +15,7 @@ use Rattle.buffer.specs.Calls as calls
 use Rattle.recording.specs.Calls.{Recording}
 use Rattle.finish.specs.declared.CodeBufferFinalized.{CodeBufferFinalized}
 use Rattle.finish.specs.Finish as finishing
+use Rattle.elf.specs.Elf as elf
 use Rattle.sheet.specs.Run as sheets
 
 -- the bytes of counts, twelve words, and of a record, six
@@ -46,9 +47,20 @@ abbrev pub countsOf : CodeBuffer → List ℕ
 countsOf b =
     b .arch ∷ b .symbols ∷ b .finished ∷ b .refusal ∷ b .code ∷ b .labels ∷ b .events ∷ b .uses ∷ b .refs ∷ b .constants ∷ b .asked ∷ b .relocs ∷ []
 
--- the words of what finish reports
+-- the words of what finish reports, and the report that is lent as bytes
 abbrev pub recordOf : CodeBufferFinalized → List ℕ
 recordOf f = f .arch ∷ f .len ∷ f .alignment ∷ f .layouts ∷ f .labels ∷ f .relocs ∷ []
+
+abbrev pub recordAt : List ℕ → CodeBufferFinalized
+recordAt finalized =
+    record {
+      arch = wordAt finalized 0;
+      len = wordAt finalized 1;
+      alignment = wordAt finalized 2;
+      layouts = wordAt finalized 3;
+      labels = wordAt finalized 4;
+      relocs = wordAt finalized 5;
+    }
 
 -- fewer bytes than counts take
 abbrev pub tooShort : List ℕ → Bool
@@ -151,3 +163,12 @@ finish l segments output finalized =
     (pick (tooShort (l .counts))
     (refusals.malformed, (l .counts, (left, overWords finalized (0 ∷ 0 ∷ 0 ∷ 0 ∷ 0 ∷ 0 ∷ []))))
     (a .0 .refusal, (overWords (l .counts) (countsOf (a .0 .buffer)), (a .1, overWords finalized (recordOf (a .0 .code))))))
+
+-- the answer and the output
+unfoldable pub writeRelas : List ℕ → List ℕ → List ℕ → ℕ → List ℕ → ℕ × List ℕ
+writeRelas finalized labels relocs section output =
+    pick (ltb (length finalized) recordSize) (refusals.malformed, output) (elf.writeRelas (recordAt finalized) labels relocs section output)
+
+-- the answer and the table: no counts and no record cross the boundary
+abbrev pub readRelas : List ℕ → List ℕ → ℕ × List ℕ
+readRelas relas table = elf.readRelas relas table

@@ -8,7 +8,7 @@ ghost use Prim.Native.Nat.{_+_, _*_, _≤_};
 ghost use lib.ListN.{length};
 ghost use Rattle.seqs.specs.Over.{over};
 ghost use Rattle.words.specs.Words.{bytesOfAll, overWords};
-ghost use Rattle.wargnifla.specs.Boundary.{countsAt, countsOf, recordOf, start, putBytes, addConstant, addReloc, lentOf, runSheet, finish, countsSize, recordSize};
+ghost use Rattle.wargnifla.specs.Boundary.{countsAt, countsOf, recordOf, recordAt, start, putBytes, addConstant, addReloc, lentOf, runSheet, finish, writeRelas, readRelas, countsSize, recordSize};
 use buffer::CodeBuffer;
 use finish::CodeBufferFinalized;
 use relax::Segment;
@@ -73,6 +73,21 @@ fn put_record(finalized: &mut [u8], code: CodeBufferFinalized)
     );
     words::put_word(finalized, 4, code.labels);
     words::put_word(finalized, 5, code.relocs);
+}
+
+// The record that is lent.
+fn record_at(finalized: &[u8]) -> CodeBufferFinalized
+    requires { ⌜ recordSize ≤ length (now finalized) ⌝ }
+    ensures { λ r. ⌜ r ≡ recordAt (now (finalized .entry)) ⌝ }
+{
+    CodeBufferFinalized {
+        arch: words::word_at(finalized, 0),
+        len: words::word_at(finalized, 1),
+        alignment: words::word_at(finalized, 2),
+        layouts: words::word_at(finalized, 3),
+        labels: words::word_at(finalized, 4),
+        relocs: words::word_at(finalized, 5),
+    }
 }
 
 // What a refused finish reports.
@@ -237,4 +252,29 @@ pub extern "C" fn wargnifla_finish(
     let report = answer.code;
     put_record(finalized, report);
     answer.refusal
+}
+
+// Writes the relocations of a finished record as ELF's Elf64_Rela entries; a label target becomes the symbol `section`.
+#[no_mangle]
+pub extern "C" fn wargnifla_write_relas(
+    finalized: &[u8],
+    labels: &[u8],
+    relocs: &[u8],
+    section: u32,
+    output: &mut [u8],
+) -> u32
+    ensures { λ r. ⌜ (r, now (output .exit)) ≡ writeRelas (now (finalized .entry)) (now (labels .entry)) (now (relocs .entry)) section (now (output .entry)) ⌝ }
+{
+    if finalized.len() < RECORD_SIZE {
+        return refusals::MALFORMED;
+    }
+    elf::write_relas(record_at(finalized), labels, relocs, section, output)
+}
+
+// Takes such entries back to offset, type, symbol and addend.
+#[no_mangle]
+pub extern "C" fn wargnifla_read_relas(relas: &[u8], table: &mut [u8]) -> u32
+    ensures { λ r. ⌜ (r, now (table .exit)) ≡ readRelas (now (relas .entry)) (now (table .entry)) ⌝ }
+{
+    elf::read_relas(relas, table)
 }
