@@ -3,7 +3,7 @@ use mathlib.Core.Path.{_≡_, refl, sym, ap, _∙_, subst}
 use mathlib.Core.Logic.{_≢_}
 use mathlib.Core.Bool.{Bool, true, false, not}
 use mathlib.Core.List.{List, map}
-use Prim.Native.Nat.{ℕ, _≤_}
+use Prim.Native.Nat.{ℕ, _/_, _≤_}
 use native.Mathlib.Omega.{arith}
 use lib.Dec.{eqb, ltb}
 use lib.ListN.{length, take}
@@ -15,7 +15,7 @@ use Rattle.seqs.proofs.Picking.{pick-yes, pick-no, passed, neither}
 use Rattle.seqs.proofs.Overwrites.{take-over-front}
 use Rattle.words.specs.Words.{overWords}
 use Rattle.relax.specs.declared.Segment.{Segment}
-use Rattle.buffer.specs.Tables.{mostEntries, mostCode}
+use Rattle.buffer.specs.Tables.{mostEntries, mostCode, labelSize, relocSize}
 use Rattle.recording.specs.Calls.{Recording}
 use Rattle.recording.specs.Sound.{Sound}
 use Rattle.recording.specs.View.{view}
@@ -34,13 +34,15 @@ use Rattle.finish.specs.Refusals.{allBound, refClear, refReaches, whyNotLaid, w
 use Rattle.finish.specs.Finish.{Left, relaxed, unrelaxed, finishedWith, placedBy, finish}
 use Rattle.demands.specs.Demand2.{finishedCode}
 
--- a recording that is fit: its entries are those that recordings write, and the pooled code, the output and the table of segments are small
+-- a recording that is fit: its entries are those that recordings write, and the pooled code, the output and the tables are small
 pub record Fit (r : Recording) (ss : List Segment) (output : List ℕ) : Type 0 where
   pub sound : Sound r
   pub few : r .buffer .asked ≤ mostEntries
   pub small : length (pooled (r .buffer .arch) (view r) .code) ≤ mostCode
   pub room : length output ≤ mostCode
   pub segments : length ss ≤ mostEntries
+  pub labels : length (r .labels) / labelSize ≤ mostEntries
+  pub relocs : length (r .relocs) / relocSize ≤ mostEntries
 
 unfit-fit : (r : Recording) (ss : List Segment) (output : List ℕ) → whyUnfit r (length ss) (length output) ≡ 0 → Fit r ss output
 unfit-fit r ss output e =
@@ -52,6 +54,8 @@ unfit-fit r ss output e =
       small = omega (arith, pooled-ends r (sound r (length ss) (length output) (p .stood) (p .fit)) (asked-few r (length ss) (length output) (p .stood)), p .short);
       room = known .output-limit;
       segments = known .segments-limit;
+      labels = known .labels-limit;
+      relocs = known .relocs-limit;
     }
 
 -- a choice whose other side does not answer 0
@@ -144,6 +148,8 @@ pub record Answered (r : Recording) (ss : List Segment) (output : List ℕ) : Ty
       → Kept (pooled (r .buffer .arch) (view r)) (overWords (r .labels) (pooled (r .buffer .arch) (view r) .labels)) output (finishedCode r ss output)
       (finish r ss output .1 .0) (finish r ss output .0 .code .len)
   pub aligned : finish r ss output .0 .code .alignment ≡ codeAlignment (pooled (r .buffer .arch) (view r) .pool)
+  pub labels : finish r ss output .0 .code .labels ≡ r .buffer .labels
+  pub relocs : finish r ss output .0 .code .relocs ≡ r .buffer .relocs
 
 pub finish-answered : (r : Recording) (ss : List Segment) (output : List ℕ) → finish r ss output .0 .refusal ≡ 0 → Answered r ss output
 unfolding finish placedBy
@@ -177,4 +183,6 @@ finish-answered r ss output e =
           (sym (is ∙ ap (λ (x : Outcome × Left). (finishedWith b (codeAlignment (p .pool)) (x .0), x .1)) all))
           (unrelaxed-leaves p labels (r .relocs) ss output (subst (λ (x : Outcome × Left). x .0 .refusal ≡ 0) all zero));
       aligned = ap (λ (x : Finished × Left). x .0 .code .alignment) is;
+      labels = ap (λ (x : Finished × Left). x .0 .code .labels) is;
+      relocs = ap (λ (x : Finished × Left). x .0 .code .relocs) is;
     }

@@ -76,10 +76,10 @@ refused-c-finish-changes-nothing l ss output finalized small ne =
     ne
 
 -- what is left where the answer is 0: finish was called, and the record has room for what it reports
-record Called (l : Lent) (ss : List Segment) (output finalized : List ℕ) : Type 0 where
-  room : recordSize ≤ length finalized
-  zero : finishing.finish (recordingIn l) ss output .0 .refusal ≡ 0
-  is : finish l ss output finalized ≡ (
+pub record Called (l : Lent) (ss : List Segment) (output finalized : List ℕ) : Type 0 where
+  pub room : recordSize ≤ length finalized
+  pub zero : finishing.finish (recordingIn l) ss output .0 .refusal ≡ 0
+  pub is : finish l ss output finalized ≡ (
     finishing.finish (recordingIn l) ss output .0 .refusal,
     (
       overWords (l .counts) (countsOf (finishing.finish (recordingIn l) ss output .0 .buffer)),
@@ -87,7 +87,7 @@ record Called (l : Lent) (ss : List Segment) (output finalized : List ℕ) : Typ
     ),
   )
 
-c-finish-calls : (l : Lent) (ss : List Segment) (output finalized : List ℕ) → finish l ss output finalized .0 ≡ 0 → Called l ss output finalized
+pub c-finish-calls : (l : Lent) (ss : List Segment) (output finalized : List ℕ) → finish l ss output finalized .0 ≡ 0 → Called l ss output finalized
 unfolding finish
 c-finish-calls l ss output finalized e =
     let both = third (ltb (length finalized) recordSize) (tooShort (l .counts)) _ _ _ (λ z. omega arith) (λ z. omega arith) e in

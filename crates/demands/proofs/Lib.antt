@@ -17,5 +17,6 @@ pub mod Constants
 pub mod Example
 pub mod Demand1
 pub mod Boundary
+pub mod Relocations
 pub mod Claims
 pub mod Worked

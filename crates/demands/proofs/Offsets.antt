@@ -5,7 +5,7 @@ use mathlib.Core.Bool.{true, false}
 use mathlib.Core.List.{List, map}
 use Prim.Native.Nat.{ℕ, _*_, _≤_, _<_}
 use native.Mathlib.Omega.{arith}
-use lib.ListN.{length, getD}
+use lib.ListN.{length, getD, List·getD-map}
 use Rattle.seqs.proofs.Numbers.{eq-or-ne}
 use Rattle.seqs.proofs.Overwrites.{length-over}
 use Rattle.words.specs.Words.{wordAt, bytesOfAll, overWords}
@@ -18,6 +18,7 @@ use Rattle.fresh.specs.Pooled.{Pooled, pooled}
 use Rattle.fresh.specs.Fresh.{Choice, moved, target}
 use Rattle.fresh.specs.Rounds.{settled}
 use Rattle.fresh.specs.Forms.{moves}
+use Rattle.fresh.proofs.Tests.{split}
 use Rattle.fresh.proofs.Within.{moved-le}
 use Rattle.finish.specs.Finish.{finish}
 use Rattle.finish.proofs.MappedTables.{word-over, map-entries}
@@ -35,13 +36,16 @@ moved-none : (p : Pooled) (c : Choice) → moved p c none ≡ none
 unfolding moved
 moved-none p c = refl
 
+target-bound : (p : Pooled) (c : Choice) → Fitting p c → (l : ℕ) → getD (p .labels) l none ≢ none → target p c l < none
+target-bound p c fitting l bound =
+    let lies = fitting .formed .landed l bound in
+    omega (arith, fitting .small, moved-le p c (getD (p .labels) l none) (omega (arith, lies .0, fitting .recorded)))
+
 target-small : (p : Pooled) (c : Choice) → Fitting p c → (l : ℕ) → target p c l < 4294967296
 target-small p c fitting l =
     ⊎-elim
     (λ (e : getD (p .labels) l none ≡ none). omega (arith, ap (moved p c) e ∙ moved-none p c))
-    (λ (bound : getD (p .labels) l none ≢ none).
-    let lies = fitting .formed .landed l bound in
-    omega (arith, fitting .small, moved-le p c (getD (p .labels) l none) (omega (arith, lies .0, fitting .recorded))))
+    (λ (bound : getD (p .labels) l none ≢ none). omega (arith, target-bound p c fitting l bound))
     (eq-or-ne (getD (p .labels) l none) none)
 
 module _ (r : Recording) (ss : List Segment) (output : List ℕ) (e : finish r ss output .0 .refusal ≡ 0) where
@@ -85,3 +89,20 @@ module _ (r : Recording) (ss : List Segment) (output : List ℕ) (e : finish r s
       ap (λ (t : List ℕ). entries (wordAt t) count) (done .unmoved ∙ ap (overWords (r .labels)) (at .1))
       ∙ words-read (at .0) (r .labels) count (omega (arith, sound .labels .room)) small
       ∙ sym (at .1)
+
+  -- A label that was bound, by a call or by the pool, has an offset.
+  pub bound-left : (l : ℕ) → l < r .buffer .labels → getD (p .labels) l none ≢ none → wordAt (finish r ss output .1 .0) l ≢ none
+  bound-left l known bound none·left =
+      let at : getD left l none ≡ none = getD-entries (wordAt (finish r ss output .1 .0)) (r .buffer .labels) l none known ∙ none·left in
+      split (moves (p .events))
+      (λ jump.
+      let a = finish-answered r ss output e in
+      let sound = a .fit .sound in
+      let few = a .fit .few in
+      let c = settled p .choice in
+      let near = target-bound p c (fitting r sound few (x64 r sound few jump) (a .fit) (a .bound) (a .jumped jump)) l bound in
+      let goes : target p c l ≡ none =
+      sym (ap (λ (n : ℕ). getD (map (moved p c) (p .labels)) l n) (sym (moved-none p c)) ∙ List·getD-map (moved p c) (p .labels) l none)
+      ∙ (ap (λ (t : List ℕ). getD t l none) (sym (offsets-moved jump)) ∙ at) in
+      omega (arith, near, goes))
+      (λ stays. bound (ap (λ (t : List ℕ). getD t l none) (sym (offsets-kept stays)) ∙ at))

@@ -21,15 +21,21 @@ use Rattle.demands.specs.Constants.{Constants}
 abbrev pub Answer : Type 0
 Answer = ℕ × (List ℕ × (Left × List ℕ))
 
--- the output, the labels, and the record's words
+-- the output, the labels, the relocations, the record, and its words
 abbrev pub outputOf : Answer → List ℕ
 outputOf a = a .1 .1 .0 .1 .1 .1
 
 abbrev pub labelsOf : Answer → List ℕ
 labelsOf a = a .1 .1 .0 .0
 
+abbrev pub relocsOf : Answer → List ℕ
+relocsOf a = a .1 .1 .0 .1 .0
+
+abbrev pub recordIn : Answer → List ℕ
+recordIn a = a .1 .1 .1
+
 abbrev pub wordOf : Answer → ℕ → ℕ
-wordOf a k = wordAt (a .1 .1 .1) k
+wordOf a k = wordAt (recordIn a) k
 
 -- the finished code: as many bytes of the output as word 1 of the record says
 abbrev pub finishedCode : Answer → List ℕ
