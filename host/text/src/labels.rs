@@ -23,14 +23,14 @@ struct Named {
     place: Span,
 }
 
-/// Whether a word may be a label's name: a letter, `_` or `.`, then letters, digits, `_`, `.` and `$`.
+/// Whether a word may be the name of a label or symbol: a letter, `_` or `.`, then letters, digits, `_`, `.` and `$`.
 pub(crate) fn is_name(word: &str) -> bool {
     let first = |c: char| c.is_alphabetic() || matches!(c, '_' | '.');
     let other = |c: char| first(c) || c.is_numeric() || c == '$';
     word.starts_with(first) && word.chars().all(other)
 }
 
-/// A word that is to be a label's name.
+/// A word that is to be the name of a label or symbol.
 pub(crate) fn name<'a>(word: Token<'a>) -> Result<&'a str, TextError> {
     if is_name(word.text) {
         return Ok(word.text);

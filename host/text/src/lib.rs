@@ -17,6 +17,7 @@ mod placing;
 mod reader;
 mod shown;
 mod suggest;
+mod symbols;
 mod text_call;
 mod tokens;
 mod words;
@@ -38,7 +39,7 @@ pub use tokens::words_in;
 pub struct Script<C> {
     /// The architecture, if the text names one.
     pub arch: Option<Arch>,
-    /// The number of symbols, if the text names one.
+    /// The number of symbols, if the text says it or names them.
     pub symbols: Option<u32>,
     /// The calls, groups written out.
     pub calls: Vec<C>,
@@ -48,6 +49,8 @@ pub struct Script<C> {
     pub statements: Vec<Span>,
     /// The labels that have names, by number.
     pub names: Vec<(u32, String)>,
+    /// The symbols' names, by number from 0; none where the text counts its symbols.
+    pub symbol_names: Vec<String>,
 }
 
 impl<C> Script<C> {
@@ -94,6 +97,7 @@ pub fn read_text<C>(
         sources,
         statements: read.statements,
         names: read.names,
+        symbol_names: read.symbol_names,
     })
 }
 
@@ -176,7 +180,53 @@ mod tests {
         assert_eq!(lines(&script), [3]);
         fails("n\narch x64", 2, "before the first call");
         fails("arch mips", 1, "'mips'");
-        fails("symbols", 1, "COUNT");
+        fails("symbols", 1, "symbols takes COUNT or NAME ..");
+        fails("symbols 3 puts", 1, "and 2 words stand here");
+    }
+
+    #[test]
+    fn symbols_may_have_names() {
+        let text =
+            "symbols puts exit\nsymbols .x$1\no 1 4 exit -4; o 5 4 puts; o 9 1 .x$1; o 17 1 s0";
+        let script = read(text).unwrap();
+        assert_eq!(
+            script.calls,
+            calls("o 1 4 s1 -4; o 5 4 s0; o 9 1 s2; o 17 1 s0")
+        );
+        assert_eq!(script.symbols, Some(3));
+        assert_eq!(script.symbol_names, ["puts", "exit", ".x$1"]);
+        assert_eq!(script.names, []);
+        assert_eq!(calls("symbols puts; 2 ( o 1 4 puts )").len(), 2);
+        let counted = read("symbols 3").unwrap();
+        assert_eq!(counted.symbol_names, [""; 0]);
+    }
+
+    #[test]
+    fn names_of_symbols_are_given_once_and_to_no_label() {
+        let error = read("symbols a b\nsymbols c a").unwrap_err();
+        assert_eq!(error.sentence, "the symbol 'a' is named already");
+        assert_eq!(error.place.line, 2);
+        assert_eq!(error.notes[0].place.unwrap().line, 1);
+        fails("symbols a 9x", 1, "'9x' is no name");
+        fails("symbols s0", 1, "'s0' is a number's spelling");
+        fails("symbols l99999999999", 1, "is a number's spelling");
+        fails("symbols 3; symbols a", 1, "counted or named");
+        fails("symbols a\nsymbols 3", 2, "counted or named");
+        for label in [
+            "a:",
+            "label a",
+            "bind a",
+            "jmp a",
+            "use 0 a 0",
+            "c 01; constant-label 0 a",
+        ] {
+            let error = read(&format!("symbols a\n{label}")).unwrap_err();
+            assert!(error.sentence.starts_with("'a' is a symbol"), "{error}");
+            assert_eq!(
+                (error.place.line, error.notes[0].place.unwrap().line),
+                (2, 1)
+            );
+        }
     }
 
     #[test]

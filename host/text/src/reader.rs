@@ -1,7 +1,8 @@
 //! Statements and groups, read into steps.
 
 use crate::labels::{Labels, is_name, name as label_name};
-use crate::text_call::{Arguments, Step, long_word, mentioned_label, numbered_argument, read_step};
+use crate::symbols::Symbols;
+use crate::text_call::{Arguments, Step, long_word, mentioned_label, numbered_argument};
 use crate::tokens::{Token, tokens};
 use crate::words::{architecture, number, starts_number};
 use crate::{Arch, Call, Span, TextCall, TextError};
@@ -20,6 +21,7 @@ pub(crate) struct Steps {
     pub steps: Vec<(Step, u32)>,
     pub statements: Vec<Span>,
     pub names: Vec<(u32, String)>,
+    pub symbol_names: Vec<String>,
 }
 
 pub(crate) fn read_steps(text: &str) -> Result<Steps, TextError> {
@@ -27,7 +29,7 @@ pub(crate) fn read_steps(text: &str) -> Result<Steps, TextError> {
         tokens: tokens(text),
         at: 0,
         arch: None,
-        symbols: None,
+        symbols: Symbols::default(),
         steps: Vec::new(),
         statements: Vec::new(),
         labels: Labels::default(),
@@ -42,10 +44,11 @@ pub(crate) fn read_steps(text: &str) -> Result<Steps, TextError> {
     }
     Ok(Steps {
         arch: reader.arch,
-        symbols: reader.symbols,
+        symbols: reader.symbols.count(),
         steps: reader.steps,
         statements: reader.statements,
         names: reader.labels.names(),
+        symbol_names: reader.symbols.names(),
     })
 }
 
@@ -61,7 +64,7 @@ struct Reader<'a> {
     tokens: Vec<Token<'a>>,
     at: usize,
     arch: Option<Arch>,
-    symbols: Option<u32>,
+    symbols: Symbols<'a>,
     steps: Vec<(Step, u32)>,
     statements: Vec<Span>,
     labels: Labels<'a>,
@@ -196,18 +199,29 @@ impl<'a> Reader<'a> {
             let sentence = format!("'{}' stands before the first call only", name.text);
             return Err(name.error(sentence));
         }
-        let arguments = Arguments {
+        match words.first() {
+            Some(first) if name.text == "symbols" && !starts_number(first.text) => {
+                let mut names = words.iter();
+                names.try_for_each(|word| self.symbols.name_next(*word))
+            }
+            _ => {
+                let word = self.arguments(name, words).one()?;
+                if name.text == "symbols" {
+                    return self.symbols.set_count(word);
+                }
+                self.arch = Some(architecture(word)?);
+                Ok(())
+            }
+        }
+    }
+
+    fn arguments<'t>(&'t self, name: Token<'a>, words: &'t [Token<'a>]) -> Arguments<'t, 'a> {
+        Arguments {
             name,
             words,
             labels: &self.labels,
-        };
-        let word = arguments.one()?;
-        if name.text == "arch" {
-            self.arch = Some(architecture(word)?);
-        } else {
-            self.symbols = Some(number(word)?);
+            symbols: &self.symbols,
         }
-        Ok(())
     }
 
     fn call(
@@ -219,7 +233,7 @@ impl<'a> Reader<'a> {
         self.make_mentioned(name, words)?;
         self.numbered_targets.extend(numbered_argument(name, words));
         self.name_made(name, words, nesting)?;
-        let step = read_step(name, words, &self.labels)?;
+        let step = self.arguments(name, words).step()?;
         let last = words.last().unwrap_or(&name);
         self.push(step, name.place.to(last.place));
         Ok(())
@@ -240,12 +254,13 @@ impl<'a> Reader<'a> {
 
     /// Makes the label that a statement mentions, if it is named there for the first time.
     fn make_mentioned(&mut self, name: Token<'a>, words: &[Token<'a>]) -> Result<(), TextError> {
-        let Some(word) = mentioned_label(name, words) else {
+        let Some(word) = mentioned_label(name, words, &self.symbols) else {
             return Ok(());
         };
         if !is_name(word.text) || self.labels.knows(word.text) {
             return Ok(());
         }
+        self.symbols.check_label(word)?;
         self.labels.name_unwritten(word)?;
         self.push(call_step(Call::NewLabel), word.place);
         Ok(())
@@ -258,12 +273,7 @@ impl<'a> Reader<'a> {
         words: &[Token<'a>],
         nesting: usize,
     ) -> Result<(), TextError> {
-        let labels = &self.labels;
-        let arguments = Arguments {
-            name,
-            words,
-            labels,
-        };
+        let arguments = self.arguments(name, words);
         let (constant, given) = match long_word(name.text) {
             Some("label") => (None, arguments.perhaps_one()?),
             Some("constant-label") => {
@@ -280,6 +290,7 @@ impl<'a> Reader<'a> {
                             a label with a name is made before";
             return Err(given.error(sentence));
         }
+        self.symbols.check_label(given)?;
         match constant {
             Some(constant) => self.labels.name_of_constant(given, constant),
             None => self.labels.name_next(given),

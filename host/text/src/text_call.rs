@@ -2,10 +2,11 @@
 
 use crate::labels::Labels;
 use crate::suggest::nearest;
+use crate::symbols::Symbols;
 use crate::tokens::Token;
 use crate::words::{
-    LABEL_TARGET, bytes, condition, field_code, mnemonic, number, numbered_target, relocation_kind,
-    signed,
+    LABEL_TARGET, bytes, condition, field_code, is_numbered, mnemonic, number, numbered_target,
+    relocation_kind, signed,
 };
 use crate::{Call, Condition, TextError, counted};
 
@@ -72,7 +73,7 @@ const WORDS: [Word; 15] = [
     ),
     word("finish", "f", "no arguments", 0),
     word("arch", "arch", "one of x86, x64, aarch64", 1),
-    word("symbols", "symbols", "COUNT", 1),
+    word("symbols", "symbols", "COUNT or NAME ..", 1),
 ];
 
 /// The conditional jumps that stand for all others in what is suggested.
@@ -99,8 +100,12 @@ pub(crate) fn long_word(name: &str) -> Option<&'static str> {
     known_word(name).map(|word| word.long)
 }
 
-/// The label that a statement mentions, by number or name; nothing for a relocation's target that is spelled as a number.
-pub(crate) fn mentioned_label<'a>(name: Token<'a>, words: &[Token<'a>]) -> Option<Token<'a>> {
+/// The label that a statement mentions, by number or name; nothing for a relocation's target that is spelled as a number or is a symbol's name.
+pub(crate) fn mentioned_label<'a>(
+    name: Token<'a>,
+    words: &[Token<'a>],
+    symbols: &Symbols<'a>,
+) -> Option<Token<'a>> {
     if name.text.ends_with(':') {
         return Some(name.without_colon());
     }
@@ -108,13 +113,13 @@ pub(crate) fn mentioned_label<'a>(name: Token<'a>, words: &[Token<'a>]) -> Optio
         "bind" | "jmp" => words.first().copied(),
         "use" | "ref" => words.get(1).copied(),
         "jump" => words.get(2).copied(),
-        "relocation" => words.get(2).copied().filter(|word| !is_numbered(*word)),
+        "relocation" => {
+            let is_symbol = |word: Token<'_>| symbols.number_of(word.text).is_some();
+            let target = words.get(2).copied();
+            target.filter(|word| !is_numbered(*word) && !is_symbol(*word))
+        }
         _ => None,
     }
-}
-
-fn is_numbered(target: Token<'_>) -> bool {
-    !matches!(numbered_target(target), Ok(None))
 }
 
 /// A relocation's target that is spelled as a number.
@@ -122,30 +127,6 @@ pub(crate) fn numbered_argument<'a>(name: Token<'a>, words: &[Token<'a>]) -> Opt
     let is_relocation = long_word(name.text) == Some("relocation");
     let target = words.get(2).copied().filter(|word| is_numbered(*word));
     target.filter(|_| is_relocation)
-}
-
-/// What a name and its arguments say, or what is wrong with them.
-pub(crate) fn read_step(
-    name: Token<'_>,
-    words: &[Token<'_>],
-    labels: &Labels<'_>,
-) -> Result<Step, TextError> {
-    let arguments = Arguments {
-        name,
-        words,
-        labels,
-    };
-    let call = match long_word(name.text) {
-        Some("jmp") => return arguments.branch(),
-        Some("zeros") => TextCall::Zeros(number(arguments.one()?)?),
-        Some("finish") => {
-            arguments.none()?;
-            TextCall::Finish
-        }
-        Some(known) => TextCall::Call(arguments.call(known)?),
-        None => return Err(no_call(name)),
-    };
-    Ok(Step::Call(call))
 }
 
 pub(crate) fn no_call(name: Token<'_>) -> TextError {
@@ -161,9 +142,25 @@ pub(crate) struct Arguments<'t, 'a> {
     pub name: Token<'a>,
     pub words: &'t [Token<'a>],
     pub labels: &'t Labels<'a>,
+    pub symbols: &'t Symbols<'a>,
 }
 
 impl<'a> Arguments<'_, 'a> {
+    /// What the statement says, or what is wrong with it.
+    pub fn step(&self) -> Result<Step, TextError> {
+        let call = match long_word(self.name.text) {
+            Some("jmp") => return self.branch(),
+            Some("zeros") => TextCall::Zeros(number(self.one()?)?),
+            Some("finish") => {
+                self.none()?;
+                TextCall::Finish
+            }
+            Some(known) => TextCall::Call(self.call(known)?),
+            None => return Err(no_call(self.name)),
+        };
+        Ok(Step::Call(call))
+    }
+
     fn call(&self, name: &str) -> Result<Call, TextError> {
         match name {
             "label" => self.perhaps_one().map(|_| Call::NewLabel),
@@ -295,11 +292,14 @@ impl<'a> Arguments<'_, 'a> {
         match numbered_target(word)? {
             Some((0, symbol)) => Ok(symbol),
             Some((first, label)) => Ok(first + self.labels.written(word, label)?),
-            None if self.labels.knows(word.text) => Ok(LABEL_TARGET + self.label(word)?),
-            None => Err(word.error(format!(
-                "{} is no target: write s and a symbol's number, l and a label's, or a label's name",
-                word.quoted()
-            ))),
+            None => match self.symbols.number_of(word.text) {
+                Some(symbol) => Ok(symbol),
+                None if self.labels.knows(word.text) => Ok(LABEL_TARGET + self.label(word)?),
+                None => Err(word.error(format!(
+                    "{} is no target: write s and a symbol's number, l and a label's, or a name",
+                    word.quoted()
+                ))),
+            },
         }
     }
 }

@@ -124,6 +124,11 @@ pub(crate) fn numbered_target(word: Token<'_>) -> Result<Option<(u32, u32)>, Tex
     }
 }
 
+/// Whether a relocation's target is spelled as a number.
+pub(crate) fn is_numbered(target: Token<'_>) -> bool {
+    !matches!(numbered_target(target), Ok(None))
+}
+
 pub(crate) fn bytes(words: &[Token<'_>]) -> Result<Arc<[u8]>, TextError> {
     for word in words {
         if let Some(c) = word.text.chars().find(|c| !c.is_ascii_hexdigit()) {

@@ -1,0 +1,89 @@
+//! The symbols of a text: how many there are, or their names.
+
+use std::collections::HashMap;
+
+use crate::labels::name;
+use crate::tokens::Token;
+use crate::words::{is_numbered, number};
+use crate::{Span, TextError};
+
+/// The symbols that a text counts or names before its first call.
+#[derive(Default)]
+pub(crate) struct Symbols<'a> {
+    count: Option<u32>,
+    /// By number from 0.
+    named: Vec<Token<'a>>,
+    numbers: HashMap<&'a str, u32>,
+}
+
+impl<'a> Symbols<'a> {
+    /// Notes how many there are.
+    pub fn set_count(&mut self, word: Token<'a>) -> Result<(), TextError> {
+        self.count = Some(number(word)?);
+        self.check_form(word)
+    }
+
+    /// Names the next symbol.
+    pub fn name_next(&mut self, word: Token<'a>) -> Result<(), TextError> {
+        let name = name(word)?;
+        if is_numbered(word) {
+            return Err(word.error(format!(
+                "{} is a number's spelling in a relocation: give the symbol another name",
+                word.quoted()
+            )));
+        }
+        if let Some(place) = self.place(name) {
+            let sentence = format!("the symbol {} is named already", word.quoted());
+            return Err(word
+                .error(sentence)
+                .with_note(Some(place), "it is named here"));
+        }
+        self.numbers.insert(name, self.named.len() as u32);
+        self.named.push(word);
+        self.check_form(word)
+    }
+
+    fn check_form(&self, word: Token<'_>) -> Result<(), TextError> {
+        if self.count.is_some() && !self.named.is_empty() {
+            return Err(word.error("symbols are counted or named, and a text can't do both"));
+        }
+        Ok(())
+    }
+
+    /// A word that is to be a label's name, which no symbol may have.
+    pub fn check_label(&self, word: Token<'_>) -> Result<(), TextError> {
+        let Some(place) = self.place(word.text) else {
+            return Ok(());
+        };
+        let sentence = format!(
+            "{} is a symbol, and stands where a label is meant: give one of them another name",
+            word.quoted()
+        );
+        Err(word
+            .error(sentence)
+            .with_note(Some(place), "the symbol is named here"))
+    }
+
+    pub fn number_of(&self, name: &str) -> Option<u32> {
+        self.numbers.get(name).copied()
+    }
+
+    fn place(&self, name: &str) -> Option<Span> {
+        let number = self.number_of(name)?;
+        Some(self.named[number as usize].place)
+    }
+
+    /// How many there are, if the text says.
+    pub fn count(&self) -> Option<u32> {
+        match self.named.len() {
+            0 => self.count,
+            many => Some(many as u32),
+        }
+    }
+
+    /// Every name, by number.
+    pub fn names(&self) -> Vec<String> {
+        let names = self.named.iter();
+        names.map(|word| word.text.to_owned()).collect()
+    }
+}
