@@ -7,7 +7,7 @@ use crate::explain::{explain_call, explain_finish};
 use crate::ffi::Segment;
 use crate::finalized::CodeBufferFinalized;
 use crate::recording::{
-    AsmReloc, Constant, Label, LayoutEvent, Recording, RelaxableJump, RelocTarget,
+    AsmReloc, Constant, Label, LayoutEvent, Recording, RelaxableJump, RelocTarget, Sym,
     constant_alignment,
 };
 use crate::sheet::{Sheet, extended};
@@ -214,9 +214,24 @@ impl CodeBuffer {
         self.tables.label_offset(label).unwrap_or(UNBOUND)
     }
 
-    /// Gives a label a name, for refusals and listings; nothing else depends on it.
+    /// Gives a label a name, for refusals, listings and objects; nothing else depends on it.
     pub fn name_label(&mut self, label: Label, name: &str) {
         self.tables.names.insert(label, name);
+    }
+
+    /// Gives a symbol a name, likewise.
+    ///
+    /// ```
+    /// use wargnifla::{Arch, CodeBuffer, Reloc, RelocTarget, Sym};
+    ///
+    /// let mut buffer = CodeBuffer::with_symbols(Arch::X64, 1);
+    /// let puts = Sym::from_id(1);
+    /// buffer.name_symbol(puts, "puts");
+    /// let error = buffer.add_reloc(Reloc::X86CallPLTRel4, RelocTarget::Sym(puts), -4).unwrap_err();
+    /// assert_eq!(error.sentence(), "symbol puts is unknown: the recording has 1 symbol");
+    /// ```
+    pub fn name_symbol(&mut self, symbol: Sym, name: &str) {
+        self.tables.names.insert(symbol, name);
     }
 
     /// Binds a label to the current offset.

@@ -19,7 +19,7 @@ use input::Input;
 use options::{HELP, Options, Request};
 use rounds::RoundsReport;
 use wargnifla::{
-    CodeBuffer, CodeBufferFinalized, Label, Picture, Recording, Rounds, listing, record,
+    CodeBuffer, CodeBufferFinalized, Label, Picture, Recording, Rounds, Sym, listing, record,
     write_sheet,
 };
 
@@ -70,6 +70,9 @@ fn run(options: &Options) -> Result<(), Failure> {
     let mut buffer = CodeBuffer::with_symbols(input.arch, input.symbols);
     for (label, name) in &input.names {
         buffer.name_label(Label::from_id(*label), name);
+    }
+    for (symbol, name) in (0..).zip(&input.symbol_names) {
+        buffer.name_symbol(Sym::from_id(symbol), name);
     }
     input.record(&mut buffer)?;
     let mut recording = buffer.recording();

@@ -56,7 +56,7 @@ pub use finalized::CodeBufferFinalized;
 pub use listing::{Extent, Radix, Style, listing, record};
 pub use picture::Picture;
 pub use recording::{
-    AsmConstant, AsmFixup, AsmReloc, Constant, Label, LabelNames, LabelRef, LayoutEvent, Pooled,
+    AsmConstant, AsmFixup, AsmReloc, Constant, Label, LabelRef, LayoutEvent, Names, Pooled,
     PooledConstant, Recording, RelaxableJump, RelocTarget, Sym,
 };
 pub use refusal::Refusal;

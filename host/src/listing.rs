@@ -4,8 +4,7 @@ use std::fmt::Write;
 use std::ops::Range;
 
 use crate::recording::{
-    AsmReloc, Constant, Label, LabelNames, LayoutEvent, Pooled, Recording, RelaxableJump,
-    RelocTarget,
+    AsmReloc, Constant, Label, LayoutEvent, Names, Pooled, Recording, RelaxableJump,
 };
 use crate::relax::map;
 use crate::{
@@ -377,10 +376,7 @@ impl<'a> Texts<'a> {
     }
 
     fn relocation(&self, reloc: &AsmReloc) -> String {
-        let target = match reloc.target {
-            RelocTarget::Label(label) => self.recording.names.text(label),
-            RelocTarget::Sym(_) => reloc.target.to_string(),
-        };
+        let target = self.recording.names.text(reloc.target);
         let addend = match reloc.addend {
             0 => String::new(),
             addend => format!(", addend {addend}"),
@@ -402,7 +398,7 @@ fn bound_labels(finished: &CodeBufferFinalized) -> Vec<(usize, Label)> {
 
 struct Writer<'a> {
     data: &'a [u8],
-    names: &'a LabelNames,
+    names: &'a Names,
     labels: Vec<(usize, Label)>,
     next_label: usize,
     /// All bytes before it are listed.

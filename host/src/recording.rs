@@ -27,36 +27,40 @@ impl Label {
     }
 }
 
-/// The names of labels, for messages and listings.
+/// The names of labels and symbols, for messages, listings and objects.
 #[derive(Clone, Debug, Default, PartialEq, Eq)]
-pub struct LabelNames(BTreeMap<Label, String>);
+pub struct Names(BTreeMap<RelocTarget, String>);
 
-impl LabelNames {
-    /// Gives a label a name, or another one.
-    pub fn insert(&mut self, label: Label, name: &str) {
-        self.0.insert(label, name.into());
+impl Names {
+    /// Gives a label or symbol a name, or another one.
+    pub fn insert(&mut self, target: impl Into<RelocTarget>, name: &str) {
+        self.0.insert(target.into(), name.into());
     }
 
-    /// The name of a label, if it has one.
-    pub fn get(&self, label: Label) -> Option<&str> {
-        self.0.get(&label).map(String::as_str)
+    /// The name of a label or symbol, if it has one.
+    pub fn get(&self, target: impl Into<RelocTarget>) -> Option<&str> {
+        self.0.get(&target.into()).map(String::as_str)
     }
 
-    /// A label as messages have it: `label end`, or `label 0` where it has no name.
-    pub fn text(&self, label: Label) -> String {
-        match self.get(label) {
-            Some(name) => format!("label {}", shown(name)),
-            None => format!("label {}", label.id()),
+    /// A label or symbol as messages have it: `label end`, or `label 0` where it has no name.
+    pub fn text(&self, target: impl Into<RelocTarget>) -> String {
+        let target = target.into();
+        match self.get(target) {
+            Some(name) => format!("{} {}", target.noun(), shown(name)),
+            None => target.to_string(),
         }
     }
 
-    /// Whether no label has a name.
-    pub fn is_empty(&self) -> bool {
-        self.0.is_empty()
+    /// The labels that have names, by rising number.
+    pub fn labels(&self) -> impl Iterator<Item = (Label, &str)> {
+        self.0.iter().filter_map(|(target, name)| match target {
+            RelocTarget::Label(label) => Some((*label, name.as_str())),
+            RelocTarget::Sym(_) => None,
+        })
     }
 }
 
-/// A symbol, by its number; names stay with the caller.
+/// A symbol, by its number.
 #[derive(Clone, Copy, Debug, PartialEq, Eq, PartialOrd, Ord, Hash)]
 pub struct Sym(u32);
 
@@ -93,7 +97,7 @@ impl Constant {
 }
 
 /// What a relocation is about.
-#[derive(Clone, Copy, Debug, PartialEq, Eq, Hash)]
+#[derive(Clone, Copy, Debug, PartialEq, Eq, PartialOrd, Ord, Hash)]
 pub enum RelocTarget {
     /// A symbol.
     Sym(Sym),
@@ -121,14 +125,31 @@ impl RelocTarget {
             None => Self::Sym(Sym(word)),
         }
     }
+
+    const fn noun(self) -> &'static str {
+        match self {
+            Self::Sym(_) => "symbol",
+            Self::Label(_) => "label",
+        }
+    }
+}
+
+impl From<Sym> for RelocTarget {
+    fn from(symbol: Sym) -> Self {
+        Self::Sym(symbol)
+    }
+}
+
+impl From<Label> for RelocTarget {
+    fn from(label: Label) -> Self {
+        Self::Label(label)
+    }
 }
 
 impl std::fmt::Display for RelocTarget {
     fn fmt(&self, f: &mut std::fmt::Formatter<'_>) -> std::fmt::Result {
-        match self {
-            Self::Sym(Sym(id)) => write!(f, "symbol {id}"),
-            Self::Label(Label(id)) => write!(f, "label {id}"),
-        }
+        let (Self::Sym(Sym(id)) | Self::Label(Label(id))) = self;
+        write!(f, "{} {id}", self.noun())
     }
 }
 
@@ -306,8 +327,8 @@ pub struct Recording {
     pub asked: Vec<Constant>,
     /// Relocations.
     pub relocs: Vec<AsmReloc>,
-    /// The labels that have names.
-    pub names: LabelNames,
+    /// The labels and symbols that have names.
+    pub names: Names,
 }
 
 impl Recording {
@@ -480,7 +501,7 @@ mod tests {
             constants: vec![constant(4, 1), constant(33, 2), constant(9, 0)],
             asked: [2, 0, 1].map(Constant::from_id).into(),
             relocs: Vec::new(),
-            names: LabelNames::default(),
+            names: Names::default(),
         };
         let pooled = recording.pooled();
         assert_eq!(pooled.labels, [16, 32, 64]);

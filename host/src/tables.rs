@@ -2,7 +2,7 @@
 //! and never beyond. include/wargnifla.h says what their entries hold; here they are read.
 
 use crate::recording::{
-    AsmConstant, AsmFixup, AsmReloc, Constant, Label, LabelNames, LabelRef, LayoutEvent, Recording,
+    AsmConstant, AsmFixup, AsmReloc, Constant, Label, LabelRef, LayoutEvent, Names, Recording,
     RelaxableJump, RelocTarget,
 };
 use crate::{Arch, Condition, LabelUse, MOST_CODE, MOST_ENTRIES, Reloc};
@@ -134,7 +134,7 @@ pub(crate) struct Tables {
     pub asked: Table<4>,
     pub relocs: Table<24>,
     /// The host's own: no C function is lent them.
-    pub names: LabelNames,
+    pub names: Names,
 }
 
 impl Tables {
@@ -152,7 +152,7 @@ impl Tables {
             constants: Table::new(),
             asked: Table::new(),
             relocs: Table::new(),
-            names: LabelNames::default(),
+            names: Names::default(),
         }
     }
 

@@ -97,6 +97,33 @@ fn shows_relocations_and_unbound_labels() {
 }
 
 #[test]
+fn symbols_are_shown_by_name() {
+    let output = run(
+        &["-"],
+        b"symbols puts\nb E8; z 4\no 1 X86CallPLTRel4 puts -4\n",
+    );
+    let text = out(&output);
+    assert!(
+        text.contains("X86CallPLTRel4: symbol puts, addend -4\n"),
+        "{text}"
+    );
+    assert!(!text.contains("labels"), "{text}");
+    let output = run(&["--symbols", "0", "-"], b"symbols puts\no 0 Abs8 puts\n");
+    let sentence = "standard input:2: relocation: number 8, InvalidArgument: \
+                    symbol puts is unknown: the recording has 0 symbols
+    o 0 Abs8 puts
+             ^^^^";
+    fails(&output, 1, sentence);
+    let output = run(&["-"], b"symbols puts\nz 8; o 0 Abs8 put\n");
+    let sentence = "standard input:2: finish: number 15, UnboundLabel: \
+                    label put is not bound, and the relocation at 0 names it
+    z 8; o 0 Abs8 put
+                  ^^^
+note: did you mean 'puts'?";
+    fails(&output, 1, sentence);
+}
+
+#[test]
 fn long_tables_are_cut_unless_all_is_asked_for() {
     let brief = run(&["-"], b"100 ( n )");
     assert!(out(&brief).contains("... 84 more\n"), "{}", out(&brief));

@@ -23,6 +23,8 @@ pub struct Input {
     pub calls: Vec<Call>,
     /// The labels that have names, by number.
     pub names: Vec<(u32, String)>,
+    /// The symbols' names, by number from 0.
+    pub symbol_names: Vec<String>,
     source: Source,
     /// Whether option or sheet says the architecture.
     names_arch: bool,
@@ -54,6 +56,7 @@ impl Input {
                 .unwrap_or_else(|| symbols_named(&script.calls)),
             calls: script.calls,
             names: script.names,
+            symbol_names: script.symbol_names,
             source: Source::Text(TextSource {
                 text,
                 sources: script.sources,
@@ -72,6 +75,7 @@ impl Input {
             symbols: options.symbols.unwrap_or_else(|| symbols_named(&calls)),
             calls,
             names: Vec::new(),
+            symbol_names: Vec::new(),
             source: Source::Binary(bytes),
             names_arch: options.arch.is_some(),
         }
@@ -210,7 +214,7 @@ impl Input {
         ))
     }
 
-    /// A bound label with nearly the name of one that is not.
+    /// A bound label, or in a relocation a symbol, with nearly the name of a label that is not bound.
     fn meant_label(&self, call: usize, error: &Error, recording: &Recording) -> String {
         let (15, Source::Text(source)) = (error.number(), &self.source) else {
             return String::new();
@@ -221,9 +225,14 @@ impl Input {
             let offset = recording.labels.get(*label as usize);
             offset.is_some_and(|offset| *offset != UNBOUND)
         });
+        let symbols = match made {
+            Call::Relocation { .. } => &self.symbol_names[..],
+            _ => &[],
+        };
+        let meant = bound.map(|(_, name)| name).chain(symbols);
         let word = source.word(place);
         let is_name = self.names.iter().any(|(_, name)| name == word);
-        match nearest(word, bound.map(|(_, name)| name.as_str())) {
+        match nearest(word, meant.map(String::as_str)) {
             Some(near) if is_name => format!("\nnote: did you mean '{near}'?"),
             _ => String::new(),
         }

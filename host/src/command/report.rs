@@ -3,7 +3,7 @@
 use std::fmt::Write;
 
 use sheet_text::shown;
-use wargnifla::{CodeBufferFinalized, Extent, Label, Recording, RelocTarget, Style, UNBOUND};
+use wargnifla::{CodeBufferFinalized, Extent, Label, Recording, Style, UNBOUND};
 
 /// Lines that a table may have before it is cut.
 pub const MOST_LINES: usize = 32;
@@ -45,9 +45,9 @@ pub fn labels(recording: &Recording, finished: &CodeBufferFinalized, style: Styl
             format!("{label:>8}  {before:>8}  {after:>8}{name}")
         })
         .collect();
-    let name = match recording.names.is_empty() {
-        true => "",
-        false => "  name",
+    let name = match recording.names.labels().next() {
+        Some(_) => "  name",
+        None => "",
     };
     let head = format!("   label  recorded     final{name}");
     table("labels", &head, &lines, style.extent)
@@ -58,15 +58,12 @@ pub fn relocations(recording: &Recording, finished: &CodeBufferFinalized, style:
     let pairs = recording.relocs.iter().zip(finished.relocs());
     let lines: Vec<String> = pairs
         .map(|(recorded, settled)| {
-            let target = match settled.target {
-                RelocTarget::Label(label) => recording.names.text(label),
-                RelocTarget::Sym(_) => settled.target.to_string(),
-            };
             format!(
-                "{:>8}  {:>8}  {}: {target}, addend {}",
+                "{:>8}  {:>8}  {}: {}, addend {}",
                 style.offsets.text(recorded.offset),
                 style.offsets.text(settled.offset),
                 settled.kind,
+                recording.names.text(settled.target),
                 settled.addend
             )
         })

@@ -50,28 +50,24 @@ fn foreign_kind(tables: &Tables, call: &Call) -> Option<String> {
 }
 
 fn unknown_number(tables: &Tables, call: &Call) -> Option<String> {
-    let unknown_label = |label: u32| {
-        let labels = counted(tables.label_count(), "label");
-        let label = tables.names.text(Label::from_id(label));
-        format!("{label} is unknown: the recording has {labels}")
+    let unknown = |target: RelocTarget| {
+        let known = match target {
+            RelocTarget::Label(_) => counted(tables.label_count(), "label"),
+            RelocTarget::Sym(_) => counted(tables.counts.symbols() as usize, "symbol"),
+        };
+        let target = tables.names.text(target);
+        Some(format!("{target} is unknown: the recording has {known}"))
     };
     match call {
         Call::Bind(label)
         | Call::Use { label, .. }
         | Call::Ref { label, .. }
-        | Call::Jump { label, .. } => Some(unknown_label(*label)),
+        | Call::Jump { label, .. } => unknown(Label::from_id(*label).into()),
         Call::ConstantLabel(constant) => Some(format!(
             "constant {constant} is unknown: the recording has {}",
             counted(tables.constant_count(), "constant")
         )),
-        Call::Relocation { target, .. } => match RelocTarget::from_word(*target) {
-            RelocTarget::Label(label) => Some(unknown_label(label.id())),
-            RelocTarget::Sym(symbol) => Some(format!(
-                "symbol {} is unknown: the recording has {}",
-                symbol.id(),
-                counted(tables.counts.symbols() as usize, "symbol")
-            )),
-        },
+        Call::Relocation { target, .. } => unknown(RelocTarget::from_word(*target)),
         _ => None,
     }
 }

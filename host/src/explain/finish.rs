@@ -3,7 +3,7 @@
 use super::{NO_REASON, with_offsets};
 use crate::ffi::Segment;
 use crate::recording::{
-    AsmFixup, Label, LabelNames, LabelRef, LayoutEvent, Pooled, Recording, RelocTarget,
+    AsmFixup, Label, LabelRef, LayoutEvent, Names, Pooled, Recording, RelocTarget,
 };
 use crate::relax::map;
 use crate::{CodeOffset, Entry, LabelUse, Reach, UNBOUND};
@@ -179,7 +179,7 @@ fn past_end_use(field: &AsmFixup, pooled: &Pooled) -> Option<String> {
     (end > pooled.len.into()).then(|| past_code("use", start, size, pooled.len))
 }
 
-fn far_use(field: &AsmFixup, pooled: &Pooled, names: &LabelNames) -> Option<String> {
+fn far_use(field: &AsmFixup, pooled: &Pooled, names: &Names) -> Option<String> {
     let label = pooled.labels[field.label.id() as usize];
     let reach = field.kind.reach()?;
     let distance = i64::from(label) - i64::from(field.offset);

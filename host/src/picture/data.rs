@@ -5,7 +5,7 @@ use super::parts::place;
 use super::{Picture, Placed};
 use crate::ffi::Segment;
 use crate::listing::Radix;
-use crate::recording::{LabelNames, LayoutEvent};
+use crate::recording::{LayoutEvent, Names};
 use crate::rounds::{Change, Round, Rounds};
 use crate::{CodeOffset, Label, LabelUse, UNBOUND};
 use sheet_text::{counted, shown};
@@ -94,7 +94,7 @@ fn labels(picture: &Picture<'_>, placed: &Placed) -> String {
     }))
 }
 
-fn name(names: &LabelNames, label: u32) -> Option<String> {
+fn name(names: &Names, label: u32) -> Option<String> {
     let name = names.get(Label::from_id(label))?;
     Some(string(&shown(name)))
 }

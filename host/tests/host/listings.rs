@@ -1,12 +1,15 @@
 //! Listings: every byte once, and what it is.
 
-use wargnifla::{Arch, Extent, Label, Radix, Style, listing, read_text};
+use wargnifla::{Arch, Extent, Label, Radix, Style, Sym, listing, read_text};
 
 fn listed(arch: Arch, text: &str, style: impl Into<Style>) -> Vec<String> {
     let mut buffer = crate::recorded(arch, text).unwrap();
     let script = read_text(text).unwrap();
     for (label, name) in &script.names {
         buffer.name_label(Label::from_id(*label), name);
+    }
+    for (symbol, name) in (0..).zip(&script.symbol_names) {
+        buffer.name_symbol(Sym::from_id(symbol), name);
     }
     let mut recording = buffer.recording();
     let finished = buffer.finish().unwrap();
@@ -108,6 +111,18 @@ fn relocations_stand_in_their_place() {
         "      10                              relocation Abs8: label 0 (overlaps the row above)",
     ];
     assert_eq!(listed(Arch::X64, text, Extent::Brief), expected);
+}
+
+#[test]
+fn relocations_name_their_symbols() {
+    let text = "symbols puts exit; b E8; z 4; o 1 X86CallPLTRel4 exit -4; data: z 8; o 5 Abs8 data";
+    let lines = listed(Arch::X64, text, Extent::Brief);
+    let expected = [
+        "       1  00 00 00 00                 relocation X86CallPLTRel4: symbol exit, addend -4",
+        "       5                              label data",
+        "       5  00 00 00 00 00 00 00 00     relocation Abs8: label data",
+    ];
+    assert_eq!(lines[1..], expected);
 }
 
 #[test]
