@@ -611,7 +611,7 @@ impl CodeBuffer {
         let mut segments = vec![Segment::default(); self.most_segments()];
         let most = self.most_finished();
         match verified::finish(&mut self.tables, &mut segments, most) {
-            Ok((data, record)) => Ok(self.finalized(data, segments, &record)),
+            Ok((data, record)) => Ok(self.finalized(data, segments, record)),
             Err(number) => Err(self.refused_finish(number, &segments)),
         }
     }
@@ -647,17 +647,17 @@ impl CodeBuffer {
         &self,
         data: Vec<u8>,
         segments: Vec<Segment>,
-        record: &Record,
+        record: Record,
     ) -> CodeBufferFinalized {
         CodeBufferFinalized {
             arch: self.arch(),
             data,
             label_offsets: self.tables.labels().collect(),
             relocs: self.relocs(),
-            alignment: record.alignment(),
-            layouts: record.layouts(),
+            record,
             segments,
             unpatched: unpatched(&self.tables, &self.unread),
+            names: self.tables.names.clone(),
         }
     }
 

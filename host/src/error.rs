@@ -4,7 +4,7 @@ use std::fmt;
 
 use crate::Refusal;
 
-/// A refusal of document 01. Nothing that was recorded before is lost by one.
+/// A refusal of documents 01 and 02. Nothing that was recorded before is lost by one.
 #[derive(Clone, Debug, PartialEq, Eq)]
 pub struct Error {
     number: u32,
@@ -30,9 +30,13 @@ pub enum Place {
     },
     /// The finish of a recording.
     Finish,
+    /// The relocations of a finished recording, to be written as ELF.
+    WriteRelas,
+    /// The relocations of an ELF section, to be read.
+    ReadRelas,
 }
 
-/// The entry of a table that a finish was refused for.
+/// The entry of a table that a finish, or what is made of it, was refused for.
 #[derive(Clone, Copy, Debug, PartialEq, Eq)]
 pub enum Entry {
     /// An event, by its index: on X64, jumps and alignments in the order of recording.
@@ -61,7 +65,7 @@ impl Error {
         Self { entry, ..self }
     }
 
-    /// The refusal's number, 1 to 23.
+    /// The refusal's number, 1 to 26.
     #[must_use]
     pub fn number(&self) -> u32 {
         self.number
@@ -81,22 +85,23 @@ impl Error {
     /// ```
     #[must_use]
     pub fn refusal(&self) -> Refusal {
-        Refusal::from_number(self.number).expect("the functions answer numbers of document 01 only")
+        Refusal::from_number(self.number)
+            .expect("the functions answer numbers of documents 01 and 02 only")
     }
 
-    /// The refusal's name, asmkit's.
+    /// The refusal's name, asmkit's: of those that asmkit does not know, the name of their like.
     #[must_use]
     pub fn name(&self) -> &'static str {
         match self.number {
             1 | 5 | 8 | 10 | 17 | 19 => "InvalidArgument",
-            2 | 7 => "InvalidArch",
-            3 | 18 | 21 => "TooLarge",
+            2 | 7 | 24 => "InvalidArch",
+            3 | 18 | 21 | 25 => "TooLarge",
             4 | 9 | 13 => "InvalidState",
             6 | 20 | 22 => "UnsupportedInstruction",
             11 | 16 => "TooManyHandles",
-            12 | 14 | 23 => "OutOfMemory",
+            12 | 14 | 23 | 26 => "OutOfMemory",
             15 => "UnboundLabel",
-            _ => "unknown to document 01",
+            _ => "unknown to documents 01 and 02",
         }
     }
 
@@ -112,7 +117,7 @@ impl Error {
         &self.sentence
     }
 
-    /// The entry that a finish was refused for, where there is one.
+    /// The entry that a finish, or what is made of it, was refused for, where there is one.
     #[must_use]
     pub fn entry(&self) -> Option<Entry> {
         self.entry
@@ -130,6 +135,8 @@ impl fmt::Display for Place {
                 index: Some(index),
             } => write!(f, "call {index} ({name})"),
             Self::Finish => f.write_str("finish"),
+            Self::WriteRelas => f.write_str("write_relas"),
+            Self::ReadRelas => f.write_str("read_relas"),
         }
     }
 }
@@ -167,7 +174,7 @@ mod tests {
 
     #[test]
     fn every_number_has_a_name() {
-        for number in 1..=23 {
+        for number in 1..=26 {
             let error = Error::new(number, Place::Finish, String::new());
             assert!(error.name().chars().all(char::is_alphabetic), "{number}");
         }

@@ -1,11 +1,13 @@
-//! Why a call or a finish was turned down, with the values at hand. The verified library decides and gives a number; here its reason is looked for
+//! Why a call, a finish or what is made of one was turned down, with the values at hand. The verified library decides and gives a number; here its reason is looked for
 //! again, in the tables, to be put into words.
 
 mod calls;
 mod finish;
+mod relas;
 
 pub(crate) use calls::explain_call;
 pub(crate) use finish::explain_finish;
+pub(crate) use relas::{explain_read_relas, explain_write_relas};
 
 use crate::recording::LayoutEvent;
 

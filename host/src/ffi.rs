@@ -94,4 +94,23 @@ unsafe extern "C" {
         target: u32,
         addend: u64,
     ) -> u32;
+
+    pub fn wargnifla_write_relas(
+        record: *const u8,
+        record_len: usize,
+        labels: *const u8,
+        labels_len: usize,
+        relocs: *const u8,
+        relocs_len: usize,
+        section: u32,
+        output: *mut u8,
+        output_len: usize,
+    ) -> u32;
+
+    pub fn wargnifla_read_relas(
+        relas: *const u8,
+        relas_len: usize,
+        entries: *mut u8,
+        entries_len: usize,
+    ) -> u32;
 }

@@ -1,7 +1,8 @@
 //! What finish makes of a recording. After asmkit's core/buffer.rs (see NOTICE).
 
 use crate::ffi::Segment;
-use crate::recording::{AsmReloc, Label};
+use crate::recording::{AsmReloc, Label, Names};
+use crate::verified::Record;
 use crate::{Arch, CodeOffset, UNBOUND, Unpatched};
 
 /// A [`crate::CodeBuffer`] once finish has accepted it: the code and what goes with it.
@@ -11,10 +12,11 @@ pub struct CodeBufferFinalized {
     pub(crate) data: Vec<u8>,
     pub(crate) label_offsets: Vec<CodeOffset>,
     pub(crate) relocs: Vec<AsmReloc>,
-    pub(crate) alignment: u32,
-    pub(crate) layouts: u32,
+    pub(crate) record: Record,
     pub(crate) segments: Vec<Segment>,
     pub(crate) unpatched: Vec<Unpatched>,
+    /// Those that labels and symbols had at finish.
+    pub(crate) names: Names,
 }
 
 impl CodeBufferFinalized {
@@ -80,13 +82,13 @@ impl CodeBufferFinalized {
     /// [`AsmConstant::alignment`]: crate::AsmConstant::alignment
     #[must_use]
     pub fn alignment(&self) -> u32 {
-        self.alignment
+        self.record.alignment()
     }
 
     /// How many layouts finish made: the rounds of relaxation, 0 without a jump.
     #[must_use]
     pub fn layouts(&self) -> u32 {
-        self.layouts
+        self.record.layouts()
     }
 
     /// Where each event came to stand, those of the pool included; empty without a jump.

@@ -1,8 +1,8 @@
 //! A safe wrapper over Wargnifla, the verified code buffer.
 //!
 //! [`CodeBuffer`] owns the tables of a recording and lends them to the C functions of libwargnifla.a, which record calls and finish the code. Names
-//! are those of asmkit's core/buffer.rs (see NOTICE), of which the verified library is a port. A refusal is an [`Error`]: its number by document 01,
-//! its name ([`Refusal`]), and a sentence that says what is wrong and where. Buffers share nothing: threads may each have their own.
+//! are those of asmkit's core/buffer.rs (see NOTICE), of which the verified library is a port. A refusal is an [`Error`]: its number by documents 01
+//! and 02, its name ([`Refusal`]), and a sentence that says what is wrong and where. Buffers share nothing: threads may each have their own.
 //!
 //! ```
 //! use wargnifla::{Arch, CodeBuffer, RelaxableJump};
@@ -32,6 +32,7 @@ macro_rules! finish_stack {
 
 mod buffer;
 mod call;
+mod elf;
 mod error;
 mod explain;
 #[allow(missing_docs, unsafe_code)]
@@ -50,6 +51,7 @@ mod unpatched;
 mod verified;
 
 pub use buffer::CodeBuffer;
+pub use elf::{ElfType, Rela, read_relas};
 pub use error::{Entry, Error, Place};
 pub use ffi::Segment;
 pub use finalized::CodeBufferFinalized;

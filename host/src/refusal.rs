@@ -1,8 +1,8 @@
-//! The refusals of document 01, named.
+//! The refusals of documents 01 and 02, named.
 
 use std::fmt;
 
-/// Why something is refused: document 01's numbers, each with a name. include/wargnifla.h has the same ones.
+/// Why something is refused: the numbers of documents 01 and 02, each with a name. include/wargnifla.h has the same ones.
 ///
 /// Of a recording call [`UnsupportedUse`](Self::UnsupportedUse), [`ForeignKind`](Self::ForeignKind), [`UnknownNumber`](Self::UnknownNumber) (but for a
 /// bind), [`BadEntry`](Self::BadEntry), [`TableFull`](Self::TableFull) and [`CodeFull`](Self::CodeFull) end the recording, which then answers every
@@ -10,7 +10,7 @@ use std::fmt;
 #[derive(Clone, Copy, Debug, PartialEq, Eq, PartialOrd, Ord, Hash)]
 #[non_exhaustive]
 pub enum Refusal {
-    /// A sheet, code or kind breaks its form, or finish meets a table entry that no recording writes.
+    /// A sheet, code or kind breaks its form, as may ELF entries, or finish meets a table entry that no recording writes.
     Malformed = 1,
     /// Start names an architecture other than 1, 2, 6.
     UnknownArch,
@@ -31,7 +31,7 @@ pub enum Refusal {
     /// A jump doesn't end at the current offset, has a length outside 2 to 15 or a condition above 16, starts before the last event's end or holds a
     /// label strictly inside; a relocation's offset exceeds 16,777,215; a constant exceeds 64 bytes.
     BadEntry,
-    /// A table that the call must extend is full.
+    /// A table that the call must extend is full, or that ELF entries are read into is short.
     TableFull,
     /// Bytes or padding pass the end of the room for code.
     CodeFull,
@@ -57,11 +57,17 @@ pub enum Refusal {
     LabelTooFarBack,
     /// The finished code exceeds the output.
     OutputTooSmall,
+    /// Relocations are to be written as ELF for an architecture other than X64 and AArch64, or one has a kind without an ELF type there.
+    NoElfType,
+    /// The addend of a relocation against a label, plus the label's offset, passes signed 64 bits.
+    AddendOverflow,
+    /// The ELF entries exceed the output.
+    ElfOutputTooSmall,
 }
 
 impl Refusal {
     /// Every refusal, by rising number.
-    pub const ALL: [Self; 23] = [
+    pub const ALL: [Self; 26] = [
         Self::Malformed,
         Self::UnknownArch,
         Self::PastLimit,
@@ -85,9 +91,12 @@ impl Refusal {
         Self::LabelTooFarAhead,
         Self::LabelTooFarBack,
         Self::OutputTooSmall,
+        Self::NoElfType,
+        Self::AddendOverflow,
+        Self::ElfOutputTooSmall,
     ];
 
-    /// The refusal's number, 1 to 23.
+    /// The refusal's number, 1 to 26.
     #[must_use]
     pub const fn number(self) -> u32 {
         self as u32
@@ -99,7 +108,7 @@ impl Refusal {
     /// use wargnifla::Refusal;
     ///
     /// assert_eq!(Refusal::from_number(9), Some(Refusal::AlreadyBound));
-    /// assert_eq!(Refusal::from_number(24), None);
+    /// assert_eq!(Refusal::from_number(27), None);
     /// ```
     #[must_use]
     pub fn from_number(number: u32) -> Option<Self> {
@@ -120,9 +129,9 @@ mod tests {
     use super::*;
 
     #[test]
-    fn numbers_run_from_1_to_23() {
+    fn numbers_run_from_1_to_26() {
         let numbers = Refusal::ALL.map(Refusal::number);
-        assert!(numbers.into_iter().eq(1..=23));
+        assert!(numbers.into_iter().eq(1..=26));
         for refusal in Refusal::ALL {
             assert_eq!(Refusal::from_number(refusal.number()), Some(refusal));
         }

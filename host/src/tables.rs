@@ -69,6 +69,9 @@ impl TableName {
 /// The bytes that a table has at the least, once it has any: enough for a small rule, so that its tables are allocated once.
 const FIRST_BYTES: usize = 512;
 
+/// The bytes of a relocation's entry.
+pub(crate) const RELOC_BYTES: usize = 24;
+
 /// A table: whole entries of a size, of which a recording counts the first ones as its own, up to a limit.
 pub(crate) struct Table<const SIZE: usize, const MOST: usize = MOST_ENTRIES> {
     pub bytes: Vec<u8>,
@@ -132,7 +135,7 @@ pub(crate) struct Tables {
     pub refs: Table<16>,
     pub constants: Table<72>,
     pub asked: Table<4>,
-    pub relocs: Table<24>,
+    pub relocs: Table<RELOC_BYTES>,
     /// The host's own: no C function is lent them.
     pub names: Names,
 }
@@ -289,12 +292,34 @@ impl Tables {
                 offset: word(entry, 0),
                 kind: Reloc::from_number(word(entry, 1)).expect("recordings keep known kinds only"),
                 target: RelocTarget::from_word(word(entry, 2)),
-                addend: i64::from_le_bytes(entry[16..24].try_into().expect("eight bytes")),
+                addend: reloc_addend(entry),
             })
     }
 }
 
-fn word(bytes: &[u8], index: usize) -> u32 {
+/// A table of labels, from their offsets.
+pub(crate) fn label_entries(offsets: &[u32]) -> Vec<u8> {
+    let words = offsets.iter().map(|offset| offset.to_le_bytes());
+    words.flatten().collect()
+}
+
+/// A table of relocations.
+pub(crate) fn reloc_entries(relocs: &[AsmReloc]) -> Vec<u8> {
+    let mut entries = Vec::with_capacity(relocs.len() * RELOC_BYTES);
+    for reloc in relocs {
+        let words = [reloc.offset, reloc.kind.number(), reloc.target.to_word(), 0];
+        entries.extend(words.iter().flat_map(|word| word.to_le_bytes()));
+        entries.extend(reloc.addend.to_le_bytes());
+    }
+    entries
+}
+
+/// The addend in a relocation's entry.
+pub(crate) fn reloc_addend(entry: &[u8]) -> i64 {
+    i64::from_le_bytes(entry[16..24].try_into().expect("eight bytes"))
+}
+
+pub(crate) fn word(bytes: &[u8], index: usize) -> u32 {
     let at = 4 * index;
     u32::from_le_bytes(bytes[at..at + 4].try_into().expect("four bytes"))
 }

@@ -5,10 +5,15 @@
 
 #![allow(unsafe_code)]
 
+use crate::MOST_ENTRIES;
 use crate::ffi::{self, Segment};
-use crate::tables::{Counts, Tables};
+use crate::tables::{Counts, RELOC_BYTES, Tables};
+
+/// The bytes of an `Elf64_Rela` entry.
+pub(crate) const RELA_BYTES: usize = 24;
 
 /// What finish reports: 6 words.
+#[derive(Clone, Debug, PartialEq, Eq)]
 pub(crate) struct Record([u8; 24]);
 
 impl Record {
@@ -27,6 +32,10 @@ impl Record {
 
     pub fn layouts(&self) -> u32 {
         self.word(3)
+    }
+
+    fn reloc_count(&self) -> usize {
+        self.word(5) as usize
     }
 }
 
@@ -179,5 +188,52 @@ pub(crate) fn add_reloc(
             target,
             addend.cast_unsigned(),
         )
+    }
+}
+
+/// Writes what finish left of relocations as `Elf64_Rela` entries: their bytes, or the number of a refusal.
+pub(crate) fn write_relas(
+    record: &Record,
+    labels: &[u8],
+    relocs: &[u8],
+    section: u32,
+) -> Result<Vec<u8>, u32> {
+    let mut output = vec![0; record.reloc_count() * RELA_BYTES];
+    // SAFETY: every pointer and length are those of one slice; `output` is borrowed mutably, and what is only read overlaps it nowhere.
+    let number = unsafe {
+        ffi::wargnifla_write_relas(
+            record.0.as_ptr(),
+            record.0.len(),
+            labels.as_ptr(),
+            labels.len(),
+            relocs.as_ptr(),
+            relocs.len(),
+            section,
+            output.as_mut_ptr(),
+            output.len(),
+        )
+    };
+    match number {
+        0 => Ok(output),
+        _ => Err(number),
+    }
+}
+
+/// Reads `Elf64_Rela` entries: their table, with the type in the place of the kind, or the number of a refusal.
+pub(crate) fn read_relas(relas: &[u8]) -> Result<Vec<u8>, u32> {
+    let count = MOST_ENTRIES.min(relas.len() / RELA_BYTES);
+    let mut entries = vec![0; count * RELOC_BYTES];
+    // SAFETY: every pointer and length are those of one slice; `entries` is borrowed mutably, and `relas` overlaps it nowhere.
+    let number = unsafe {
+        ffi::wargnifla_read_relas(
+            relas.as_ptr(),
+            relas.len(),
+            entries.as_mut_ptr(),
+            entries.len(),
+        )
+    };
+    match number {
+        0 => Ok(entries),
+        _ => Err(number),
     }
 }

@@ -30,7 +30,7 @@ pub(crate) fn explain_finish(
     found.unwrap_or_else(|| (NO_REASON.into(), None))
 }
 
-type Found = Option<(String, Option<Entry>)>;
+pub(super) type Found = Option<(String, Option<Entry>)>;
 
 fn bound_constant(recording: &Recording) -> Found {
     recording.asked.iter().enumerate().find_map(|(i, number)| {

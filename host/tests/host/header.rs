@@ -2,7 +2,7 @@
 
 use std::fmt::Debug;
 
-use wargnifla::{Arch, AsmConstant, Call, LabelUse, Refusal, Reloc};
+use wargnifla::{Arch, AsmConstant, Call, ElfType, LabelUse, Refusal, Reloc};
 
 const HEADER: &str = include_str!("../../../include/wargnifla.h");
 
@@ -79,6 +79,14 @@ fn kinds_of_field_and_relocation() {
     assert_eq!(
         enumerators("wargnifla_reloc", "WARGNIFLA_RELOC_"),
         named(&Reloc::ALL, Reloc::number)
+    );
+}
+
+#[test]
+fn elf_types() {
+    assert_eq!(
+        enumerators("wargnifla_elf_type", "WARGNIFLA_"),
+        named(&ElfType::ALL, ElfType::number)
     );
 }
 

@@ -3,12 +3,14 @@
 mod bound;
 mod cases;
 mod differences;
+mod elf_types;
 mod header;
 mod limits;
 mod listings;
 mod pools;
 mod random;
 mod refusals;
+mod relas;
 mod sheets;
 mod threads;
 mod unpatched;
