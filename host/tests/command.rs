@@ -87,12 +87,13 @@ finished for X64: 138 bytes, alignment 32, layouts 3, long jumps 2 of 2
 
 #[test]
 fn shows_relocations_and_unbound_labels() {
-    let output = run(&["-"], b"n; o 3 Abs8 s1 -7; z 9");
+    let output = run(&["-"], b"n; o 3 Abs8 s1 -7; z 9; o 5 X86SecRel s0");
     let text = out(&output);
     assert!(text.contains("\n       0   unbound   unbound\n"), "{text}");
-    let relocation =
-        "\nrelocations\nrecorded     final  what\n       3         3  Abs8: symbol 1, addend -7\n";
-    assert!(text.contains(relocation), "{text}");
+    let relocations = "\nrelocations\nrecorded     final  what\n\
+                       \x20      3         3  Abs8 (R_X86_64_64): symbol 1, addend -7\n\
+                       \x20      5         5  X86SecRel: symbol 0, addend 0\n";
+    assert!(text.contains(relocations), "{text}");
     assert!(!text.contains("rounds"), "{text}");
 }
 
@@ -104,7 +105,7 @@ fn symbols_are_shown_by_name() {
     );
     let text = out(&output);
     assert!(
-        text.contains("X86CallPLTRel4: symbol puts, addend -4\n"),
+        text.contains("relocation X86CallPLTRel4: symbol puts, addend -4\n"),
         "{text}"
     );
     assert!(!text.contains("labels"), "{text}");

@@ -3,7 +3,7 @@
 use std::fmt::Write;
 
 use sheet_text::shown;
-use wargnifla::{CodeBufferFinalized, Extent, Label, Recording, Style, UNBOUND};
+use wargnifla::{CodeBufferFinalized, ElfType, Extent, Label, Recording, Style, UNBOUND};
 
 /// Lines that a table may have before it is cut.
 pub const MOST_LINES: usize = 32;
@@ -53,13 +53,15 @@ pub fn labels(recording: &Recording, finished: &CodeBufferFinalized, style: Styl
     table("labels", &head, &lines, style.extent)
 }
 
-/// Where each relocation was recorded and where it came to stand.
+/// Where each relocation was recorded and where it came to stand, and its ELF type if it has one.
 pub fn relocations(recording: &Recording, finished: &CodeBufferFinalized, style: Style) -> String {
     let pairs = recording.relocs.iter().zip(finished.relocs());
     let lines: Vec<String> = pairs
         .map(|(recorded, settled)| {
+            let elf_type = ElfType::of(recording.arch, settled.kind);
+            let elf_type = elf_type.map_or(String::new(), |ty| format!(" ({ty})"));
             format!(
-                "{:>8}  {:>8}  {}: {}, addend {}",
+                "{:>8}  {:>8}  {}{elf_type}: {}, addend {}",
                 style.offsets.text(recorded.offset),
                 style.offsets.text(settled.offset),
                 settled.kind,
