@@ -7,7 +7,7 @@ use crate::explain::{explain_call, explain_finish};
 use crate::ffi::Segment;
 use crate::finalized::CodeBufferFinalized;
 use crate::recording::{
-    AsmReloc, Constant, Label, LayoutEvent, Recording, RelaxableJump, RelocTarget, Sym,
+    AsmFixup, AsmReloc, Constant, Label, LayoutEvent, Recording, RelaxableJump, RelocTarget, Sym,
     constant_alignment,
 };
 use crate::sheet::{Sheet, extended};
@@ -658,7 +658,14 @@ impl CodeBuffer {
             segments,
             unpatched: unpatched(&self.tables, &self.unread),
             names: self.tables.names.clone(),
+            has_page_fields: self.has_page_fields(),
         }
+    }
+
+    fn has_page_fields(&self) -> bool {
+        let is_page_field =
+            |field: AsmFixup| matches!(field.kind, LabelUse::A64Adrp21 | LabelUse::A64AddAbsLo12);
+        self.arch() == Arch::AArch64 && self.tables.uses().any(is_page_field)
     }
 
     fn refused_finish(&self, number: u32, segments: &[Segment]) -> Error {

@@ -1,7 +1,9 @@
-//! Relocations for the system linker: `Elf64_Rela` entries, which the verified library writes and reads.
+//! Relocations for the system linker: `Elf64_Rela` entries, which the verified library writes and reads, and objects with them.
 
+mod object;
 mod types;
 
+pub use object::ObjectError;
 pub use types::ElfType;
 
 use crate::explain::{explain_read_relas, explain_write_relas};

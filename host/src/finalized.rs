@@ -17,6 +17,8 @@ pub struct CodeBufferFinalized {
     pub(crate) unpatched: Vec<Unpatched>,
     /// Those that labels and symbols had at finish.
     pub(crate) names: Names,
+    /// Whether a field holds pages of its label: that of an ADRP, or of the ADD after one.
+    pub(crate) has_page_fields: bool,
 }
 
 impl CodeBufferFinalized {

@@ -51,7 +51,7 @@ mod unpatched;
 mod verified;
 
 pub use buffer::CodeBuffer;
-pub use elf::{ElfType, Rela, read_relas};
+pub use elf::{ElfType, ObjectError, Rela, read_relas};
 pub use error::{Entry, Error, Place};
 pub use ffi::Segment;
 pub use finalized::CodeBufferFinalized;
