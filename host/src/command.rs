@@ -133,6 +133,13 @@ fn shown(
 }
 
 fn write_files(options: &Options, input: &Input, picture: &Picture<'_>) -> Result<(), Failure> {
+    let finished = picture.finished;
+    let object = match &options.object {
+        Some(_) => finished
+            .object()
+            .map_err(|error| input.no_object(&error, picture.recording))?,
+        None => Vec::new(),
+    };
     let sheet = match &options.write_sheet {
         Some(_) => write_sheet(&input.calls).map_err(|error| input.unwritable(&error))?,
         None => Vec::new(),
@@ -141,7 +148,7 @@ fn write_files(options: &Options, input: &Input, picture: &Picture<'_>) -> Resul
         Some(_) => picture.page(),
         None => String::new(),
     };
-    let contents = [picture.finished.data(), &sheet, page.as_bytes()];
+    let contents = [finished.data(), &object, &sheet, page.as_bytes()];
     let outputs: Vec<(&Path, &[u8])> = options
         .outputs()
         .into_iter()

@@ -148,6 +148,70 @@ fn writes_the_code() {
     assert_eq!(code, [0xEB, 6, 0x66, 0x0F, 0x1F, 0x44, 0, 0]);
 }
 
+/// A rule that goes to a function of another file.
+const CALLER: &[u8] =
+    b"symbols puts\nrule: bytes E9 00 00 00 00\nrelocation 1 X86CallPLTRel4 puts -4\n";
+
+#[test]
+fn writes_an_object() {
+    let file = path("rule.o");
+    let output = run(&["--object", file.to_str().unwrap(), "-"], CALLER);
+    assert_eq!(output.status.code(), Some(0), "{}", err(&output));
+    assert!(out(&output).contains("finished for X64: 5 bytes"));
+    let object = fs::read(&file).unwrap();
+    assert_eq!(object[..4], *b"\x7fELF");
+    let names = b"\0puts\0rule\0";
+    assert!(object.windows(names.len()).any(|bytes| bytes == names));
+    let output = run(&["--object", "-", "-"], CALLER);
+    assert_eq!(output.stdout, object);
+    assert_eq!(err(&output), "");
+    let code = path("rule.bin");
+    let output = run(
+        &["-o", code.to_str().unwrap(), "--object", "-", "-"],
+        CALLER,
+    );
+    assert_eq!(output.stdout, object);
+    assert_eq!(fs::read(code).unwrap(), [0xE9, 0, 0, 0, 0]);
+}
+
+#[test]
+fn what_no_object_holds_names_its_line_and_leaves_no_file() {
+    let (code, object) = (path("no-object.bin"), path("no-object.o"));
+    let arguments = [
+        "-o",
+        code.to_str().unwrap(),
+        "--object",
+        object.to_str().unwrap(),
+        "-",
+    ];
+    let refused = |text: &[u8], status, sentence| {
+        fails(&run(&arguments, text), status, sentence);
+        assert!(!code.exists() && !object.exists());
+    };
+    let sentence = "standard input:2: write_relas: number 24, InvalidArch: \
+                    relocation 1, at 8, is of kind X86SecRel, which has no ELF type on X64
+    o 0 Abs8 s0; o 8 X86SecRel s0
+                     ^^^^^^^^^";
+    refused(b"z 12\no 0 Abs8 s0; o 8 X86SecRel s0", 1, sentence);
+    let sentence = "standard input:3: write_relas: number 25, TooLarge: \
+                    relocation 0, at 0, has the addend 9223372036854775807, and with label end at 8 it passes 9223372036854775807
+    o 0 Abs8 end 9223372036854775807
+                 ^^^^^^^^^^^^^^^^^^^
+standard input:2: note: label end is bound here
+    end:
+    ^^^^";
+    refused(b"z 8\nend:\no 0 Abs8 end 9223372036854775807", 1, sentence);
+    let sentence = "standard input: write_relas: number 24, InvalidArch: \
+                    relocations are written as ELF for X64 and AArch64, and this code is for X86";
+    refused(b"arch x86; b 90", 1, sentence);
+    let sentence = "standard input: symbol 1 and label 0 are both named 's1', and an object has one symbol of a name";
+    refused(b"z 8; o 0 Abs8 s01; s1:", 2, sentence);
+    let sheet = write_sheet(&read_text("z 4; o 0 X86SecRel s0").unwrap().calls).unwrap();
+    let sentence = "standard input: call 1: write_relas: number 24, InvalidArch: \
+                    relocation 0, at 0, is of kind X86SecRel, which has no ELF type on X64";
+    refused(&sheet, 1, sentence);
+}
+
 #[test]
 fn writes_and_reads_a_binary_sheet() {
     let file = path("sheet.bin");
@@ -412,6 +476,12 @@ fn an_output_that_is_the_sheet_or_another_output_is_refused() {
         err(&output).contains("-o and --write-sheet both name"),
         "{}",
         err(&output)
+    );
+    assert!(!out.exists());
+    fails(
+        &run(&["-o", both, "--object", both, name], b""),
+        2,
+        &format!("-o and --object both name {both}; nothing is written"),
     );
     assert!(!out.exists());
 }

@@ -60,8 +60,9 @@ pub fn wrong_word(call: &Call, error: &Error) -> usize {
     let is_condition = error.sentence().starts_with("condition");
     match (error.number(), call) {
         (1 | 6 | 7, Call::Use { .. } | Call::Ref { .. }) => 3,
-        (1 | 7, Call::Relocation { .. }) => 2,
+        (1 | 7 | 24, Call::Relocation { .. }) => 2,
         (8 | 15, Call::Relocation { .. }) => 3,
+        (25, Call::Relocation { .. }) => 4,
         (8 | 15 | 18 | 20..=22, Call::Use { .. } | Call::Ref { .. }) => 2,
         (8 | 15, Call::Jump { .. }) => 3,
         (10, Call::Jump { .. }) if is_condition => 4,
@@ -99,7 +100,7 @@ pub fn second_place(
             Some((making(calls, label?)?, sentence))
         }
         17 => touched(calls, call, recording),
-        18 | 20..=22 => match binding(calls, label?) {
+        18 | 20..=22 | 25 => match binding(calls, label?) {
             Some(call) => Some((call, format!("{} is bound here", name(label?)))),
             None => Some((
                 making(calls, label?)?,

@@ -5,8 +5,8 @@ use std::io::{self, Read};
 
 use sheet_text::nearest;
 use wargnifla::{
-    Arch, Call, CodeBuffer, Entry, Error, Recording, Sheet, UNBOUND, Unwritable, read_text_for,
-    symbols_named,
+    Arch, Call, CodeBuffer, Entry, Error, ObjectError, Recording, Sheet, UNBOUND, Unwritable,
+    read_text_for, symbols_named,
 };
 
 use super::Failure;
@@ -135,7 +135,15 @@ impl Input {
         (before % written.unwrap_or(u64::MAX).max(1)) as u32
     }
 
-    /// A refused finish, with the place in the file that it goes back to.
+    /// What no object can hold, with the place in the file that it goes back to.
+    pub fn no_object(&self, error: &ObjectError, recording: &Recording) -> Failure {
+        match error {
+            ObjectError::Relocations(error) => self.refused_finish(error, recording),
+            error => Failure::unusable(format!("{}: {error}", self.file)),
+        }
+    }
+
+    /// A refused finish, or what is refused of a finished recording, with the place in the file that it goes back to.
     pub fn refused_finish(&self, error: &Error, recording: &Recording) -> Failure {
         let entry = error.entry();
         let call = match (error.number(), entry) {

@@ -12,6 +12,7 @@ usage: wargnifla [OPTIONS] FILE
 Records a sheet of calls, finishes it, and shows the code. FILE is a sheet in text or binary form; - is standard input.
 
   -o FILE                  write the finished code; to - it goes to standard output, in the place of the listing
+  --object FILE            write an ELF object for the system linker, or to -
   --write-sheet FILE       write the calls as a binary sheet, or to -
   --picture FILE           write a page for a browser that draws the rounds to scale, step by step, or to -
   --arch x86|x64|aarch64   the architecture, whatever the sheet says (x64 if neither says)
@@ -45,6 +46,7 @@ pub enum Form {
 pub struct Options {
     pub file: OsString,
     pub output: Option<PathBuf>,
+    pub object: Option<PathBuf>,
     pub write_sheet: Option<PathBuf>,
     pub picture: Option<PathBuf>,
     pub arch: Option<Arch>,
@@ -90,10 +92,11 @@ impl Options {
         }
     }
 
-    /// Where code, sheet and page are to go, by the options that say so.
-    pub fn outputs(&self) -> [(&'static str, Option<&Path>); 3] {
+    /// Where code, object, sheet and page are to go, by the options that say so.
+    pub fn outputs(&self) -> [(&'static str, Option<&Path>); 4] {
         [
             ("-o", self.output.as_deref()),
+            ("--object", self.object.as_deref()),
             ("--write-sheet", self.write_sheet.as_deref()),
             ("--picture", self.picture.as_deref()),
         ]
@@ -131,6 +134,7 @@ pub fn parse(arguments: impl IntoIterator<Item = OsString>) -> Result<Request, S
             "-h" | "--help" => return Ok(Request::Help),
             "-V" | "--version" => return Ok(Request::Version),
             "-o" => options.output = Some(value("-o", arguments.next())?.into()),
+            "--object" => options.object = Some(value("--object", arguments.next())?.into()),
             "--write-sheet" => {
                 options.write_sheet = Some(value("--write-sheet", arguments.next())?.into());
             }
@@ -193,10 +197,11 @@ mod tests {
 
     #[test]
     fn reads_every_option() {
-        let all = "--arch X86 --symbols 3 --rounds --full --hex --text -o out --write-sheet sheet --picture page in";
+        let all = "--arch X86 --symbols 3 --rounds --full --hex --text -o out --object object --write-sheet sheet --picture page in";
         let expected = Options {
             file: "in".into(),
             output: Some("out".into()),
+            object: Some("object".into()),
             write_sheet: Some("sheet".into()),
             picture: Some("page".into()),
             arch: Some(Arch::X86),
