@@ -98,6 +98,28 @@ fn sheets_of_fields_and_constants() {
 }
 
 #[test]
+fn sheets_for_the_linker() {
+    shows(
+        "hello.txt",
+        "X64: 46 bytes, alignment 32, layouts 0, long jumps 0 of 0",
+        &[
+            "       7  X86PCRel4 (R_X86_64_PC32): label .hello, addend -4",
+            "      12  X86CallPLTRel4 (R_X86_64_PLT32): symbol puts, addend -4",
+            "      32  48 65 6C 6C 6F 2C 20 6C     constant 0, label .hello",
+        ],
+    );
+    shows(
+        "hello-aarch64.txt",
+        "AArch64: 46 bytes, alignment 32, layouts 0, long jumps 0 of 0",
+        &[
+            "Aarch64AdrPrelPgHi21 (R_AARCH64_ADR_PREL_PG_HI21): label .hello",
+            "Aarch64AddAbsLo12Nc (R_AARCH64_ADD_ABS_LO12_NC): label .hello",
+            "Arm64Call (R_AARCH64_CALL26): symbol puts",
+        ],
+    );
+}
+
+#[test]
 fn a_sheet_with_names() {
     shows(
         "loop.txt",

@@ -1,5 +1,7 @@
 //! X64 objects linked by GNU's linker with a file that its assembler made, and run.
 
+use std::process::Command;
+
 use wargnifla::{Arch, Label, RelaxableJump, Reloc, Sym};
 
 use crate::Rule;
@@ -131,4 +133,23 @@ fn a_rule_finds_a_thread_local_cell() {
     rule.bytes(&[0xC3]); // ret
     let folder = Folder::new("object-thread");
     assert_eq!(status(&folder, THREAD, rule), Some(7));
+}
+
+#[test]
+fn the_sheet_for_the_linker_says_hello() {
+    if !are_at_hand(
+        &["cc"],
+        "sheets/hello.txt linked with the C library and run",
+    ) {
+        return;
+    }
+    let sheet = concat!(env!("CARGO_MANIFEST_DIR"), "/../sheets/hello.txt");
+    let object = Command::new(env!("CARGO_BIN_EXE_wargnifla"))
+        .args(["--object", "-", sheet])
+        .output()
+        .unwrap();
+    let folder = Folder::new("object-hello");
+    folder.write("hello.o", object.stdout);
+    folder.printed("cc -o hello hello.o");
+    assert_eq!(folder.printed("./hello"), "Hello, linker\n");
 }
