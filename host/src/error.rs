@@ -89,7 +89,7 @@ impl Error {
             .expect("the functions answer numbers of documents 01 and 02 only")
     }
 
-    /// The refusal's name, asmkit's: of those that asmkit does not know, the name of their like.
+    /// The refusal's name, asmkit's. Numbers 24, 25 and 26, which neither asmkit nor document 01 knows, have the names of 7, 18 and 23.
     #[must_use]
     pub fn name(&self) -> &'static str {
         match self.number {

@@ -137,10 +137,18 @@ impl Input {
 
     /// What no object can hold, with the place in the file that it goes back to.
     pub fn no_object(&self, error: &ObjectError, recording: &Recording) -> Failure {
-        match error {
-            ObjectError::Relocations(error) => self.refused_finish(error, recording),
-            error => Failure::unusable(format!("{}: {error}", self.file)),
-        }
+        let call = match error {
+            ObjectError::Relocations(error) => return self.refused_finish(error, recording),
+            ObjectError::FieldPastEnd { relocation, .. } => {
+                call_of_entry(&self.calls, self.arch, Entry::Reloc(*relocation))
+            }
+            _ => None,
+        };
+        let sentence = error.to_string();
+        Failure::unusable(match call {
+            Some(call) => self.said_of(call, 1, &sentence),
+            None => format!("{}: {sentence}", self.file),
+        })
     }
 
     /// A refused finish, or what is refused of a finished recording, with the place in the file that it goes back to.

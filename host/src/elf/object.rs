@@ -5,9 +5,10 @@ use std::borrow::Cow;
 use std::collections::{BTreeMap, HashMap};
 use std::fmt;
 
+use crate::explain::past_code;
 use crate::recording::{AsmReloc, Label, RelocTarget, Sym};
 use crate::verified::RELA_BYTES;
-use crate::{Arch, CodeBufferFinalized, Error, Reloc, UNBOUND};
+use crate::{Arch, CodeBufferFinalized, CodeOffset, Error, Reloc, UNBOUND};
 use sheet_text::shown;
 
 const ET_REL: u16 = 1;
@@ -63,6 +64,13 @@ const PAGE: u32 = 4096;
 pub enum ObjectError {
     /// The relocations are refused: number 24 or 25.
     Relocations(Error),
+    /// The field of a relocation passes the end of the code, where no linker fills it.
+    FieldPastEnd {
+        /// The relocation, by its index.
+        relocation: usize,
+        /// What is wrong.
+        sentence: String,
+    },
     /// The name of a label or symbol is empty or has a zero byte, which ends names in an object.
     UnfitName(RelocTarget),
     /// Two labels or symbols have one name.
@@ -80,6 +88,7 @@ impl fmt::Display for ObjectError {
     fn fmt(&self, f: &mut fmt::Formatter<'_>) -> fmt::Result {
         match self {
             Self::Relocations(error) => error.fmt(f),
+            Self::FieldPastEnd { sentence, .. } => f.write_str(sentence),
             Self::UnfitName(target) => write!(
                 f,
                 "the name of {target} is empty or has a zero byte, and no symbol of an object has such a name"
@@ -142,26 +151,19 @@ impl CodeBufferFinalized {
     ///
     /// # Errors
     ///
-    /// As [`Self::relas`]; and where two symbols would have one name, or one a name that no object holds.
+    /// As [`Self::relas`]; and where a relocation's field passes the end of the code, two symbols would have one name, or one a name that no object
+    /// holds.
     pub fn object(&self) -> Result<Vec<u8>, ObjectError> {
         let symbols = Symbols::new(self);
         let relas = self.relas_of(&symbols.renumbered(&self.relocs), TEXT_SYMBOL)?;
+        self.check_fields()?;
         let (symtab, strtab) = symbols.tables()?;
         let (names, shstrtab) = section_names();
-        let section = |sh_type, bytes| Section {
-            sh_type,
-            sh_flags: 0,
-            sh_link: 0,
-            sh_info: 0,
-            sh_addralign: 1,
-            sh_entsize: 0,
-            bytes,
-        };
         let sections = [
             Section {
                 sh_flags: SHF_ALLOC | SHF_EXECINSTR,
                 sh_addralign: self.section_alignment().into(),
-                ..section(SHT_PROGBITS, self.data())
+                ..Section::plain(SHT_PROGBITS, self.data())
             },
             Section {
                 sh_flags: SHF_INFO_LINK,
@@ -169,21 +171,37 @@ impl CodeBufferFinalized {
                 sh_info: TEXT.into(),
                 sh_addralign: 8,
                 sh_entsize: RELA_BYTES as u64,
-                ..section(SHT_RELA, &relas)
+                ..Section::plain(SHT_RELA, &relas)
             },
             Section {
                 sh_link: STRTAB,
                 sh_info: symbols.first_global,
                 sh_addralign: 8,
                 sh_entsize: SYM_BYTES,
-                ..section(SHT_SYMTAB, &symtab)
+                ..Section::plain(SHT_SYMTAB, &symtab)
             },
-            section(SHT_STRTAB, &strtab),
-            section(SHT_STRTAB, &shstrtab),
+            Section::plain(SHT_STRTAB, &strtab),
+            Section::plain(SHT_STRTAB, &shstrtab),
             // Without it a linker takes the object for one that needs its stack to be executable.
-            section(SHT_PROGBITS, &[]),
+            Section::plain(SHT_PROGBITS, &[]),
         ];
         Ok(file(machine(self.arch()), &names, &sections))
+    }
+
+    fn check_fields(&self) -> Result<(), ObjectError> {
+        let len = self.total_size() as CodeOffset;
+        let passes_end = |reloc: &AsmReloc| reloc.offset + reloc.kind.field_size() > len;
+        match self.relocs.iter().position(passes_end) {
+            None => Ok(()),
+            Some(relocation) => {
+                let AsmReloc { offset, kind, .. } = self.relocs[relocation];
+                let sentence = past_code("relocation", offset, kind.field_size(), len);
+                Err(ObjectError::FieldPastEnd {
+                    relocation,
+                    sentence,
+                })
+            }
+        }
     }
 }
 
@@ -342,6 +360,21 @@ struct Section<'a> {
     sh_addralign: u64,
     sh_entsize: u64,
     bytes: &'a [u8],
+}
+
+impl<'a> Section<'a> {
+    /// One whose fields say no more than its type.
+    fn plain(sh_type: u32, bytes: &'a [u8]) -> Self {
+        Self {
+            sh_type,
+            sh_flags: 0,
+            sh_link: 0,
+            sh_info: 0,
+            sh_addralign: 1,
+            sh_entsize: 0,
+            bytes,
+        }
+    }
 }
 
 /// The file: its header, what the sections hold, and their headers.

@@ -5,7 +5,7 @@ use super::finish::Found;
 use crate::recording::{AsmReloc, RelocTarget};
 use crate::tables::word;
 use crate::verified::RELA_BYTES;
-use crate::{Arch, CodeBufferFinalized, ElfType, Entry, MOST_ENTRIES};
+use crate::{Arch, CodeBufferFinalized, ElfType, Entry};
 use sheet_text::counted;
 
 /// Why the relocations of finished code can't be written, and the one that it is for.
@@ -82,7 +82,7 @@ pub(crate) fn explain_read_relas(relas: &[u8], number: u32) -> String {
     let sentence = match number {
         1 => broken_length(relas).or_else(|| broken_entry(relas)),
         11 => Some(format!(
-            "there are {} entries, and a table holds at most {MOST_ENTRIES}",
+            "there are {} entries, and a table holds at most 65,536",
             relas.len() / RELA_BYTES
         )),
         _ => None,
@@ -108,8 +108,25 @@ fn broken_entry(relas: &[u8]) -> Option<String> {
         match ElfType::from_number(number) {
             Some(_) => None,
             None => Some(format!(
-                "entry {i} has type {number}, which is none that relocations have here"
+                "entry {i} has type {number}, which is none of those that relocations are written as"
             )),
         }
     })
+}
+
+#[cfg(test)]
+mod tests {
+    use super::*;
+    use crate::{CodeBuffer, Reloc, Sym};
+
+    #[test]
+    fn an_output_that_the_host_never_lends_has_its_sentence() {
+        let mut buffer = CodeBuffer::with_symbols(Arch::X64, 1);
+        let symbol = Sym::from_id(0).into();
+        buffer.add_reloc(Reloc::Abs8, symbol, 0).unwrap();
+        buffer.add_reloc(Reloc::Abs4, symbol, 0).unwrap();
+        let code = buffer.finish().unwrap();
+        let sentence = "2 relocations need 48 bytes of output, 24 each";
+        assert_eq!(explain_write_relas(&code, 26), (sentence.into(), None));
+    }
 }

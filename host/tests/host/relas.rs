@@ -262,7 +262,7 @@ fn number_1_entries_that_break_their_form() {
     );
     refuses_to_read(
         &[right.clone(), right, entry(0, 3, 0, 0)].concat(),
-        "1, InvalidArgument: entry 2 has type 3, which is none that relocations have here",
+        "1, InvalidArgument: entry 2 has type 3, which is none of those that relocations are written as",
     );
 }
 
@@ -273,7 +273,7 @@ fn number_11_more_entries_than_a_table_holds() {
     let more = entry(5, 283, 6, 7).repeat(wargnifla::MOST_ENTRIES + 1);
     refuses_to_read(
         &more,
-        "11, TooManyHandles: there are 65537 entries, and a table holds at most 65536",
+        "11, TooManyHandles: there are 65537 entries, and a table holds at most 65,536",
     );
     let wrong = [more, entry(0, 0, 0, 0)].concat();
     assert_eq!(

@@ -52,7 +52,7 @@ cells:  .quad   1, 2
 ";
 
 #[test]
-fn a_rule_is_linked_as_the_assembler_s_is() {
+fn the_linker_makes_of_a_rule_what_it_makes_of_the_assemblers() {
     let [assembler, linker, objdump] =
         ["as", "ld", "objdump"].map(|program| format!("aarch64-linux-gnu-{program}"));
     let programs = [&assembler, &linker, &objdump].map(String::as_str);

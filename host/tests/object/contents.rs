@@ -121,6 +121,7 @@ fn symbols_without_names_go_by_their_numbers() {
     for symbol in [7, 0, (1 << 31) - 1] {
         let target = RelocTarget::Sym(Sym::from_id(symbol));
         buffer.add_reloc(Reloc::Abs8, target, 0).unwrap();
+        buffer.put8(0).unwrap();
     }
     let object = Object::read(&buffer.finish().unwrap().object().unwrap());
     let symbols = object.symbols();
@@ -166,6 +167,7 @@ fn wrong_names(label: &str, symbols: [Option<&str>; 2]) -> ObjectError {
     for (symbol, name) in [0, 1].map(Sym::from_id).into_iter().zip(symbols) {
         let target = RelocTarget::Sym(symbol);
         buffer.add_reloc(Reloc::Abs8, target, 0).unwrap();
+        buffer.put8(0).unwrap();
         if let Some(name) = name {
             buffer.name_symbol(symbol, name);
         }
@@ -217,6 +219,37 @@ fn a_name_has_bytes_and_no_zero_among_them() {
     assert_eq!(
         error.to_string(),
         "the name of symbol 1 is empty or has a zero byte, and no symbol of an object has such a name"
+    );
+}
+
+#[test]
+fn fields_stand_within_the_code() {
+    let object = |kind, offset| {
+        let mut rule = Rule::new(Arch::X64, &["cell"]);
+        rule.field(Reloc::Abs8, Sym::from_id(0), 0);
+        let cell = RelocTarget::Sym(Sym::from_id(0));
+        let recorded = rule.buffer.add_reloc_at_offset(offset, kind, cell, 0);
+        recorded.unwrap();
+        rule.finish().object()
+    };
+    assert!(object(Reloc::Abs8, 0).is_ok());
+    assert!(object(Reloc::Abs4, 4).is_ok());
+    let past_end = |kind, offset, sentence: &str| {
+        let error = ObjectError::FieldPastEnd {
+            relocation: 1,
+            sentence: sentence.into(),
+        };
+        assert_eq!(object(kind, offset), Err(error));
+    };
+    past_end(
+        Reloc::Abs4,
+        5,
+        "the field of the relocation at 5, 4 bytes, passes the end of the code, 8",
+    );
+    past_end(
+        Reloc::Abs8,
+        16_777_215,
+        "the field of the relocation at 16777215, 8 bytes, passes the end of the code, 8",
     );
 }
 

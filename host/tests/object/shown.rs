@@ -9,17 +9,17 @@ use crate::elf_types::elf_types;
 /// What is to be shown of a relocation: offset, type, symbol and addend.
 type Shown = (u32, String, String, i64);
 
-/// A rule with a relocation of every kind that has a type, to a symbol and to a label behind 5 bytes, and what is to be shown of them.
+/// A rule with a relocation of every kind that has a type, to a symbol and to a label behind 8 bytes, and what is to be shown of them.
 fn every_kind(arch: Arch) -> (Rule, Vec<Shown>) {
     let mut rule = Rule::new(arch, &["cell"]);
     let mut expected = Vec::new();
-    rule.bytes(&[0x90; 5]);
+    rule.bytes(&[0; 8]);
     let label = rule.label("here");
     rule.bind(label);
     for (i, (kind, name, _)) in (0..).zip(elf_types(arch)) {
         let targets: [(RelocTarget, &str, i64); 2] = [
             (Sym::from_id(0).into(), "cell", 0),
-            (label.into(), ".text", 5),
+            (label.into(), ".text", 8),
         ];
         for (target, symbol, place) in targets {
             let (offset, addend) = (rule.buffer.cur_offset(), 3 - 2 * i);
