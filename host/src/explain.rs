@@ -1,5 +1,5 @@
-//! Why a call, a finish or what is made of one was turned down, with the values at hand. The verified library decides and gives a number; here its reason is looked for
-//! again, in the tables, to be put into words.
+//! Why a call, a finish or what is made of one was turned down, with the values at hand. The verified library decides and gives a number; here its
+//! reason is looked for again, in the tables, to be put into words.
 
 mod calls;
 mod finish;

@@ -189,12 +189,12 @@ fn what_no_object_holds_names_its_line_and_leaves_no_file() {
         assert!(!code.exists() && !object.exists());
     };
     let sentence = "standard input:2: write_relas: number 24, InvalidArch: \
-                    relocation 1, at 8, is of kind X86SecRel, which has no ELF type on X64
+                    relocation 1, at 8 in the finished code, is of kind X86SecRel, which has no ELF type on X64
     o 0 Abs8 s0; o 8 X86SecRel s0
                      ^^^^^^^^^";
     refused(b"z 12\no 0 Abs8 s0; o 8 X86SecRel s0", 1, sentence);
     let sentence = "standard input:3: write_relas: number 25, TooLarge: \
-                    relocation 0, at 0, has the addend 9223372036854775807, and with label end at 8 it passes 9223372036854775807
+                    relocation 0, at 0 in the finished code, has the addend 9223372036854775807, and with label end at 8 it passes 9223372036854775807
     o 0 Abs8 end 9223372036854775807
                  ^^^^^^^^^^^^^^^^^^^
 standard input:2: note: label end is bound here
@@ -213,7 +213,7 @@ standard input:2: note: label end is bound here
     refused(b"z 8; o 0 Abs8 s0\no 5 Abs4 s0", 2, sentence);
     let sheet = write_sheet(&read_text("z 4; o 0 X86SecRel s0").unwrap().calls).unwrap();
     let sentence = "standard input: call 1: write_relas: number 24, InvalidArch: \
-                    relocation 0, at 0, is of kind X86SecRel, which has no ELF type on X64";
+                    relocation 0, at 0 in the finished code, is of kind X86SecRel, which has no ELF type on X64";
     refused(&sheet, 1, sentence);
 }
 

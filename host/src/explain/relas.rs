@@ -39,7 +39,10 @@ fn first(
     let mut relocs = finished.relocs().iter().enumerate();
     relocs.find_map(|(i, reloc)| {
         let wrong = wrong(finished, reloc)?;
-        let sentence = format!("relocation {i}, at {}, {wrong}", reloc.offset);
+        let sentence = format!(
+            "relocation {i}, at {} in the finished code, {wrong}",
+            reloc.offset
+        );
         Some((sentence, Some(Entry::Reloc(i))))
     })
 }

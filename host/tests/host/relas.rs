@@ -198,10 +198,10 @@ fn number_24_an_architecture_or_kind_without_a_type() {
     refuses(Arch::X86, "o 0 X86SecRel s0", None, sentence);
     let text = "z 20; o 0 Abs8 s0; o 9 X86SecRel s0; o 12 MachOX86_64Tlv s0";
     let sentence = "write_relas: number 24, InvalidArch: \
-                    relocation 1, at 9, is of kind X86SecRel, which has no ELF type on X64";
+                    relocation 1, at 9 in the finished code, is of kind X86SecRel, which has no ELF type on X64";
     refuses(Arch::X64, text, Some(1), sentence);
     let sentence = "write_relas: number 24, InvalidArch: \
-                    relocation 0, at 4, is of kind Aarch64AdrGotPage21, which has no ELF type on AArch64";
+                    relocation 0, at 4 in the finished code, is of kind Aarch64AdrGotPage21, which has no ELF type on AArch64";
     refuses(
         Arch::AArch64,
         "z 8; o 4 Aarch64AdrGotPage21 s0",
@@ -214,7 +214,7 @@ fn number_24_an_architecture_or_kind_without_a_type() {
 fn number_25_a_sum_past_64_bits() {
     let text = |addend| format!("b 90; n; l 0; o 0 Abs8 l0 {addend}");
     let sentence = "write_relas: number 25, TooLarge: \
-                    relocation 0, at 0, has the addend 9223372036854775807, and with label 0 at 1 it passes 9223372036854775807";
+                    relocation 0, at 0 in the finished code, has the addend 9223372036854775807, and with label 0 at 1 it passes 9223372036854775807";
     refuses(Arch::X64, &text(i64::MAX), Some(0), sentence);
     let most = relas(Arch::X64, &text(i64::MAX - 1));
     assert_eq!(most[0].addend, i64::MAX);
