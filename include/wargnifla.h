@@ -1,8 +1,9 @@
 /* Wargnifla: a verified code buffer. The C functions of libwargnifla.a.
  *
  * A recording is made call by call: bytes, labels, alignments, fields that name labels, jumps, constants, relocations. Finishing it pools its
- * constants, takes every jump for short and lengthens those that then can't reach, round by round, and writes the code. The six functions are proved
- * to do what crates/wargnifla/specs/ says; the inline functions at the end of this file are tested.
+ * constants, takes every jump for short and lengthens those that then can't reach, round by round, and writes the code. Its relocations can then be
+ * written as ELF has them, for the system linker. The eight functions are proved to do what crates/wargnifla/specs/ says; the inline functions at the
+ * end of this file are tested.
  *
  * Every function accepts every input and ends. It allocates nothing and keeps nothing: a recording is the counts and the tables that the caller lends
  * to each call. So functions may be called from several threads at a time, as long as no two of the calls are lent the same memory to write, or one
@@ -37,12 +38,13 @@ enum wargnifla_arch {
 
 /* Refusals: what every function returns. Numbers 6, 7, 8, 10, 11 and 12 end a recording, but for 8 at a bind: it then answers every call, finish too,
  * with the first of them and changes nothing else. All others leave it as it was. Where several apply, 1 comes first (but for a table entry that
- * finish finds, which comes after 4), then the recorded one, then the lowest number; 19 to 22 are tried together, use by use. */
+ * finish finds, which comes after 4), then the recorded one, then the lowest number; 19 to 22 are tried together, use by use. 24 to 26 are of
+ * wargnifla_write_relas alone, in the order that its comment gives. */
 enum wargnifla_refusal {
     WARGNIFLA_ACCEPTED = 0,
     WARGNIFLA_MALFORMED = 1,            /* a sheet's form, a field code above 16 and a relocation kind above 27 too; a count that passes what is lent;
                                            an architecture or refusal in the counts that can't occur; counts or a record lent too short; at finish, a
-                                           table entry that no recording writes */
+                                           table entry that no recording writes; a finished record, or ELF entries, that break their form */
     WARGNIFLA_UNKNOWN_ARCH = 2,         /* start names an architecture other than 1, 2, 6 */
     WARGNIFLA_PAST_LIMIT = 3,           /* a call is lent more than a limit */
     WARGNIFLA_ALREADY_FINISHED = 4,     /* the recording has finished */
@@ -54,7 +56,7 @@ enum wargnifla_refusal {
     WARGNIFLA_BAD_ENTRY = 10,           /* a jump does not end at the current offset, is not 2 to 15 bytes long, has a condition above 16, starts
                                            before the last event's end, or holds a label strictly inside; a relocation's offset exceeds 16,777,215;
                                            a constant exceeds 64 bytes */
-    WARGNIFLA_TABLE_FULL = 11,          /* a table that the call must extend is full */
+    WARGNIFLA_TABLE_FULL = 11,          /* a table that the call must extend is full; the table that ELF entries are read into is short */
     WARGNIFLA_CODE_FULL = 12,           /* bytes or padding pass the lent code's end */
     WARGNIFLA_POOL_LABEL_BOUND = 13,    /* from here on at finish: the label of a constant asked for was bound by the caller */
     WARGNIFLA_POOL_TOO_LARGE = 14,      /* code with pool exceeds 16,777,216 bytes */
@@ -67,7 +69,11 @@ enum wargnifla_refusal {
     WARGNIFLA_BRANCH_OUT_OF_REACH = 20, /* without a jump, a use of code 9, 10 or 11 can't reach its label */
     WARGNIFLA_LABEL_TOO_FAR_AHEAD = 21, /* without a jump, another use can't reach a label at or after it */
     WARGNIFLA_LABEL_TOO_FAR_BACK = 22,  /* without a jump, another use can't reach a label before it */
-    WARGNIFLA_OUTPUT_TOO_SMALL = 23     /* the finished code exceeds the lent output */
+    WARGNIFLA_OUTPUT_TOO_SMALL = 23,    /* the finished code exceeds the lent output */
+    WARGNIFLA_NO_ELF_TYPE = 24,         /* from here on where relocations are written as ELF: the architecture is neither X64 nor AArch64, or a
+                                           relocation's kind has no ELF type there (enum wargnifla_elf_type) */
+    WARGNIFLA_ADDEND_OVERFLOW = 25,     /* a relocation's addend and its label's offset add up to more than 2^63 - 1 */
+    WARGNIFLA_ELF_OUTPUT_TOO_SMALL = 26 /* the ELF entries exceed the lent output */
 };
 
 /* The kinds of call that a sheet makes. Beside each: its arguments, and what it extends. On X86 and AArch64 refs and jumps are accepted unread and
@@ -151,6 +157,21 @@ enum wargnifla_reloc {
     WARGNIFLA_RELOC_RiscvPCRelHi20 = 27
 };
 
+/* The ELF types of relocations, with the names of the psABIs, and the kinds that become each. These are all: the other kinds have no type here. */
+enum wargnifla_elf_type {
+    WARGNIFLA_R_X86_64_64 = 1,                  /* X64: Abs8 */
+    WARGNIFLA_R_X86_64_PC32 = 2,                /* X64: X86PCRel4 */
+    WARGNIFLA_R_X86_64_PLT32 = 4,               /* X64: X86CallPCRel4 and X86CallPLTRel4 */
+    WARGNIFLA_R_X86_64_GOTPCREL = 9,            /* X64: X86GOTPCRel4 */
+    WARGNIFLA_R_X86_64_32 = 10,                 /* X64: Abs4 */
+    WARGNIFLA_R_X86_64_TLSGD = 19,              /* X64: ElfX86_64TlsGd */
+    WARGNIFLA_R_AARCH64_ABS64 = 257,            /* AArch64: Abs8 */
+    WARGNIFLA_R_AARCH64_ABS32 = 258,            /* AArch64: Abs4 */
+    WARGNIFLA_R_AARCH64_ADR_PREL_PG_HI21 = 275, /* AArch64: Aarch64AdrPrelPgHi21 */
+    WARGNIFLA_R_AARCH64_ADD_ABS_LO12_NC = 277,  /* AArch64: Aarch64AddAbsLo12Nc */
+    WARGNIFLA_R_AARCH64_CALL26 = 283            /* AArch64: Arm64Call */
+};
+
 /* A relocation's target is a symbol, below the number given at start, or a label plus this. */
 #define WARGNIFLA_LABEL_TARGET 0x80000000u
 
@@ -214,6 +235,9 @@ enum wargnifla_count {
 #define WARGNIFLA_CONSTANT_BYTES 72
 #define WARGNIFLA_ASKED_BYTES 4
 #define WARGNIFLA_RELOC_BYTES 24
+
+/* An Elf64_Rela entry: r_offset (two words, the second 0), r_info (two words, the type and the symbol), r_addend (two words, signed). */
+#define WARGNIFLA_RELA_BYTES 24
 
 enum wargnifla_event {
     WARGNIFLA_EVENT_JUMP = 1,
@@ -279,6 +303,34 @@ uint32_t wargnifla_add_constant(uint8_t *counts, size_t counts_len, uint8_t *con
 uint32_t wargnifla_add_reloc(uint8_t *counts, size_t counts_len, uint8_t *relocs, size_t relocs_len, uint32_t offset, uint32_t kind,
                              uint32_t target, uint64_t addend);
 
+/* Relocations for the system linker. */
+
+/* Writes the relocations of a finished recording as Elf64_Rela entries, in recorded order, to output; bytes past them are untouched. record, labels
+ * and relocs are as finish left them. A symbol's number goes in unchanged; a label becomes section, the number of the section symbol of the code, and
+ * its offset is added to the addend. A refused call changes nothing. It answers, in this order:
+ *
+ *   1    the record is lent too short; its count of labels or relocations passes what is lent; a relocation, any of them, names a label that is
+ *        unknown or not bound
+ *   3    labels or relocations are lent past their limit
+ *   24   the architecture is neither X64 nor AArch64, where there is no relocation too
+ *   24   of each relocation in order: its kind has no type in the architecture (enum wargnifla_elf_type); then
+ *   25   its addend and its label's offset add up to more than 2^63 - 1
+ *   26   output is shorter than WARGNIFLA_RELA_BYTES for each relocation
+ */
+uint32_t wargnifla_write_relas(const uint8_t *record, size_t record_len, const uint8_t *labels, size_t labels_len, const uint8_t *relocs,
+                               size_t relocs_len, uint32_t section, uint8_t *output, size_t output_len);
+
+/* Reads Elf64_Rela entries into a table, in order: offset, type, symbol, 0, signed addend of 64 bits, WARGNIFLA_RELOC_BYTES for each; bytes past them
+ * are untouched. So an entry is a relocation's, but for the type in the place of the kind and a symbol for every target. No architecture is named:
+ * types of X64 and of AArch64 may stand side by side. A refused call changes nothing. It answers, in this order:
+ *
+ *   1    the length is no multiple of WARGNIFLA_RELA_BYTES; an entry, any of them, has an offset of more than 32 bits, or a type that enum
+ *        wargnifla_elf_type does not have
+ *   3    the table is lent past its limit; the entries that are read have none
+ *   11   the table is shorter than the entries need
+ */
+uint32_t wargnifla_read_relas(const uint8_t *relas, size_t relas_len, uint8_t *entries, size_t entries_len);
+
 /* How long the finished code can be, from numbers known when memory is set aside. A jump gains at most 4 bytes, an alignment 4,095, and a constant
  * that is asked for takes at most WARGNIFLA_MOST_POOLED, its 64 bytes and 63 of padding. Where finish answers 0 the code is never longer than
  * WARGNIFLA_MOST_CODE, since no longer output may be lent. */
@@ -328,6 +380,7 @@ static inline const char *wargnifla_refusal_name(uint32_t refusal) {
         "UNSUPPORTED_USE", "FOREIGN_KIND",     "UNKNOWN_NUMBER",     "ALREADY_BOUND",       "BAD_ENTRY",          "TABLE_FULL",
         "CODE_FULL",       "POOL_LABEL_BOUND", "POOL_TOO_LARGE",     "UNBOUND_LABEL",       "TOO_FEW_SEGMENTS",   "REF_OVERLAPS",
         "REF_OUT_OF_REACH", "USE_PAST_END",    "BRANCH_OUT_OF_REACH", "LABEL_TOO_FAR_AHEAD", "LABEL_TOO_FAR_BACK", "OUTPUT_TOO_SMALL",
+        "NO_ELF_TYPE",     "ADDEND_OVERFLOW",  "ELF_OUTPUT_TOO_SMALL",
     };
     return refusal < sizeof names / sizeof *names ? names[refusal] : "UNKNOWN";
 }
@@ -402,6 +455,22 @@ static inline uint32_t wargnifla_tables_finish(wargnifla_tables *tables, wargnif
     record->labels = wargnifla_word(words + 16);
     record->relocs = wargnifla_word(words + 20);
     return refusal;
+}
+
+/* How many bytes the Elf64_Rela entries of a finished recording take. */
+static inline size_t wargnifla_relas_len(const wargnifla_record *record) { return WARGNIFLA_RELA_BYTES * (size_t)record->relocs; }
+
+static inline uint32_t wargnifla_tables_write_relas(const wargnifla_tables *tables, const wargnifla_record *record, uint32_t section,
+                                                    uint8_t *output, size_t output_len) {
+    uint8_t words[WARGNIFLA_RECORD_BYTES];
+    wargnifla_put_word(words, record->arch);
+    wargnifla_put_word(words + 4, record->length);
+    wargnifla_put_word(words + 8, record->alignment);
+    wargnifla_put_word(words + 12, record->layouts);
+    wargnifla_put_word(words + 16, record->labels);
+    wargnifla_put_word(words + 20, record->relocs);
+    return wargnifla_write_relas(words, sizeof words, tables->labels.bytes, tables->labels.len, tables->relocs.bytes, tables->relocs.len, section,
+                                 output, output_len);
 }
 
 static inline uint32_t wargnifla_tables_put_bytes(wargnifla_tables *tables, const uint8_t *bytes, size_t bytes_len) {
