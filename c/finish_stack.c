@@ -1,12 +1,12 @@
-/* Measures the stack that finish takes, and that recording takes: runs them on a stack of their own that was painted before, and looks how far down
- * the paint is gone. The numbers go to standard error. */
+/* Measures the stack that finish takes, that recording takes, and that relocations take when they are written and read as ELF: runs them on a stack of
+ * their own that was painted before, and looks how far down the paint is gone. The numbers go to standard error. */
 #define _XOPEN_SOURCE 700
 #include <string.h>
 #include <ucontext.h>
 
 #include "small_tables.h"
 
-enum { STACK = 512 * 1024, PAINT = 0xA5, RECORDING_STACK = 8192 };
+enum { STACK = 512 * 1024, PAINT = 0xA5, OTHER_STACK = 8192 };
 
 static uint8_t stack[STACK];
 static wargnifla_tables tables;
@@ -35,6 +35,12 @@ static void finish_all(void) {
     accept("finish", wargnifla_tables_finish(&tables, segments, ENTRY_ROOM, output, sizeof output, &record));
 }
 
+static void write_and_read_relas(void) {
+    uint8_t relas[ENTRY_ROOM * WARGNIFLA_RELA_BYTES], entries[ENTRY_ROOM * WARGNIFLA_RELOC_BYTES];
+    accept("write", wargnifla_tables_write_relas(&tables, &record, 0, relas, sizeof relas));
+    accept("read", wargnifla_read_relas(relas, wargnifla_relas_len(&record), entries, sizeof entries));
+}
+
 /* How many bytes of stack a function takes, what it takes in libraries included. */
 static size_t stack_of(void (*function)(void)) {
     size_t untouched = 0;
@@ -51,12 +57,15 @@ static size_t stack_of(void (*function)(void)) {
 }
 
 int main(void) {
-    size_t recording, finish;
+    size_t recording, finish, relas;
     tables = small_tables(WARGNIFLA_X64, 0);
     recording = stack_of(record_all);
     finish = stack_of(finish_all);
-    fprintf(stderr, "finish_stack: recording took %u bytes of stack, finish %u\n", (unsigned)recording, (unsigned)finish);
-    puts(recording < RECORDING_STACK ? "recording stays below 8 KiB" : "recording takes 8 KiB or more");
+    relas = stack_of(write_and_read_relas);
+    fprintf(stderr, "finish_stack: recording took %u bytes of stack, finish %u, relocations as ELF %u\n", (unsigned)recording, (unsigned)finish,
+            (unsigned)relas);
+    puts(recording < OTHER_STACK ? "recording stays below 8 KiB" : "recording takes 8 KiB or more");
+    puts(relas < OTHER_STACK ? "relocations as ELF stay below 8 KiB" : "relocations as ELF take 8 KiB or more");
     puts(finish <= WARGNIFLA_FINISH_STACK ? "finish stays within WARGNIFLA_FINISH_STACK" : "finish takes more than WARGNIFLA_FINISH_STACK");
     return 0;
 }

@@ -1,5 +1,5 @@
-/* Where a length is 0 the pointer may be NULL: tables that nothing is recorded in, bytes, a sheet, segments, an output, and even counts and record,
- * which then are too short. */
+/* Where a length is 0 the pointer may be NULL: tables that nothing is recorded in, bytes, a sheet, segments, an output, ELF entries, and even counts
+ * and record, which then are too short. */
 #include <string.h>
 
 #include "small_tables.h"
@@ -23,6 +23,8 @@ static void record_nothing(void) {
     print_answer("no bytes", wargnifla_tables_put_bytes(&tables, NULL, 0));
     print_answer("finish", wargnifla_tables_finish(&tables, NULL, 0, NULL, 0, &record));
     printf("%u bytes\n", (unsigned)record.length);
+    print_answer("no relocation as ELF", wargnifla_tables_write_relas(&tables, &record, 0, NULL, 0));
+    print_answer("no ELF entry", wargnifla_read_relas(NULL, 0, NULL, 0));
 }
 
 static void find_no_room(void) {
@@ -54,6 +56,7 @@ static void lend_nothing(void) {
     print_answer("run_sheet", wargnifla_run_sheet(NULL, 0, &out, NULL, 0, NULL, 0, NULL, 0, NULL, 0, NULL, 0, NULL, 0, NULL, 0, NULL, 0, NULL, 0));
     print_answer("finish",
                  wargnifla_finish(NULL, 0, NULL, 0, NULL, 0, NULL, 0, NULL, 0, NULL, 0, NULL, 0, NULL, 0, NULL, 0, NULL, 0, NULL, 0, NULL, 0));
+    print_answer("write_relas", wargnifla_write_relas(NULL, 0, NULL, 0, NULL, 0, 0, NULL, 0));
 }
 
 int main(void) {
