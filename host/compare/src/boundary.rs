@@ -24,4 +24,6 @@ pub trait Boundary {
     fn add_constant(&mut self, bytes: &[u8]) -> Reply;
     fn add_reloc(&mut self, offset: u32, kind: u32, target: u32, addend: i64) -> Reply;
     fn finish(&mut self) -> Reply;
+    fn write_relas(&mut self, section: u32) -> Reply;
+    fn read_relas(&mut self) -> Reply;
 }

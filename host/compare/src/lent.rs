@@ -2,7 +2,8 @@
 
 use std::ops::{Index, IndexMut};
 
-/// One thing that is lent: the counts, a table, or what finish writes to.
+/// One thing that is lent: the counts, a table, what finish writes to, or ELF
+/// entries.
 #[derive(Clone, Copy, Debug, PartialEq, Eq)]
 pub enum Part {
     Counts,
@@ -17,10 +18,14 @@ pub enum Part {
     Segments,
     Output,
     Record,
+    /// ELF entries, written and read.
+    Relas,
+    /// What ELF entries are read into.
+    Entries,
 }
 
 impl Part {
-    pub const COUNT: usize = 12;
+    pub const COUNT: usize = 14;
 
     pub const ALL: [Self; Self::COUNT] = [
         Self::Counts,
@@ -35,6 +40,8 @@ impl Part {
         Self::Segments,
         Self::Output,
         Self::Record,
+        Self::Relas,
+        Self::Entries,
     ];
 
     /// The tables of a recording, in the order of their counts.
@@ -57,7 +64,7 @@ impl Part {
             Self::Uses => 12,
             Self::Refs | Self::Segments => 16,
             Self::Events => 20,
-            Self::Relocations | Self::Record => 24,
+            Self::Relocations | Self::Record | Self::Relas | Self::Entries => 24,
             Self::Counts => 48,
             Self::Constants => 72,
         }

@@ -179,6 +179,14 @@ impl Boundary for Ours {
     fn finish(&mut self) -> Reply {
         self.lending().finish()
     }
+
+    fn write_relas(&mut self, section: u32) -> Reply {
+        self.lending().write_relas(section)
+    }
+
+    fn read_relas(&mut self) -> Reply {
+        self.lending().read_relas()
+    }
 }
 
 /// Pointers to all that [`Ours`] lends, which it does not move as long as this
@@ -279,6 +287,7 @@ impl Lending<'_> {
             (segments, segments_bytes),
             (output, output_len),
             (record, record_len),
+            ..,
         ] = self.pointers;
         // SAFETY: see `Ours`.
         let refusal = unsafe {
@@ -309,6 +318,29 @@ impl Lending<'_> {
                 record_len,
             )
         };
+        Reply::new(refusal, 0)
+    }
+
+    pub fn write_relas(&mut self, section: u32) -> Reply {
+        let (record, record_len) = self.pointers[Part::Record as usize];
+        let (labels, labels_len) = self.pointers[Part::Labels as usize];
+        let (relocs, relocs_len) = self.pointers[Part::Relocations as usize];
+        let (output, output_len) = self.pointers[Part::Relas as usize];
+        // SAFETY: see `Ours`.
+        let refusal = unsafe {
+            ffi::wargnifla_write_relas(
+                record, record_len, labels, labels_len, relocs, relocs_len, section, output,
+                output_len,
+            )
+        };
+        Reply::new(refusal, 0)
+    }
+
+    pub fn read_relas(&mut self) -> Reply {
+        let (relas, relas_len) = self.pointers[Part::Relas as usize];
+        let (entries, entries_len) = self.pointers[Part::Entries as usize];
+        // SAFETY: see `Ours`.
+        let refusal = unsafe { ffi::wargnifla_read_relas(relas, relas_len, entries, entries_len) };
         Reply::new(refusal, 0)
     }
 }

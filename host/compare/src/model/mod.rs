@@ -12,6 +12,7 @@ mod entries;
 mod fields;
 mod finish;
 mod pool;
+pub mod relas;
 mod rules;
 mod sheet;
 
@@ -115,5 +116,13 @@ impl Boundary for Model {
 
     fn finish(&mut self) -> Reply {
         Reply::new(finish::finish(&mut self.lent, self.rules), 0)
+    }
+
+    fn write_relas(&mut self, section: u32) -> Reply {
+        Reply::new(relas::write(&mut self.lent, section, self.rules), 0)
+    }
+
+    fn read_relas(&mut self) -> Reply {
+        Reply::new(relas::read(&mut self.lent, self.rules), 0)
     }
 }

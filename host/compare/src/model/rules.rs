@@ -1,10 +1,13 @@
 //! What the requests of document 02 have changed, apart from the rest, so that
 //! a self-test can put wrong rules in the place of these.
 
+use super::relas::{self, Finished, ReaderCheck, Relocation, WriterCheck};
+
 /// The least alignment that a finish reports.
 const LEAST_ALIGNMENT: u32 = 32;
 
-/// Request One: constants for the widest registers.
+/// Request One, constants for the widest registers; Request Two, relocations
+/// for the system linker.
 #[derive(Clone, Copy)]
 pub struct Rules {
     /// The multiple that a constant of a size stands on.
@@ -12,6 +15,14 @@ pub struct Rules {
     /// The alignment that a finish reports, by the sizes of all constants and
     /// of those that are pooled.
     pub code_alignment: fn(added: &[usize], pooled: &[usize]) -> u32,
+    /// Why relocations are not written as ELF: the first that applies.
+    pub writer_checks: &'static [WriterCheck],
+    /// The words of the ELF entry that is written for a relocation.
+    pub written: fn(finished: &Finished, relocation: &Relocation, section: u32) -> [u32; 6],
+    /// Why ELF entries are not read: the first that applies.
+    pub reader_checks: &'static [ReaderCheck],
+    /// The words of what is read, from those of an ELF entry.
+    pub taken_back: fn(rela: [u32; 6]) -> [u32; 6],
 }
 
 impl Default for Rules {
@@ -19,6 +30,10 @@ impl Default for Rules {
         Self {
             constant_multiple,
             code_alignment: |_, pooled| code_alignment(pooled),
+            writer_checks: &relas::WRITER_CHECKS,
+            written: relas::written,
+            reader_checks: &relas::READER_CHECKS,
+            taken_back: relas::taken_back,
         }
     }
 }

@@ -1,6 +1,7 @@
 //! Differential runs: ours, a plain model of document 01 and the Rust, on the
 //! same inputs. See host/compare/README.md.
 
+mod again;
 mod families;
 mod fault;
 mod rebuild;
@@ -149,7 +150,7 @@ fn exit_code(success: bool) -> ExitCode {
 }
 
 fn run_family(family: &Family, seed: u64, extent: Extent) -> Tally {
-    let mut tally = Tally::new(family.name);
+    let mut tally = Tally::new(family.name, family.has_rust);
     let mut runner = Runner::default();
     let begun = Instant::now();
     for index in 0..family.total().unwrap_or(u64::MAX) {

@@ -5,6 +5,7 @@ use std::fmt;
 use compare::{Boundary, Lent, Model, Ours, Part, Reply, Rules};
 use reference::{DEPARTURES, Departure};
 
+use crate::again;
 use crate::fault::Fault;
 use crate::rust::Rust;
 use crate::scenario::{Scenario, Step};
@@ -133,7 +134,26 @@ impl Runner {
         if !read.guards_stand() || bytes.is_some_and(|bytes| read.content() != &*bytes) {
             return Err("what was lent to be read alone was written".into());
         }
-        Ok(model)
+        match step {
+            Step::WriteAgain if model.refusal == 0 => self.write_again(),
+            _ => Ok(model),
+        }
+    }
+
+    /// Writes the ELF entries that were read: where they can be relocations,
+    /// they come out as they were.
+    fn write_again(&mut self) -> Result<Reply, String> {
+        let read = self.model.lent[Part::Relas].clone();
+        again::take_back(&mut self.model.lent);
+        for part in again::WRITTEN {
+            let content = self.ours.part_mut(part).content_mut();
+            content.copy_from_slice(&self.model.lent[part]);
+        }
+        let reply = self.step(&Step::WriteRelas(0), None)?;
+        if reply.refusal == 0 && self.model.lent[Part::Relas] != read {
+            return Err("entries that were read are written otherwise".into());
+        }
+        Ok(reply)
     }
 
     fn compare(&self, (ours, model): (Reply, Reply)) -> Result<(), String> {

@@ -90,11 +90,13 @@ impl<'a> Rust<'a> {
     pub fn step(&mut self, step: &'a Step, reply: Reply, lent: &Lent) -> Result<(), String> {
         match step {
             Step::Finish => self.finish(reply, lent),
-            Step::Write { .. } => {
+            step if step.is_by_hand() => {
                 self.recording = None;
                 self.by_hand = true;
                 Ok(())
             }
+            // It has nothing of the kind.
+            Step::WriteRelas(_) | Step::ReadRelas => Ok(()),
             // Nothing ran of a sheet whose form is broken.
             Step::RawSheet(_) if reply.refusal == 1 => Ok(()),
             Step::RawSheet(sheet) => {

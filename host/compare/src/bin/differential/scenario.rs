@@ -24,6 +24,11 @@ pub enum Step {
         addend: i64,
     },
     Finish,
+    /// Finished relocations written as ELF entries, with the section symbol.
+    WriteRelas(u32),
+    ReadRelas,
+    /// ELF entries read, made relocations again, and written as they were.
+    WriteAgain,
     /// Bytes written by hand into what is lent, as far as it reaches.
     Write {
         part: Part,
@@ -43,12 +48,17 @@ impl Step {
             Self::RawSheet(bytes) | Self::Bytes(bytes) | Self::Constant(bytes) => {
                 Some(Cow::Borrowed(bytes))
             }
-            Self::Relocation { .. } | Self::Finish | Self::Write { .. } => None,
+            Self::Relocation { .. }
+            | Self::Finish
+            | Self::WriteRelas(_)
+            | Self::ReadRelas
+            | Self::WriteAgain
+            | Self::Write { .. } => None,
         }
     }
 
     /// Makes the step's call, lent its [`Self::bytes`]; what is written by hand
-    /// is no call.
+    /// is no call, and the call of [`Self::WriteAgain`] is the first of its two.
     pub fn call(&self, boundary: &mut impl Boundary, bytes: &[u8]) -> Reply {
         match self {
             Self::Sheet(_) | Self::RawSheet(_) => boundary.run_sheet(bytes),
@@ -61,6 +71,8 @@ impl Step {
                 addend,
             } => boundary.add_reloc(*offset, *kind, *target, *addend),
             Self::Finish => boundary.finish(),
+            Self::WriteRelas(section) => boundary.write_relas(*section),
+            Self::ReadRelas | Self::WriteAgain => boundary.read_relas(),
             Self::Write { .. } => Reply::default(),
         }
     }
@@ -83,8 +95,18 @@ impl Step {
                 target: *target,
                 addend: *addend,
             }),
-            Self::RawSheet(_) | Self::Finish | Self::Write { .. } => Cow::Borrowed(&[]),
+            Self::RawSheet(_)
+            | Self::Finish
+            | Self::WriteRelas(_)
+            | Self::ReadRelas
+            | Self::WriteAgain
+            | Self::Write { .. } => Cow::Borrowed(&[]),
         }
+    }
+
+    /// Whether lent memory is written by hand.
+    pub fn is_by_hand(&self) -> bool {
+        matches!(self, Self::Write { .. } | Self::WriteAgain)
     }
 }
 
@@ -215,6 +237,9 @@ impl fmt::Display for Step {
             Self::Sheet(calls) => write!(f, "sheet: {}", write_text(calls)),
             Self::RawSheet(sheet) => write!(f, "sheet of bytes: {sheet:02X?}"),
             Self::Finish => write!(f, "finish"),
+            Self::WriteRelas(section) => write!(f, "write as ELF, section symbol {section}"),
+            Self::ReadRelas => write!(f, "read ELF entries"),
+            Self::WriteAgain => write!(f, "read ELF entries and write them again"),
             Self::Write { part, at, bytes } => {
                 write!(f, "write to {part:?} at byte {at}: {bytes:02X?}")
             }

@@ -118,7 +118,7 @@ fn against_rust(family: &Family, runner: &mut Runner, findings: &mut Findings) {
 /// the Rust, and counted under its name; any other is held against both.
 fn with_departures(family: &Family, runner: &mut Runner, findings: &mut Findings) {
     let mut departing = Runner::departing(DEPARTURES);
-    let mut tally = Tally::new(family.name);
+    let mut tally = Tally::new(family.name, family.has_rust);
     let mut met = 0;
     for (index, scenario, mut lent) in finished_inputs(family, runner) {
         let departs = has_alignment(&scenario.steps[0].calls());

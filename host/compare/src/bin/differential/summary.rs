@@ -8,11 +8,13 @@ use reference::DEPARTURES;
 use crate::runner::Outcome;
 
 /// The last number of a refusal.
-const LAST_REFUSAL: usize = 23;
+const LAST_REFUSAL: usize = 26;
 
 /// The counts of one family.
 pub struct Tally {
     family: &'static str,
+    /// The Rust has what the family is about.
+    has_rust: bool,
     recordings: u64,
     finished: u64,
     compared: u64,
@@ -24,9 +26,10 @@ pub struct Tally {
 }
 
 impl Tally {
-    pub fn new(family: &'static str) -> Self {
+    pub fn new(family: &'static str, has_rust: bool) -> Self {
         Self {
             family,
+            has_rust,
             recordings: 0,
             finished: 0,
             compared: 0,
@@ -91,7 +94,14 @@ pub fn print(tallies: &[Tally]) {
         let count: u64 = counts.sum();
         println!("{count} recordings without the Rust: {}", departure.name);
     }
-    let recordings: u64 = tallies.iter().map(|tally| tally.recordings).sum();
+    let (with_rust, without): (Vec<_>, Vec<_>) = tallies.iter().partition(|tally| tally.has_rust);
+    for tally in without {
+        println!(
+            "{} inputs without the Rust: {}",
+            tally.recordings, tally.family
+        );
+    }
+    let recordings: u64 = with_rust.iter().map(|tally| tally.recordings).sum();
     let disagreements: u64 = tallies.iter().map(|tally| tally.disagreements).sum();
     println!("{recordings} recordings, {disagreements} disagreements");
 }

@@ -9,9 +9,11 @@ mod mixed;
 mod parts;
 mod pools;
 mod reaches;
+mod relas;
 mod rooms;
 mod short;
 mod tables;
+mod types;
 
 use compare::{Lent, Random};
 
@@ -26,6 +28,8 @@ pub struct Family {
     tightens: bool,
     /// How many inputs of it the gate's sample has.
     pub sample: u64,
+    /// The Rust has what it is about. Else the model alone decides.
+    pub has_rust: bool,
 }
 
 /// Where inputs come from.
@@ -52,6 +56,14 @@ impl Family {
             source: Source::Random(make),
             tightens,
             sample,
+            has_rust: true,
+        }
+    }
+
+    fn without_rust(self) -> Self {
+        Self {
+            has_rust: false,
+            ..self
         }
     }
 
@@ -101,6 +113,7 @@ pub fn all() -> Vec<Family> {
             },
             tightens: false,
             sample: 700_000,
+            has_rust: true,
         },
         Family::random(
             "mixed",
@@ -179,5 +192,24 @@ pub fn all() -> Vec<Family> {
             false,
             limits::scenario,
         ),
+        Family::random(
+            "relas",
+            "relocations written as ELF entries, and entries read",
+            100_000,
+            false,
+            relas::scenario,
+        )
+        .without_rust(),
+        Family {
+            name: "types",
+            about: "all kinds of relocation, all types of ELF, all small lengths",
+            source: Source::Numbered {
+                total: types::total(),
+                make: types::scenario,
+            },
+            tightens: false,
+            sample: types::total(),
+            has_rust: false,
+        },
     ]
 }

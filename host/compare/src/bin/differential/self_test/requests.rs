@@ -46,6 +46,7 @@ fn wrong_rules() -> [(&'static str, Rules); 5] {
             Rules {
                 constant_multiple: as_before,
                 code_alignment: |_, _| 32,
+                ..right
             },
         ),
     ]
@@ -90,8 +91,7 @@ pub fn as_wide_as_the_change(family: &Family, runner: &mut Runner, findings: &mu
     let mut undeparted = Runner::departing(&[]);
     for index in 0..INPUTS {
         let scenario = family.scenario(0, index);
-        let is_by_hand = |step: &Step| matches!(step, Step::Write { .. });
-        if scenario.steps.iter().any(is_by_hand) {
+        if scenario.steps.iter().any(Step::is_by_hand) {
             continue;
         }
         let name = || format!("{} {index}", family.name);

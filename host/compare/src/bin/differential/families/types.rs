@@ -1,0 +1,156 @@
+//! Every kind of relocation on every architecture, every type of ELF, and every
+//! small length: one entry, or as many as the length has.
+
+use compare::{LABEL_TARGET, NONE, Part, X64};
+
+use super::relas::write;
+use crate::scenario::{Scenario, Step};
+
+const KINDS: u64 = 30;
+const MORE_KINDS: [u32; 4] = [255, 256, 257, u32::MAX];
+const ARCHS: u64 = 9;
+/// Label 0 is bound at 1, label 1 is not, and there are no others.
+const TARGETS: [u32; 6] = [
+    0,
+    LABEL_TARGET - 1,
+    LABEL_TARGET,
+    LABEL_TARGET + 1,
+    LABEL_TARGET + 2,
+    u32::MAX,
+];
+const ADDENDS: [i64; 5] = [0, -1, i64::MAX - 1, i64::MAX, i64::MIN];
+/// Bytes of output: one short, just enough, one more.
+const OUTPUTS: [usize; 3] = [23, 24, 25];
+const WRITTEN: u64 = (KINDS + MORE_KINDS.len() as u64)
+    * ARCHS
+    * (TARGETS.len() * ADDENDS.len() * OUTPUTS.len()) as u64
+    * 2;
+
+const TYPES: u64 = 301;
+const MORE_TYPES: [u32; 5] = [513, 65_537, 1 << 24, 1 << 31, u32::MAX];
+/// Bytes of the table: none, and around one entry.
+const TABLES: [usize; 4] = [0, 23, 24, 25];
+const READ_TYPES: u64 = (TYPES + MORE_TYPES.len() as u64) * TABLES.len() as u64;
+
+/// Bits of an offset's high word.
+const READ_OFFSETS: u64 = 32 * TABLES.len() as u64;
+
+const LENGTHS: u64 = 74;
+const ROOMS: u64 = 4;
+/// Bytes of the table past its last entry.
+const REMAINDERS: [usize; 2] = [0, 23];
+const READ_LENGTHS: u64 = LENGTHS * ROOMS * REMAINDERS.len() as u64;
+
+/// The number of all inputs.
+pub fn total() -> u64 {
+    WRITTEN + READ_TYPES + READ_OFFSETS + READ_LENGTHS
+}
+
+/// Every input has a number below [`total`].
+pub fn scenario(number: u64) -> Scenario {
+    let mut scenario = of_number(number);
+    scenario.noise = number;
+    scenario
+}
+
+type Make = fn(&mut Digits) -> Scenario;
+
+fn of_number(mut number: u64) -> Scenario {
+    let parts: [(u64, Make); 4] = [
+        (WRITTEN, written),
+        (READ_TYPES, read_type),
+        (READ_OFFSETS, read_offset),
+        (READ_LENGTHS, read_length),
+    ];
+    for (count, make) in parts {
+        if number < count {
+            return make(&mut Digits(number));
+        }
+        number -= count;
+    }
+    unreachable!("an input's number is below the total")
+}
+
+/// A number taken apart, digit by digit.
+struct Digits(u64);
+
+impl Digits {
+    fn below(&mut self, end: u64) -> u64 {
+        let digit = self.0 % end;
+        self.0 /= end;
+        digit
+    }
+
+    fn pick<T: Copy>(&mut self, from: &[T]) -> T {
+        from[self.below(from.len() as u64) as usize]
+    }
+
+    /// One of the numbers below `end`, or of some more.
+    fn below_or(&mut self, end: u64, more: &[u32]) -> u32 {
+        let digit = self.below(end + more.len() as u64);
+        match digit.checked_sub(end) {
+            None => digit as u32,
+            Some(number) => more[number as usize],
+        }
+    }
+}
+
+/// One relocation, which is counted or not, written and read.
+fn written(digits: &mut Digits) -> Scenario {
+    let count = digits.below(2) as u32;
+    let output = digits.pick(&OUTPUTS);
+    let addend = digits.pick(&ADDENDS);
+    let target = digits.pick(&TARGETS);
+    let arch = digits.below(ARCHS) as u32;
+    let kind = digits.below_or(KINDS, &MORE_KINDS);
+    let (low, high) = (addend as u32, (addend >> 32) as u32);
+    let steps = vec![
+        write(Part::Record, &[arch, 0, 0, 0, 2, count]),
+        write(Part::Labels, &[1, NONE]),
+        write(Part::Relocations, &[1, kind, target, 0, low, high]),
+        Step::WriteRelas(7),
+        Step::WriteAgain,
+    ];
+    let mut scenario = Scenario::new(X64, 0, 0, steps);
+    scenario.room.set(Part::Labels, 2);
+    scenario.room.set(Part::Relocations, 1);
+    scenario.room.set_bytes(Part::Relas, output);
+    scenario.room.set(Part::Entries, 1);
+    scenario
+}
+
+/// ELF entries, read into a table of so many bytes and written again.
+fn read(words: &[u32], relas_bytes: usize, entries_bytes: usize) -> Scenario {
+    let steps = vec![write(Part::Relas, words), Step::WriteAgain];
+    let mut scenario = Scenario::new(X64, 0, 0, steps);
+    scenario.room.set_bytes(Part::Relas, relas_bytes);
+    scenario.room.set_bytes(Part::Entries, entries_bytes);
+    scenario.room.set_bytes(Part::Relocations, relas_bytes);
+    scenario
+}
+
+fn read_type(digits: &mut Digits) -> Scenario {
+    let table = digits.pick(&TABLES);
+    let elf_type = digits.below_or(TYPES, &MORE_TYPES);
+    read(&[5, 0, elf_type, 3, 1, 0], 24, table)
+}
+
+fn read_offset(digits: &mut Digits) -> Scenario {
+    let table = digits.pick(&TABLES);
+    let high = 1 << digits.below(32);
+    read(&[5, high, 1, 3, 1, 0], 24, table)
+}
+
+/// Entries of both lists, of which the length has some.
+fn read_length(digits: &mut Digits) -> Scenario {
+    const WORDS: [[u32; 6]; 4] = [
+        [0, 0, 4, 0, 0, 0],
+        [u32::MAX, 0, 283, u32::MAX, u32::MAX, u32::MAX],
+        [1, 0, 19, 2, 0, 1 << 31],
+        [1, 0, 1, 1, 1, 1],
+    ];
+    let room = digits.below(ROOMS) as usize * 24;
+    let table = room + digits.pick(&REMAINDERS);
+    let length = digits.below(LENGTHS) as usize;
+    read(WORDS.as_flattened(), length, table)
+}
