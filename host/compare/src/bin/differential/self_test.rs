@@ -1,6 +1,7 @@
 //! Shows that the comparison can fail: every fault put into ours is found,
 //! against the model even where a departure leaves the Rust aside.
 
+mod elf;
 mod requests;
 
 use compare::{Lent, Part, Reply};
@@ -56,7 +57,17 @@ pub fn run() -> Findings {
         }
     }
     requests::with_wrong_rules(&mut findings);
+    elf::with_wrong_rules(&mut findings);
     findings
+}
+
+/// The first inputs of a family.
+fn inputs_of(name: &str, count: u64) -> Vec<Scenario> {
+    let family = families::all()
+        .into_iter()
+        .find(|family| family.name == name);
+    let family = family.expect("it is one of the families");
+    (0..count).map(|index| family.scenario(0, index)).collect()
 }
 
 fn against_model(family: &Family, runner: &mut Runner, findings: &mut Findings) {

@@ -4,8 +4,8 @@
 use compare::{AARCH64, Rules, X64, X86, code_alignment};
 use reference::Call;
 
-use super::{Findings, INPUTS};
-use crate::families::{self, Family};
+use super::{Findings, INPUTS, inputs_of};
+use crate::families::Family;
 use crate::runner::Runner;
 use crate::scenario::{Scenario, Step};
 
@@ -63,11 +63,7 @@ fn as_before(size: usize) -> u32 {
 /// Puts each wrong rule in the place of the model's own: ours, which follows
 /// that, differs from it on some input of each kind.
 pub fn with_wrong_rules(findings: &mut Findings) {
-    let pools = families::all()
-        .into_iter()
-        .find(|family| family.name == "pools");
-    let pools = pools.expect("it is one of the families");
-    let inputs: Vec<Scenario> = (0..TRIED).map(|index| pools.scenario(0, index)).collect();
+    let inputs = inputs_of("pools", TRIED);
     for (name, rules) in wrong_rules() {
         let mut runner = Runner::ruled_by(rules);
         for kind in WHERE {
