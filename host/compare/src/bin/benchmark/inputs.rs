@@ -7,6 +7,8 @@ use compare::{LABEL_TARGET, MOST_CODE, MOST_ENTRIES, Random};
 use reference::{Call, write_sheet};
 use wargnifla::Condition;
 
+/// The number of `Reloc::Abs8`.
+const ABS8: u32 = 1;
 /// The most bytes of a sheet's call.
 const MOST_BYTES: usize = 12;
 
@@ -236,14 +238,16 @@ pub fn uses() -> Vec<Step> {
     vec![draft.sheet()]
 }
 
-/// 65,536 relocations over a typical rule, at the offsets of their numbers.
-fn relocations_at(offset: impl Fn(u32, &mut Random) -> u32) -> Vec<Step> {
+/// 65,536 relocations over a typical rule, at the offsets of their numbers, of
+/// some kinds in turn.
+fn relocations_at(kinds: &[u32], offset: impl Fn(u32, &mut Random) -> u32) -> Vec<Step> {
     let mut random = Random::new(3);
     let mut draft = typical_rule(Labels::Rising);
-    for number in 0..MOST_ENTRIES as u32 {
+    let kinds = kinds.iter().cycle();
+    for (number, kind) in (0..MOST_ENTRIES as u32).zip(kinds) {
         draft.calls.push(Call::Relocation {
             offset: offset(number, &mut random),
-            kind: 1,
+            kind: *kind,
             target: random.below(1_000) + LABEL_TARGET,
             addend: 8,
         });
@@ -253,11 +257,16 @@ fn relocations_at(offset: impl Fn(u32, &mut Random) -> u32) -> Vec<Step> {
 
 /// Relocations in the order of the code, as a recorder makes them.
 pub fn relocations() -> Vec<Step> {
-    relocations_at(|number, _| number / 4)
+    relocations_at(&[ABS8], |number, _| number / 4)
+}
+
+/// The same, of every kind that has an ELF type on X64.
+pub fn relocations_of_every_type() -> Vec<Step> {
+    relocations_at(&[0, 1, 2, 3, 4, 5, 9], |number, _| number / 4)
 }
 
 pub fn relocations_at_random() -> Vec<Step> {
-    relocations_at(|_, random| random.below(MOST_ENTRIES as u32 / 4))
+    relocations_at(&[ABS8], |_, random| random.below(MOST_ENTRIES as u32 / 4))
 }
 
 /// Constants of 1 to 12 bytes, all asked for, after one jump.

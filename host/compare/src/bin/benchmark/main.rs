@@ -5,6 +5,7 @@ mod inputs;
 mod library;
 mod measure;
 mod print;
+mod relas;
 mod rows;
 mod run;
 mod sides;

@@ -2,6 +2,7 @@
 
 use crate::inputs::{self, Step};
 use crate::library::library;
+use crate::relas::Task;
 use crate::sides::HandOut;
 
 /// What of a recording is timed.
@@ -22,6 +23,8 @@ pub enum Sides {
     Wrapper(HandOut),
     /// The C functions, and a copy of as many bytes as may be recorded.
     Copy,
+    /// The C functions for ELF entries, and plain loops.
+    Relas(Task),
 }
 
 /// Where the steps of a recording come from.
@@ -103,7 +106,7 @@ impl Row {
 const OWNED: Sides = Sides::Verified(HandOut::Owned);
 const WRAPPER: Sides = Sides::Wrapper(HandOut::Copies);
 
-pub const ROWS: [Row; 37] = [
+pub const ROWS: [Row; 39] = [
     row("jumps-1", "finish: 1 jump", || inputs::small(1)).batched(16),
     row("jumps-10", "finish: 10 jumps", || inputs::small(10)).batched(16),
     row("jumps-20", "finish: 20 jumps", || inputs::small(20)).batched(16),
@@ -171,6 +174,18 @@ pub const ROWS: [Row; 37] = [
         inputs::relocations_at_random,
     )
     .beside(OWNED),
+    row(
+        "relas-write",
+        "65,536 relocations written as ELF; in the Rust's place a loop",
+        inputs::relocations_of_every_type,
+    )
+    .beside(Sides::Relas(Task::Write)),
+    row(
+        "relas-read",
+        "65,536 ELF entries read; in the Rust's place a loop",
+        inputs::relocations_of_every_type,
+    )
+    .beside(Sides::Relas(Task::Read)),
     row(
         "constants-10000",
         "finish: 10,000 pooled constants, one jump",

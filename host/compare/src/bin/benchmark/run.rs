@@ -6,6 +6,7 @@ use crate::inputs::Step;
 use crate::library::{Library, library};
 use crate::measure::{Clock, Effort, Measured, take_turns};
 use crate::print::grouped;
+use crate::relas::{Loop, Relas};
 use crate::rows::{Input, Row, Sides, Timed};
 use crate::sides::{Copy, Rust, Side, Verified, Wrapper, memory};
 
@@ -22,6 +23,12 @@ pub fn measure(row: &Row, effort: Effort) -> Result<(Measured, Option<String>), 
             compare(row, effort, &steps, &mut wrapper, rust(hand_out))
         }
         Sides::Copy => in_turns(row, effort, &steps, &mut verified, &mut Copy::new()),
+        Sides::Relas(task) => {
+            let verified = &mut verified;
+            let mut relas = Relas { verified, task };
+            let plain = Loop::new(&mut relas, &steps);
+            compare(row, effort, &steps, &mut relas, plain)
+        }
     };
     let note = match (row.input, row.timed) {
         (Input::Library, Timed::Finish) => Some(jumps_of(library()?, &verified)),

@@ -58,7 +58,24 @@ impl<'a> Verified<'a> {
 
     /// A word of what the first recording's finish reports.
     fn record_word(&self, number: usize) -> u32 {
-        word(self.0[0].content(Part::Record), number)
+        word(self.content(Part::Record), number)
+    }
+
+    /// What the first recording was lent of a part, or left there.
+    pub fn content(&self, part: Part) -> &[u8] {
+        self.0[0].content(part)
+    }
+
+    pub fn write_relas(&mut self, section: u32) {
+        for lending in &mut self.0 {
+            accepted(lending.write_relas(section));
+        }
+    }
+
+    pub fn read_relas(&mut self) {
+        for lending in &mut self.0 {
+            accepted(lending.read_relas());
+        }
     }
 
     pub fn layouts(&self) -> u32 {
@@ -67,8 +84,8 @@ impl<'a> Verified<'a> {
 
     /// The length of each event of the first recording, as finish laid it out.
     pub fn event_lengths(&self) -> impl Iterator<Item = u32> {
-        let events = word(self.0[0].content(Part::Counts), 6) as usize;
-        let segments = self.0[0].content(Part::Segments);
+        let events = word(self.content(Part::Counts), 6) as usize;
+        let segments = self.content(Part::Segments);
         let segments = segments.chunks_exact(Part::Segments.entry_bytes());
         segments
             .take(events)
@@ -76,7 +93,7 @@ impl<'a> Verified<'a> {
     }
 }
 
-fn word(bytes: &[u8], number: usize) -> u32 {
+pub fn word(bytes: &[u8], number: usize) -> u32 {
     let bytes = bytes[4 * number..][..4].try_into();
     u32::from_le_bytes(bytes.expect("a word has four bytes"))
 }
@@ -101,7 +118,7 @@ impl Side for Verified<'_> {
 
     fn code(&self) -> &[u8] {
         let length = self.record_word(1) as usize;
-        &self.0[0].content(Part::Output)[..length]
+        &self.content(Part::Output)[..length]
     }
 }
 
