@@ -307,7 +307,8 @@ uint32_t wargnifla_add_reloc(uint8_t *counts, size_t counts_len, uint8_t *relocs
 
 /* Writes the relocations of a finished recording as Elf64_Rela entries, in recorded order, to output; bytes past them are untouched. record, labels
  * and relocs are as finish left them. A symbol's number goes in unchanged; a label becomes section, the number of the section symbol of the code, and
- * its offset is added to the addend. A refused call changes nothing. It answers, in this order:
+ * its offset is added to the addend, whatever the kind. So X86GOTPCRel4 and ElfX86_64TlsGd are to name a symbol: a linker makes their entries for the
+ * symbol alone, without the addend. A refused call changes nothing. It answers, in this order:
  *
  *   1    the record is lent too short; its count of labels or relocations passes what is lent; a relocation, any of them, names a label that is
  *        unknown or not bound
