@@ -56,7 +56,7 @@ static void write_and_read(void) {
 }
 
 static void write_refused(void) {
-    uint8_t relas[WARGNIFLA_RELA_BYTES];
+    uint8_t words[WARGNIFLA_RECORD_BYTES] = {WARGNIFLA_X64}, relas[WARGNIFLA_RELA_BYTES];
     wargnifla_record record;
     wargnifla_tables tables = finished(WARGNIFLA_X86, WARGNIFLA_RELOC_Abs4, LOG, 0, &record);
     print_answer("X86", wargnifla_tables_write_relas(&tables, &record, TEXT_SECTION, relas, sizeof relas));
@@ -74,6 +74,7 @@ static void write_refused(void) {
     print_answer("an output of 23 bytes", wargnifla_tables_write_relas(&tables, &record, TEXT_SECTION, relas, sizeof relas - 1));
     record.labels = 0;
     print_answer("an unknown label", wargnifla_tables_write_relas(&tables, &record, TEXT_SECTION, relas, sizeof relas));
+    print_answer("a record of 23 bytes", wargnifla_write_relas(words, sizeof words - 1, NULL, 0, NULL, 0, TEXT_SECTION, NULL, 0));
 }
 
 static void read_refused(void) {
