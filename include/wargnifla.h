@@ -38,8 +38,8 @@ enum wargnifla_arch {
 
 /* Refusals: what every function returns. Numbers 6, 7, 8, 10, 11 and 12 end a recording, but for 8 at a bind: it then answers every call, finish too,
  * with the first of them and changes nothing else. All others leave it as it was. Where several apply, 1 comes first (but for a table entry that
- * finish finds, which comes after 4), then the recorded one, then the lowest number; 19 to 22 are tried together, use by use. 24 to 26 are of
- * wargnifla_write_relas alone, in the order that its comment gives. */
+ * finish finds, which comes after 4), then the recorded one, then the lowest number; 19 to 22 are tried together, use by use. The functions for ELF
+ * entries touch no recording and answer in the order that their comments give; 24 to 26 are of wargnifla_write_relas alone. */
 enum wargnifla_refusal {
     WARGNIFLA_ACCEPTED = 0,
     WARGNIFLA_MALFORMED = 1,            /* a sheet's form, a field code above 16 and a relocation kind above 27 too; a count that passes what is lent;
