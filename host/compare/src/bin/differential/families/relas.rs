@@ -90,7 +90,7 @@ fn addend(random: &mut Random, offset: u32) -> i64 {
 }
 
 /// The low and the high word of an addend.
-fn words_of(addend: i64) -> [u32; 2] {
+pub fn words_of(addend: i64) -> [u32; 2] {
     [addend as u32, (addend >> 32) as u32]
 }
 
