@@ -97,7 +97,7 @@ pub fn print(tallies: &[Tally]) {
     let (with_rust, without): (Vec<_>, Vec<_>) = tallies.iter().partition(|tally| tally.has_rust);
     for tally in without {
         println!(
-            "{} inputs without the Rust: {}",
+            "{} inputs for what the Rust has not: {}",
             tally.recordings, tally.family
         );
     }
