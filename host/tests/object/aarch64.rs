@@ -5,7 +5,8 @@ use wargnifla::{Arch, Reloc, Sym};
 use crate::Rule;
 use crate::binutils::{Folder, are_at_hand};
 
-/// The rule in the assembler's language.
+/// The rule in the assembler's language. It has the section `.note.GNU-stack`, as an object of ours has: the linker makes a header more for it, and so
+/// places the code elsewhere.
 const ASSEMBLED: &str = "
         .globl  rule
         .p2align 5
@@ -20,6 +21,7 @@ rule:   stp     x29, x30, [sp, #-16]!
 table:  .quad   cells + 8
         .quad   table + 1
         .word   cells
+        .section .note.GNU-stack, \"\", %progbits
 ";
 
 fn recorded() -> Rule {
