@@ -206,11 +206,11 @@ standard input:2: note: label end is bound here
     refused(b"arch x86; b 90", 1, sentence);
     let sentence = "standard input: symbol 1 and label 0 are both named 's1', and an object has one symbol of a name";
     refused(b"z 8; o 0 Abs8 s01; s1:", 2, sentence);
-    let sentence =
-        "standard input:2: the field of the relocation at 5, 4 bytes, passes the end of the code, 8
-    o 5 Abs4 s0
+    let sentence = "standard input:2: \
+                    relocation 1, at 6 in the finished code, has a field of 4 bytes, which passes the end of the code, 8
+    o 9 Abs4 s0
       ^";
-    refused(b"z 8; o 0 Abs8 s0\no 5 Abs4 s0", 2, sentence);
+    refused(b"jmp end; end: z 6; o 5 Abs4 s0\no 9 Abs4 s0", 2, sentence);
     let sheet = write_sheet(&read_text("z 4; o 0 X86SecRel s0").unwrap().calls).unwrap();
     let sentence = "standard input: call 1: write_relas: number 24, InvalidArch: \
                     relocation 0, at 0 in the finished code, is of kind X86SecRel, which has no ELF type on X64";

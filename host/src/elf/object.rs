@@ -5,7 +5,7 @@ use std::borrow::Cow;
 use std::collections::{BTreeMap, HashMap};
 use std::fmt;
 
-use crate::explain::past_code;
+use crate::explain::of_relocation;
 use crate::recording::{AsmReloc, Label, RelocTarget, Sym};
 use crate::verified::RELA_BYTES;
 use crate::{Arch, CodeBufferFinalized, CodeOffset, Error, Reloc, UNBOUND};
@@ -194,8 +194,11 @@ impl CodeBufferFinalized {
         match self.relocs.iter().position(passes_end) {
             None => Ok(()),
             Some(relocation) => {
-                let AsmReloc { offset, kind, .. } = self.relocs[relocation];
-                let sentence = past_code("relocation", offset, kind.field_size(), len);
+                let reloc = &self.relocs[relocation];
+                let size = reloc.kind.field_size();
+                let wrong =
+                    format!("has a field of {size} bytes, which passes the end of the code, {len}");
+                let sentence = of_relocation(relocation, reloc, &wrong);
                 Err(ObjectError::FieldPastEnd {
                     relocation,
                     sentence,

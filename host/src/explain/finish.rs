@@ -1,6 +1,6 @@
 //! Refused finishes.
 
-use super::{NO_REASON, past_code, with_offsets};
+use super::{NO_REASON, with_offsets};
 use crate::ffi::Segment;
 use crate::recording::{
     AsmFixup, Label, LabelRef, LayoutEvent, Names, Pooled, Recording, RelocTarget,
@@ -126,6 +126,13 @@ fn unfit_field(field: &LabelRef, pooled: &Pooled) -> Option<String> {
             with_offsets(&pooled.event_name(touched), event)
         )
     })
+}
+
+fn past_code(what: &str, start: CodeOffset, size: u32, len: CodeOffset) -> String {
+    format!(
+        "the field of the {what} at {start}, {}, passes the end of the code, {len}",
+        counted(size as usize, "byte")
+    )
 }
 
 /// The first ref that cannot reach its label plus addend, once jumps have settled.

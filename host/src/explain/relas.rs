@@ -38,13 +38,17 @@ fn first(
 ) -> Found {
     let mut relocs = finished.relocs().iter().enumerate();
     relocs.find_map(|(i, reloc)| {
-        let wrong = wrong(finished, reloc)?;
-        let sentence = format!(
-            "relocation {i}, at {} in the finished code, {wrong}",
-            reloc.offset
-        );
+        let sentence = of_relocation(i, reloc, &wrong(finished, reloc)?);
         Some((sentence, Some(Entry::Reloc(i))))
     })
+}
+
+/// What is wrong with a relocation, by its index. A sheet has the recorded offset, so the sentence says that this one is another.
+pub(crate) fn of_relocation(i: usize, reloc: &AsmReloc, wrong: &str) -> String {
+    format!(
+        "relocation {i}, at {} in the finished code, {wrong}",
+        reloc.offset
+    )
 }
 
 fn no_type(finished: &CodeBufferFinalized, reloc: &AsmReloc) -> Option<String> {

@@ -244,12 +244,12 @@ fn fields_stand_within_the_code() {
     past_end(
         Reloc::Abs4,
         5,
-        "the field of the relocation at 5, 4 bytes, passes the end of the code, 8",
+        "relocation 1, at 5 in the finished code, has a field of 4 bytes, which passes the end of the code, 8",
     );
     past_end(
         Reloc::Abs8,
         16_777_215,
-        "the field of the relocation at 16777215, 8 bytes, passes the end of the code, 8",
+        "relocation 1, at 16777215 in the finished code, has a field of 8 bytes, which passes the end of the code, 8",
     );
 }
 
