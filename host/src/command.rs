@@ -30,12 +30,12 @@ struct Failure {
 }
 
 impl Failure {
-    /// The recording or its finish was refused.
+    /// The recording, its finish or its relocations as ELF were refused.
     fn refused(message: String) -> Self {
         Self { status: 1, message }
     }
 
-    /// The command line, a file or a text is unusable.
+    /// The command line, a file or a text is unusable, or what is to be written fits no such file.
     fn unusable(message: String) -> Self {
         Self { status: 2, message }
     }

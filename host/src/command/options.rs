@@ -24,7 +24,8 @@ Records a sheet of calls, finishes it, and shows the code. FILE is a sheet in te
   -h, --help               this text
   -V, --version            the version
 
-Exit status: 0 finished; 1 refused; 2 bad usage, an unreadable file or malformed text; 3 an error of this program itself.
+Exit status: 0 finished; 1 refused; 2 bad usage, a file that can't be read or written, malformed text, or what fits no object or binary sheet;
+3 an error of this program itself.
 Files are written only where the code is finished. What was recorded and is not in the code is said on standard error.
 ";
 
