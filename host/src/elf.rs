@@ -27,7 +27,11 @@ pub struct Rela {
 
 impl CodeBufferFinalized {
     /// The relocations as `Elf64_Rela` entries of 24 bytes, in recorded order. Symbols keep their numbers; a label becomes `section_symbol`, the
-    /// number of the symbol that stands for the code's section, and its offset is added to the addend.
+    /// number of the symbol that stands for the code's section, and its offset is added to the addend. So [`Reloc::X86GOTPCRel4`] and
+    /// [`Reloc::ElfX86_64TlsGd`] are to name a symbol: a linker makes their places in the GOT for the symbol alone, without the addend.
+    ///
+    /// [`Reloc::X86GOTPCRel4`]: crate::Reloc::X86GOTPCRel4
+    /// [`Reloc::ElfX86_64TlsGd`]: crate::Reloc::ElfX86_64TlsGd
     ///
     /// ```
     /// use wargnifla::{Arch, CodeBuffer, Reloc, RelocTarget, Sym};
