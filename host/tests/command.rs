@@ -211,6 +211,13 @@ standard input:2: note: label end is bound here
     o 9 Abs4 s0
       ^";
     refused(b"jmp end; end: z 6; o 5 Abs4 s0\no 9 Abs4 s0", 2, sentence);
+    let sentence = "standard input:2: \
+                    relocation 1, at 6 in the finished code, is of kind X86GOTPCRel4 and names label end, \
+                    but a linker makes GOT entries for symbols alone: name a symbol instead
+    o 9 X86GOTPCRel4 end -4
+                     ^^^";
+    let text = b"jmp end; z 8; o 5 X86GOTPCRel4 s0 -4\no 9 X86GOTPCRel4 end -4\nend:";
+    refused(text, 2, sentence);
     let sheet = write_sheet(&read_text("z 4; o 0 X86SecRel s0").unwrap().calls).unwrap();
     let sentence = "standard input: call 1: write_relas: number 24, InvalidArch: \
                     relocation 0, at 0 in the finished code, is of kind X86SecRel, which has no ELF type on X64";

@@ -137,18 +137,18 @@ impl Input {
 
     /// What no object can hold, with the place in the file that it goes back to.
     pub fn no_object(&self, error: &ObjectError, recording: &Recording) -> Failure {
-        let call = match error {
+        let sentence = error.to_string();
+        let wrong_word = match error {
             ObjectError::Relocations(error) => return self.refused_finish(error, recording),
-            ObjectError::FieldPastEnd { relocation, .. } => {
-                call_of_entry(&self.calls, self.arch, Entry::Reloc(*relocation))
-            }
+            ObjectError::FieldPastEnd { relocation, .. } => Some((*relocation, 1)),
+            ObjectError::LabelInGot { relocation, .. } => Some((*relocation, 3)),
             _ => None,
         };
-        let sentence = error.to_string();
-        Failure::unusable(match call {
-            Some(call) => self.said_of(call, 1, &sentence),
-            None => format!("{}: {sentence}", self.file),
-        })
+        let placed = wrong_word.and_then(|(relocation, word)| {
+            let call = call_of_entry(&self.calls, self.arch, Entry::Reloc(relocation))?;
+            Some(self.said_of(call, word, &sentence))
+        });
+        Failure::unusable(placed.unwrap_or_else(|| format!("{}: {sentence}", self.file)))
     }
 
     /// A refused finish, or what is refused of a finished recording, with the place in the file that it goes back to.

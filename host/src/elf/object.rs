@@ -71,6 +71,14 @@ pub enum ObjectError {
         /// What is wrong.
         sentence: String,
     },
+    /// A relocation for which a linker makes entries in the GOT, [`Reloc::X86GOTPCRel4`] or [`Reloc::ElfX86_64TlsGd`], names a label. The linker makes
+    /// them for symbols alone, and would make them for the section's, without the label's offset.
+    LabelInGot {
+        /// The relocation, by its index.
+        relocation: usize,
+        /// What is wrong.
+        sentence: String,
+    },
     /// The name of a label or symbol is empty or has a zero byte, which ends names in an object.
     UnfitName(RelocTarget),
     /// Two labels or symbols have one name.
@@ -88,7 +96,9 @@ impl fmt::Display for ObjectError {
     fn fmt(&self, f: &mut fmt::Formatter<'_>) -> fmt::Result {
         match self {
             Self::Relocations(error) => error.fmt(f),
-            Self::FieldPastEnd { sentence, .. } => f.write_str(sentence),
+            Self::FieldPastEnd { sentence, .. } | Self::LabelInGot { sentence, .. } => {
+                f.write_str(sentence)
+            }
             Self::UnfitName(target) => write!(
                 f,
                 "the name of {target} is empty or has a zero byte, and no symbol of an object has such a name"
@@ -151,12 +161,12 @@ impl CodeBufferFinalized {
     ///
     /// # Errors
     ///
-    /// As [`Self::relas`]; and where a relocation's field passes the end of the code, two symbols would have one name, or one a name that no object
-    /// holds.
+    /// As [`Self::relas`]; and where a relocation's field passes the end of the code, one of kind [`Reloc::X86GOTPCRel4`] or
+    /// [`Reloc::ElfX86_64TlsGd`] names a label, two symbols would have one name, or one a name that no object holds.
     pub fn object(&self) -> Result<Vec<u8>, ObjectError> {
         let symbols = Symbols::new(self);
         let relas = self.relas_of(&symbols.renumbered(&self.relocs), TEXT_SYMBOL)?;
-        self.check_fields()?;
+        self.check_relocs()?;
         let (symtab, strtab) = symbols.tables()?;
         let (names, shstrtab) = section_names();
         let sections = [
@@ -188,23 +198,33 @@ impl CodeBufferFinalized {
         Ok(file(machine(self.arch()), &names, &sections))
     }
 
-    fn check_fields(&self) -> Result<(), ObjectError> {
+    /// Refuses relocations that have a type, but that no linker fills as they are meant.
+    fn check_relocs(&self) -> Result<(), ObjectError> {
         let len = self.total_size() as CodeOffset;
-        let passes_end = |reloc: &AsmReloc| reloc.offset + reloc.kind.field_size() > len;
-        match self.relocs.iter().position(passes_end) {
-            None => Ok(()),
-            Some(relocation) => {
-                let reloc = &self.relocs[relocation];
-                let size = reloc.kind.field_size();
+        for (relocation, reloc) in self.relocs.iter().enumerate() {
+            let (kind, size) = (reloc.kind, reloc.kind.field_size());
+            if reloc.offset + size > len {
                 let wrong =
                     format!("has a field of {size} bytes, which passes the end of the code, {len}");
-                let sentence = of_relocation(relocation, reloc, &wrong);
-                Err(ObjectError::FieldPastEnd {
+                return Err(ObjectError::FieldPastEnd {
                     relocation,
-                    sentence,
-                })
+                    sentence: of_relocation(relocation, reloc, &wrong),
+                });
+            }
+            if let RelocTarget::Label(label) = reloc.target
+                && let Reloc::X86GOTPCRel4 | Reloc::ElfX86_64TlsGd = kind
+            {
+                let label = self.names.text(label);
+                let wrong = format!(
+                    "is of kind {kind} and names {label}, but a linker makes GOT entries for symbols alone: name a symbol instead"
+                );
+                return Err(ObjectError::LabelInGot {
+                    relocation,
+                    sentence: of_relocation(relocation, reloc, &wrong),
+                });
             }
         }
+        Ok(())
     }
 }
 

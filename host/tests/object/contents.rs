@@ -254,6 +254,34 @@ fn fields_stand_within_the_code() {
 }
 
 #[test]
+fn got_entries_are_for_symbols() {
+    let object = |kind, target: RelocTarget| {
+        let mut rule = Rule::new(Arch::X64, &["cell"]);
+        let end = rule.label("end");
+        let constant = rule.buffer.add_constant(&[7; 8]).unwrap();
+        let constant = rule.buffer.get_label_for_constant(constant).unwrap();
+        rule.field(Reloc::X86PCRel4, constant, -4);
+        rule.field(kind, target, -4);
+        rule.bind(end);
+        rule.finish().object()
+    };
+    for kind in [Reloc::X86GOTPCRel4, Reloc::ElfX86_64TlsGd] {
+        assert!(object(kind, Sym::from_id(0).into()).is_ok());
+        for (label, name) in [(0, "label end"), (1, "label 1")] {
+            let sentence = format!(
+                "relocation 1, at 4 in the finished code, is of kind {kind} and names {name}, \
+                 but a linker makes GOT entries for symbols alone: name a symbol instead"
+            );
+            let error = ObjectError::LabelInGot {
+                relocation: 1,
+                sentence,
+            };
+            assert_eq!(object(kind, Label::from_id(label).into()), Err(error));
+        }
+    }
+}
+
+#[test]
 fn relocations_are_refused_as_they_are_without_an_object() {
     let mut x86 = CodeBuffer::new(Arch::X86);
     let labels = [x86.get_label().unwrap(), x86.get_label().unwrap()];

@@ -1,6 +1,6 @@
 //! Relocations as readelf and objdump show them.
 
-use wargnifla::{Arch, RelocTarget, Sym};
+use wargnifla::{Arch, Reloc, RelocTarget, Sym};
 
 use crate::Rule;
 use crate::binutils::{Folder, are_at_hand};
@@ -9,7 +9,8 @@ use crate::elf_types::elf_types;
 /// What is to be shown of a relocation: offset, type, symbol and addend.
 type Shown = (u32, String, String, i64);
 
-/// A rule with a relocation of every kind that has a type, to a symbol and to a label behind 8 bytes, and what is to be shown of them.
+/// A rule with a relocation of every kind that has a type, to a symbol and, unless a linker makes GOT entries for it, to a label behind 8 bytes; and
+/// what is to be shown of them.
 fn every_kind(arch: Arch) -> (Rule, Vec<Shown>) {
     let mut rule = Rule::new(arch, &["cell"]);
     let mut expected = Vec::new();
@@ -21,7 +22,11 @@ fn every_kind(arch: Arch) -> (Rule, Vec<Shown>) {
             (Sym::from_id(0).into(), "cell", 0),
             (label.into(), ".text", 8),
         ];
-        for (target, symbol, place) in targets {
+        let targets = match kind {
+            Reloc::X86GOTPCRel4 | Reloc::ElfX86_64TlsGd => &targets[..1],
+            _ => &targets[..],
+        };
+        for &(target, symbol, place) in targets {
             let (offset, addend) = (rule.buffer.cur_offset(), 3 - 2 * i);
             rule.field(*kind, target, addend);
             expected.push((
@@ -32,7 +37,6 @@ fn every_kind(arch: Arch) -> (Rule, Vec<Shown>) {
             ));
         }
     }
-    assert_eq!(expected.len(), 2 * elf_types(arch).len());
     (rule, expected)
 }
 
