@@ -28,23 +28,24 @@ static wargnifla_tables finished(uint32_t arch, uint32_t kind, uint32_t target, 
     return tables;
 }
 
-/* A call of a symbol and the address of a label, behind a jump that becomes shorter. */
+/* A jump over an address, that of the code's end: 5 bytes past a label. Behind it, a jump to a symbol. Finish shortens the first jump, so that both
+ * fields and the label move. */
 static void write_and_read(void) {
-    static const uint8_t jump[5] = {0}, call[] = {0xE8, 0, 0, 0, 0}, address[8] = {0};
+    static const uint8_t over_address[5] = {0}, address[8] = {0}, to_log[] = {0xE9, 0, 0, 0, 0};
+    uint8_t output[CODE_ROOM], relas[ENTRY_ROOM * WARGNIFLA_RELA_BYTES], entries[ENTRY_ROOM * WARGNIFLA_RELOC_BYTES];
     wargnifla_tables tables = small_tables(WARGNIFLA_X64, SYMBOLS);
     wargnifla_segment segments[ENTRY_ROOM];
     wargnifla_record record;
-    uint8_t output[CODE_ROOM], relas[ENTRY_ROOM * WARGNIFLA_RELA_BYTES], entries[ENTRY_ROOM * WARGNIFLA_RELOC_BYTES];
-    uint32_t end, i;
+    uint32_t code, i;
 
-    accept("new label", wargnifla_tables_new_label(&tables, &end));
-    accept("bytes", wargnifla_tables_put_bytes(&tables, jump, sizeof jump));
-    accept("jump", wargnifla_tables_jump(&tables, 0, sizeof jump, end, WARGNIFLA_ALWAYS));
-    accept("bytes", wargnifla_tables_put_bytes(&tables, call, sizeof call));
-    accept("relocation", wargnifla_tables_add_reloc(&tables, 6, WARGNIFLA_RELOC_X86CallPLTRel4, LOG, -4));
-    accept("bind", wargnifla_tables_bind(&tables, end));
+    accept("new label", wargnifla_tables_new_label(&tables, &code));
+    accept("bytes", wargnifla_tables_put_bytes(&tables, over_address, sizeof over_address));
+    accept("jump", wargnifla_tables_jump(&tables, 0, sizeof over_address, code, WARGNIFLA_ALWAYS));
+    accept("relocation", wargnifla_tables_add_reloc(&tables, 5, WARGNIFLA_RELOC_Abs8, WARGNIFLA_LABEL_TARGET + code, sizeof to_log));
     accept("bytes", wargnifla_tables_put_bytes(&tables, address, sizeof address));
-    accept("relocation", wargnifla_tables_add_reloc(&tables, 10, WARGNIFLA_RELOC_Abs8, WARGNIFLA_LABEL_TARGET + end, 1));
+    accept("bind", wargnifla_tables_bind(&tables, code));
+    accept("relocation", wargnifla_tables_add_reloc(&tables, 14, WARGNIFLA_RELOC_X86CallPLTRel4, LOG, -4));
+    accept("bytes", wargnifla_tables_put_bytes(&tables, to_log, sizeof to_log));
     accept("finish", wargnifla_tables_finish(&tables, segments, ENTRY_ROOM, output, sizeof output, &record));
 
     accept("write", wargnifla_tables_write_relas(&tables, &record, TEXT_SECTION, relas, sizeof relas));
