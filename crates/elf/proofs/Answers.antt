@@ -61,7 +61,6 @@ module _ (relas table : List ℕ) where
 -- relocations that are fit lie in their table, with the labels that they name
 pub record Fit (code : CodeBufferFinalized) (labels relocs : List ℕ) : Type 0 where
   pub room : code .relocs * relocSize ≤ length relocs
-  pub bound : allTargetsBound labels (code .labels) relocs (code .relocs) ≡ true
   pub named : TargetsNamed relocs (code .relocs) labels
 
 pub unfit-passed : (code : CodeBufferFinalized) (labels relocs : List ℕ) → whyUnfit code labels relocs ≡ 0 → Fit code labels relocs
@@ -73,7 +72,6 @@ unfit-passed code labels relocs h =
     let listed = both-true (leb (code .relocs) (length relocs / relocSize)) bound (labelled .1) in
     record {
       room = omega (arith, leb-true (code .relocs) (length relocs / relocSize) (listed .0));
-      bound = listed .1;
       named = targets-named labels (code .labels) relocs (code .relocs) (omega (arith, leb-true (code .labels) (length labels / labelSize) (labelled .0))) (listed .1);
     }
 
@@ -97,7 +95,6 @@ write-passed code labels relocs room h =
 -- and the reading
 pub record Read (relas : List ℕ) (room : ℕ) : Type 0 where
   pub fit : relasFit relas ≡ true
-  pub within : room ≤ mostEntries
   pub table : length relas / relaSize ≤ room
 
 pub read-passed : (relas : List ℕ) (room : ℕ) → whyNotRead relas room ≡ 0 → Read relas room
@@ -107,7 +104,6 @@ read-passed relas room h =
     let then = passed (ltb mostEntries room) refusals.pastLimit _ (λ e. omega arith) (first .1) in
     record {
       fit = not-false _ (first .0);
-      within = ltb-false mostEntries room (then .0);
       table = ltb-false room _ (passed _ refusals.tableFull 0 (λ e. omega arith) (then .1) .0);
     }
 
