@@ -1,4 +1,4 @@
--- The numbers by which calls refuse, in the order of document 01's list; 0 is none.
+-- The numbers by which calls refuse: 1 to 23 in the order of document 01's list, then those of document 02's requests; 0 is none.
 use Prim.Native.Nat.{ℕ}
 
 -- a sheet, an argument, a count or a table's entry that breaks its form

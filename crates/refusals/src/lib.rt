@@ -1,4 +1,5 @@
-// The numbers by which calls refuse: 0 is none. Where several apply, a recorded one comes first once `MALFORMED` is past, then the lowest.
+// The numbers by which calls refuse: 0 is none. Where several apply, a recorded one comes first once `MALFORMED` is past, then the lowest; 24
+// on have the order of their calls.
 
 // A sheet, an argument, a count or a table's entry that breaks its form.
 pub const MALFORMED: u32 = 1;
