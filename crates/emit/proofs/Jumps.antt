@@ -3,9 +3,8 @@ use mathlib.Core.Path.{_≡_, refl, sym, ap, _∙_}
 use mathlib.Core.Bool.{Bool, true, false}
 use mathlib.Core.List.{List, [], _∷_}
 use Prim.Native.Nat.{ℕ, _+_, _≤_, _<_}
-use borrow.Author.Count.{below-none, below-more}
 use lib.Dec.{lit≤}
-use lib.ListN.{length, getD, set, replicate, length-replicate}
+use lib.ListN.{length, set, replicate, length-replicate}
 use Rattle.relax.specs.declared.Alignment.{Alignment}
 use Rattle.relax.specs.declared.Condition.{Condition}
 use Rattle.relax.specs.declared.Condition.the-variants.{Always, On}
@@ -17,36 +16,6 @@ use Rattle.encoder.specs.Padding.{paddingLength}
 use Rattle.buffer.specs.Calls.{padding}
 use Rattle.fresh.proofs.Forms.{length-form}
 use Rattle.emit.specs.steps.Emit.{jumpForm, Encodes, Writes}
-
--- the opcodes of the long conditional jumps
-abbrev pub rows : List (List ℕ)
-rows =
-    (0x0F ∷ 0x80 ∷ [])
-    ∷ (0x0F ∷ 0x81 ∷ [])
-    ∷ (0x0F ∷ 0x82 ∷ [])
-    ∷ (0x0F ∷ 0x83 ∷ [])
-    ∷ (0x0F ∷ 0x84 ∷ [])
-    ∷ (0x0F ∷ 0x85 ∷ [])
-    ∷ (0x0F ∷ 0x86 ∷ [])
-    ∷ (0x0F ∷ 0x87 ∷ [])
-    ∷ (0x0F ∷ 0x88 ∷ [])
-    ∷ (0x0F ∷ 0x89 ∷ [])
-    ∷ (0x0F ∷ 0x8A ∷ [])
-    ∷ (0x0F ∷ 0x8B ∷ [])
-    ∷ (0x0F ∷ 0x8C ∷ [])
-    ∷ (0x0F ∷ 0x8D ∷ [])
-    ∷ (0x0F ∷ 0x8E ∷ [])
-    ∷ (0x0F ∷ 0x8F ∷ [])
-    ∷ []
-
-abbrev Row : ℕ → Type 0
-Row c = getD rows c [] ≡ 0x0F ∷ (0x80 + c) ∷ []
-
-pub row-is : (c : ℕ) → c < 16 → getD rows c [] ≡ 0x0F ∷ (0x80 + c) ∷ []
-row-is c h =
-    let more = below-more Row in
-    more 15 (more 14 (more 13 (more 12 (more 11 (more 10 (more 9 (more 8 (more 7 (more 6 (more 5 (more 4 (more 3 (more 2 (more 1 (more 0 (below-none Row)
-    refl) refl) refl) refl) refl) refl) refl) refl) refl) refl) refl) refl) refl) refl) refl) refl c h
 
 pub short-size : (cc : Condition) → length (shortForm cc) ≡ 2
 short-size Always = refl
@@ -67,18 +36,12 @@ pub put-always : (cc : Condition) (part zeros : List ℕ) → cc ≡ Always → 
     → length part ≡ length (longForm cc) → set zeros 0 0xE9 ≡ longForm cc
 put-always cc part zeros e f h = let l : length part ≡ 5 = h ∙ ap (λ (x : Condition). length (longForm x)) e in rw (f, l, e)
 
-pub on-length : (cc : Condition) (c : ℕ) (part : List ℕ) → cc ≡ On c → length part ≡ length (longForm cc) → length part ≡ 6
-on-length cc c part e h = h ∙ ap (λ (x : Condition). length (longForm x)) e
-
 pub on-encodes : (cc : Condition) (c : ℕ) → cc ≡ On c → Encodes cc → c < 16
 on-encodes cc c e h = rw e at h
 
-pub put-on : (cc : Condition) (c : ℕ) (part zeros : List ℕ) → cc ≡ On c → Encodes cc → zeros ≡ replicate (length part) 0
-    → length part ≡ length (longForm cc)
-    → set (set zeros 0 (getD (getD rows c []) 0 0)) 1 (getD (getD rows c []) 1 0) ≡ longForm cc
-put-on cc c part zeros e o f h =
-    let l : length part ≡ 6 = on-length cc c part e h in
-    rw (f, l, row-is c (on-encodes cc c e o), e)
+pub put-on : (cc : Condition) (c : ℕ) (part zeros : List ℕ) → cc ≡ On c → zeros ≡ replicate (length part) 0
+    → length part ≡ length (longForm cc) → set (set zeros 0 0x0F) 1 (0x80 + c) ≡ longForm cc
+put-on cc c part zeros e f h = let l : length part ≡ 6 = h ∙ ap (λ (x : Condition). length (longForm x)) e in rw (f, l, e)
 
 -- an event's form
 pub jump-writes : (event : LayoutEvent) (j : RelaxableJump) → event ≡ Jump j → Writes event → Encodes (j .cc)

@@ -28,26 +28,6 @@ use relax::LayoutEvent;
 use relax::RelaxableJump;
 use relax::Segment;
 
-// The opcodes of the long conditional jumps, by condition.
-pub const LONG_JCC: [[u8; 2]; 16] = [
-    [0x0f, 0x80],
-    [0x0f, 0x81],
-    [0x0f, 0x82],
-    [0x0f, 0x83],
-    [0x0f, 0x84],
-    [0x0f, 0x85],
-    [0x0f, 0x86],
-    [0x0f, 0x87],
-    [0x0f, 0x88],
-    [0x0f, 0x89],
-    [0x0f, 0x8a],
-    [0x0f, 0x8b],
-    [0x0f, 0x8c],
-    [0x0f, 0x8d],
-    [0x0f, 0x8e],
-    [0x0f, 0x8f],
-];
-
 fn short_opcode(cc: Condition) -> u8
     requires { ⌜ Encodes cc ⌝ }
     ensures { λ r. ⌜ shortForm cc ≡ r ∷ 0 ∷ [] ⌝ }
@@ -76,9 +56,8 @@ fn put_long(part: &mut [u8], cc: Condition)
             part[0] = 0xe9;
         }
         Condition::On(c) => {
-            let row = LONG_JCC[c as usize];
-            part[0] = row[0];
-            part[1] = row[1];
+            part[0] = 0x0f;
+            part[1] = (0x80 + c) as u8;
         }
     }
 }

@@ -12,17 +12,23 @@ slice-write-part c =
     let start : tie.Start = search in
     omega (arith, long-size (start .args .cc), cleared-length (start .args .part .now) _ (after-clear .clear .ensures), start .pre .1)
 
-array-copy-out-row : tie.Need-array-copy-out-row
-array-copy-out-row c =
-    let after-cc : tie.After-cc = search in
-    let start : tie.Start = search in
-    omega (arith, on-encodes _ _ (after-cc .cc .given .1) (start .pre .0))
-
 slice-write-part-2 : tie.Need-slice-write-part-2
 slice-write-part-2 c =
     let after-clear : tie.After-clear = search in
     let start : tie.Start = search in
     omega (arith, long-size (start .args .cc), cleared-length (start .args .part .now) _ (after-clear .clear .ensures), start .pre .1)
+
+add-part : tie.Need-add-part
+add-part c =
+    let after-cc : tie.After-cc = search in
+    let start : tie.Start = search in
+    omega (arith, on-encodes _ _ (after-cc .cc .given .1) (start .pre .0))
+
+cast-part : tie.Need-cast-part
+cast-part c =
+    let after-cc : tie.After-cc = search in
+    let start : tie.Start = search in
+    omega (arith, on-encodes _ _ (after-cc .cc .given .1) (start .pre .0))
 
 slice-write-part-3 : tie.Need-slice-write-part-3
 slice-write-part-3 c =
@@ -41,7 +47,7 @@ returns-2 c =
     let after-cc : tie.After-cc = search in
     let after-clear : tie.After-clear = search in
     let start : tie.Start = search in
-    put-on (start .args .cc) _ (start .args .part .now) _ (after-cc .cc .given .1) (start .pre .0) (after-clear .clear .ensures) (start .pre .1)
+    put-on (start .args .cc) _ (start .args .part .now) _ (after-cc .cc .given .1) (after-clear .clear .ensures) (start .pre .1)
 
 pub put-long-spec : {M : Type 1} → statement M
 put-long-spec =
@@ -51,12 +57,9 @@ put-long-spec =
     (λ c. search needs)
     slice-write-part
     (λ c. search needs)
-    (λ c. search needs)
-    (λ c. search needs)
-    array-copy-out-row
-    (λ c. search needs)
     slice-write-part-2
-    (λ c. search needs)
+    add-part
+    cast-part
     slice-write-part-3
     (λ c. search needs)
     returns
