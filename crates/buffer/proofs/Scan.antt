@@ -1,6 +1,6 @@
 -- The search for a label between two offsets.
 use mathlib.Core.Path.{_≡_}
-use mathlib.Core.Bool.{false, not, _&&_, _||_}
+use mathlib.Core.Bool.{false, _&&_, _||_}
 use mathlib.Core.List.{List}
 use borrow.Author.Tests.{eqb-true, not-false, le-ltb}
 use Prim.Native.Nat.{ℕ, _+_, _≤_}

@@ -1,11 +1,10 @@
 -- The new offset of a place is what document 01 says: the count of the bytes that the walk has written where it stands on the recorded offset with all
 -- events of length 0 there passed.
-use mathlib.Core.Path.{_≡_}
 use mathlib.Core.List.{List, [], _∷_}
 use Prim.Native.Nat.{ℕ, suc, _+_, _≤_, _<_}
 use native.Mathlib.Omega.{arith}
 use lib.Dec.{ltb}
-use lib.ListN.{length, take, drop, length-append}
+use lib.ListN.{take, length-append}
 use borrow.Author.Tests.{ltb-true, ltb-false}
 use Rattle.relax.specs.Events.{extentOf}
 use Rattle.fresh.specs.Pooled.{Pooled}

@@ -1,5 +1,4 @@
 -- Recordings in good order: events that follow one another, and offsets that lie strictly inside none of them. With a jump finish refuses any other.
-use mathlib.Core.Path.{_≡_}
 use mathlib.Core.Logic.{_⊎_, _≢_}
 use mathlib.Core.List.{List, [], _∷_}
 use Prim.Native.Nat.{ℕ, _+_, _≤_, _<_}

@@ -2,7 +2,7 @@
 use mathlib.Core.Path.{_≡_, refl, sym, _∙_}
 use mathlib.Core.Logic.{⊎-elim}
 use mathlib.Core.List.{List}
-use Prim.Native.Nat.{ℕ, _+_, _-_, _≤_, _<_}
+use Prim.Native.Nat.{ℕ, _+_, _≤_, _<_}
 use native.Mathlib.Omega.{arith}
 use lib.ListN.{length, set, length-set}
 use lib.Seq.{ext-getD, getD-set-other}
@@ -10,7 +10,6 @@ use Rattle.seqs.specs.Over.{over}
 use Rattle.seqs.proofs.Numbers.{lt-or-ge}
 use Rattle.seqs.proofs.Overwrites.{length-over, getD-over-in, getD-over-after}
 use Rattle.relax.specs.declared.Segment.{Segment}
-use Rattle.recording.specs.View.{entries}
 use Rattle.layout.specs.steps.Layout.{zeroSegment}
 use Rattle.layout.specs.steps.Targets.{SamePast}
 

@@ -1,14 +1,13 @@
 -- A recording whose tables are replaced by longer ones, the counted entries the same, stays sound.
 use mathlib.Core.Path.{_≡_, sym, ap, _∙_}
-use mathlib.Core.Logic.{_⊎_, inl, inr, _≢_, ⊎-elim}
+use mathlib.Core.Logic.{inl, inr, ⊎-elim}
 use mathlib.Core.List.{List}
 use Prim.Native.Nat.{ℕ, _+_, _*_, _≤_, _<_}
 use native.Mathlib.Omega.{arith}
-use lib.ListN.{length, getD, take}
+use lib.ListN.{getD}
 use lib.Seq.{getD-take}
 use Rattle.words.specs.Words.{wordAt}
 use Rattle.relax.specs.Events.{eventWords, eventSize}
-use Rattle.buffer.specs.State.{none}
 use Rattle.buffer.specs.Tables.{labelSize, useWords, useSize, refWords, refSize, constantWords, constantSize, askedSize, relocWords, relocSize}
 use Rattle.recording.specs.Calls.{Recording}
 use Rattle.recording.specs.Sequences.{Extends, Grown}

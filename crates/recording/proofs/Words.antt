@@ -1,8 +1,7 @@
 -- Counts are words: every call leaves them below 2^32.
-use mathlib.Core.Path.{_≡_}
 use mathlib.Core.Bool.{Bool}
 use mathlib.Core.List.{List, [], _∷_}
-use Prim.Native.Nat.{ℕ, _+_, _/_, _<_}
+use Prim.Native.Nat.{ℕ, _/_, _<_}
 use native.Mathlib.Omega.{arith}
 use lib.Dec.{leb}
 use lib.ListN.{length}
@@ -16,7 +15,7 @@ use Rattle.buffer.specs.declared.Recorded.{Recorded}
 use Rattle.buffer.specs.declared.Made.{Made}
 use Rattle.buffer.specs.Tables.{labelSize, useSize, refSize, constantSize, askedSize, relocSize}
 use Rattle.buffer.specs.State.{withRefusal, withCode, withLabels, withEvents, withUses, withRefs, withConstants, withAsked, withRelocs, refusing}
-use Rattle.buffer.specs.Refusals.{standing, whyBytes, whyLabel, whyBind, whyAlign, whyUse, whyRef, whyJump, whyConstant, whyConstantLabel, noRoomToAsk, whyReloc}
+use Rattle.buffer.specs.Refusals.{standing, whyBytes, whyLabel, whyAlign, whyUse, whyRef, whyJump, whyConstant, whyConstantLabel, noRoomToAsk, whyReloc}
 use Rattle.buffer.specs.Calls.{started, putBytes, getLabel, bindLabel, alignedEvents, alignTo, useLabel, recordRef, recordJump, addConstant, askedFirst, constantLabel, addReloc}
 use Rattle.buffer.proofs.Accepted.{label-accepted, bytes-accepted, align-accepted, use-accepted, ref-accepted, jump-accepted, constant-accepted, constant-label-accepted, reloc-accepted}
 use Rattle.recording.specs.Calls.{

@@ -10,7 +10,7 @@ use lib.Seq.{drop-cons}
 use Rattle.seqs.proofs.Picking.{pick-yes, pick-no, yes-eq, no-eq, yes-lt, no-lt}
 use Rattle.words.specs.Words.{wordAt}
 use Rattle.buffer.specs.Refusals.{standing}
-use Rattle.recording.specs.Calls.{Recording, Call, answered, after}
+use Rattle.recording.specs.Calls.{Recording, Call, answered}
 use Rattle.checks.specs.Lent.{countsFit, withinLimits}
 use Rattle.sheet.specs.Form.{isWhole, kindsOf, argumentsOf, firstBroken, argumentSize}
 use Rattle.sheet.specs.Run.{callOf, callsOf, called, runCalls, runSheet}
