@@ -1,10 +1,11 @@
 -- `push_nop` meets its contract: the row starts with the form, and the copy fills `pad`.
-use mathlib.Core.Path.{sym, _∙_}
+use mathlib.Core.Path.{sym, ap, _∙_}
 use mathlib.Core.List.{[]}
 use Prim.Native.Nat.{_-_}
 use native.Mathlib.Omega.{arith}
 use lib.ListN.{length, getD}
 use lib.Seq.{length-take-le}
+use Rattle.seqs.specs.Over.{over}
 use Rattle.seqs.proofs.Overwrites.{over-all}
 use Rattle.encoder.specs.Nops.{form}
 use Rattle.encoder.proofs.Forms.{rows, row-length, row-form, form-length}
@@ -30,7 +31,7 @@ returns c =
     let pad = start .args .pad .now in
     let n = length pad in
     after-copy .copy .ensures
-    ∙ rw (row-form n (omega arith)) (over-all pad (form n) (form-length n (omega arith)))
+    ∙ (ap (over pad 0) (row-form n (omega arith)) ∙ over-all pad (form n) (form-length n (omega arith)))
 
 pub push-nop-spec : {M : Type 1} → statement M
 push-nop-spec =
