@@ -3,6 +3,7 @@ use mathlib.Core.Path.{_≡_, refl, sym, ap, _∙_}
 use mathlib.Core.Bool.{Bool, true, false}
 use mathlib.Core.List.{List, [], _∷_}
 use Prim.Native.Nat.{ℕ, _+_, _≤_, _<_}
+use native.Mathlib.Omega.{arith}
 use lib.Dec.{lit≤}
 use lib.ListN.{length, set, replicate, length-replicate}
 use Rattle.relax.specs.declared.Alignment.{Alignment}
@@ -21,12 +22,16 @@ pub short-size : (cc : Condition) → length (shortForm cc) ≡ 2
 short-size Always = refl
 short-size (On c) = refl
 
-pub long-size : (cc : Condition) → 5 ≤ length (longForm cc)
+long-size : (cc : Condition) → 5 ≤ length (longForm cc)
 long-size Always = lit≤ tt
 long-size (On c) = lit≤ tt
 
 pub cleared-length : (part zeros : List ℕ) → zeros ≡ replicate (length part) 0 → length zeros ≡ length part
 cleared-length part zeros e = ap length e ∙ length-replicate (length part) 0
+
+-- A cleared part has room for a long jump's opcode.
+pub long-room : (cc : Condition) (part zeros : List ℕ) → zeros ≡ replicate (length part) 0 → length part ≡ length (longForm cc) → 5 ≤ length zeros
+long-room cc part zeros e h = omega (arith, long-size cc, cleared-length part zeros e, h)
 
 pub put-opcode : (cc : Condition) (op : ℕ) (part zeros : List ℕ) → shortForm cc ≡ op ∷ 0 ∷ [] → zeros ≡ replicate (length part) 0
     → length part ≡ length (shortForm cc) → set zeros 0 op ≡ shortForm cc

@@ -1,7 +1,7 @@
 -- `put_long` meets its contract: a cleared part, and the opcode, of one byte or two.
 use native.Mathlib.Omega.{arith}
 use lib.ListN.{length-set}
-use Rattle.emit.proofs.Jumps.{long-size, cleared-length, put-always, on-encodes, put-on}
+use Rattle.emit.proofs.Jumps.{long-room, put-always, on-encodes, put-on}
 use borrow.Author.Needs.{needs}
 use Rattle.emit.proofs.put_long.Statement.{statement}
 use Rattle.emit.proofs.put_long.Tie as tie
@@ -10,13 +10,13 @@ slice-write-part : tie.Need-slice-write-part
 slice-write-part c =
     let after-clear : tie.After-clear = search in
     let start : tie.Start = search in
-    omega (arith, long-size (start .args .cc), cleared-length (start .args .part .now) _ (after-clear .clear .ensures), start .pre .1)
+    omega (arith, long-room (start .args .cc) (start .args .part .now) _ (after-clear .clear .ensures) (start .pre .1))
 
 slice-write-part-2 : tie.Need-slice-write-part-2
 slice-write-part-2 c =
     let after-clear : tie.After-clear = search in
     let start : tie.Start = search in
-    omega (arith, long-size (start .args .cc), cleared-length (start .args .part .now) _ (after-clear .clear .ensures), start .pre .1)
+    omega (arith, long-room (start .args .cc) (start .args .part .now) _ (after-clear .clear .ensures) (start .pre .1))
 
 add-part : tie.Need-add-part
 add-part c =
@@ -34,7 +34,7 @@ slice-write-part-3 : tie.Need-slice-write-part-3
 slice-write-part-3 c =
     let after-clear : tie.After-clear = search in
     let start : tie.Start = search in
-    simp length-set (omega (arith, long-size (start .args .cc), cleared-length (start .args .part .now) _ (after-clear .clear .ensures), start .pre .1))
+    simp length-set (omega (arith, long-room (start .args .cc) (start .args .part .now) _ (after-clear .clear .ensures) (start .pre .1)))
 
 returns : tie.Need-returns
 returns c =
