@@ -2,8 +2,8 @@
 //! rounds that settle which jumps are long.
 
 use super::calls::{nops, padding_length};
-use super::fields;
 use super::pool::{Event, Pooled};
+use super::{Rules, fields};
 use crate::NONE;
 
 /// What a fresh assembly places: displacements, refs and constants are open.
@@ -154,14 +154,14 @@ pub fn refs_reach(pooled: &Pooled, placed: &Placed) -> bool {
 }
 
 /// Fills refs in order, then jumps, the constants' bytes last.
-pub fn fill(pooled: &Pooled, settled: &mut Settled) {
+pub fn fill(pooled: &Pooled, settled: &mut Settled, rules: Rules) {
     let placed = &mut settled.placed;
     for field in &pooled.refs {
         let target = i64::from(placed.position(pooled.labels[field.label as usize]));
         let offset = placed.position(field.offset);
         let bytes = &mut placed.code[offset as usize..][..fields::size(field.code)];
         let target = target + i64::from(field.addend);
-        fields::patch(field.code, bytes, offset.into(), target);
+        fields::patch(field.code, bytes, offset.into(), target, rules);
     }
     for (number, event) in pooled.events.iter().enumerate() {
         if let Event::Jump { label, .. } = event {

@@ -1,6 +1,7 @@
 //! Fields that name labels: which architecture knows them, how far they
 //! reach, and what is written into them.
 
+use super::Rules;
 use crate::AARCH64;
 
 pub const REL32: u32 = 0;
@@ -57,7 +58,7 @@ pub fn held_addend(code: u32, field: &[u8]) -> i64 {
 }
 
 /// Makes the field at `offset` name `target`.
-pub fn patch(code: u32, field: &mut [u8], offset: i64, target: i64) {
+pub fn patch(code: u32, field: &mut [u8], offset: i64, target: i64, rules: Rules) {
     let distance = target - offset;
     if code == REL8 {
         field[0] = (distance - 1) as u8;
@@ -72,13 +73,13 @@ pub fn patch(code: u32, field: &mut [u8], offset: i64, target: i64) {
         BRANCH26 => insert(held, 0, 26, distance >> 2),
         ADR21 => insert_adr(held, distance),
         ADRP21 => insert_adr(held, pages),
-        _ => held | ((target as u32 & 0xFFF) << 10),
+        _ => (rules.add_word)(held, target as u32 & 0xFFF),
     };
     field.copy_from_slice(&word.to_le_bytes());
 }
 
 /// The word with the low bits of a value in its field.
-fn insert(word: u32, position: u32, width: u32, value: i64) -> u32 {
+pub fn insert(word: u32, position: u32, width: u32, value: i64) -> u32 {
     let mask = ((1u32 << width) - 1) << position;
     (word & !mask) | (((value as u32) << position) & mask)
 }

@@ -41,9 +41,9 @@ fn attempt(lent: &mut Lent, rules: Rules) -> Result<(), Refusal> {
     }
     let alignment = alignment(lent, &counts, &pooled, rules);
     let finished = if pooled.has_jump() {
-        relax(lent, &pooled)?
+        relax(lent, &pooled, rules)?
     } else {
-        patch_uses(lent, pooled)?
+        patch_uses(lent, pooled, rules)?
     };
     counts.finished = 1;
     counts.write(lent);
@@ -60,7 +60,7 @@ fn alignment(lent: &Lent, counts: &Counts, pooled: &Pooled, rules: Rules) -> u32
 
 /// With a jump: 16, 17, the rounds, 18, 23. The settled segments stay in
 /// their table from the rounds on.
-fn relax(lent: &mut Lent, pooled: &Pooled) -> Result<Finished, Refusal> {
+fn relax(lent: &mut Lent, pooled: &Pooled, rules: Rules) -> Result<Finished, Refusal> {
     if lent.room(Part::Segments) < pooled.events.len() {
         return Err(16);
     }
@@ -78,7 +78,7 @@ fn relax(lent: &mut Lent, pooled: &Pooled) -> Result<Finished, Refusal> {
     if settled.placed.code.len() > lent.room(Part::Output) {
         return Err(23);
     }
-    assembly::fill(pooled, &mut settled);
+    assembly::fill(pooled, &mut settled, rules);
     let position = |label: &u32| settled.placed.position(*label);
     let relocations = pooled.relocations.iter();
     Ok(Finished {
@@ -122,7 +122,7 @@ fn map(segments: &[Segment], offset: u32) -> u32 {
 }
 
 /// Without a jump: 19 to 22 for each use in order, 23. Nothing moves.
-fn patch_uses(lent: &Lent, mut pooled: Pooled) -> Result<Finished, Refusal> {
+fn patch_uses(lent: &Lent, mut pooled: Pooled, rules: Rules) -> Result<Finished, Refusal> {
     for field in &pooled.uses {
         check_use(&pooled, field)?;
     }
@@ -133,7 +133,7 @@ fn patch_uses(lent: &Lent, mut pooled: Pooled) -> Result<Finished, Refusal> {
         let label = pooled.labels[field.label as usize];
         let bytes = &mut pooled.code[field.offset as usize..][..fields::size(field.code)];
         let target = i64::from(label) + fields::held_addend(field.code, bytes);
-        fields::patch(field.code, bytes, field.offset.into(), target);
+        fields::patch(field.code, bytes, field.offset.into(), target, rules);
     }
     for constant in &pooled.pool {
         let offset = constant.offset as usize;

@@ -1,13 +1,15 @@
 //! What the requests of document 02 have changed, apart from the rest, so that
 //! a self-test can put wrong rules in the place of these.
 
+use super::fields;
 use super::relas::{self, Finished, ReaderCheck, Relocation, WriterCheck};
 
 /// The least alignment that a finish reports.
 const LEAST_ALIGNMENT: u32 = 32;
 
 /// Request One, constants for the widest registers; Request Two, relocations
-/// for the system linker.
+/// for the system linker; Request Four, ADD fields that already hold something.
+/// Request Three changed no answer.
 #[derive(Clone, Copy)]
 pub struct Rules {
     /// The multiple that a constant of a size stands on.
@@ -23,6 +25,9 @@ pub struct Rules {
     pub reader_checks: &'static [ReaderCheck],
     /// The words of what is read, from those of an ELF entry.
     pub taken_back: fn(rela: [u32; 6]) -> [u32; 6],
+    /// The word that a use of code 16 leaves, by the word that was there and
+    /// the low 12 bits of the target.
+    pub add_word: fn(held: u32, low: u32) -> u32,
 }
 
 impl Default for Rules {
@@ -34,6 +39,7 @@ impl Default for Rules {
             written: relas::written,
             reader_checks: &relas::READER_CHECKS,
             taken_back: relas::taken_back,
+            add_word,
         }
     }
 }
@@ -52,4 +58,9 @@ fn constant_multiple(size: usize) -> u32 {
 pub fn code_alignment(sizes: &[usize]) -> u32 {
     let multiples = sizes.iter().map(|size| constant_multiple(*size));
     multiples.fold(LEAST_ALIGNMENT, u32::max)
+}
+
+/// "Code 16 now clears bits 10 to 21 before writing."
+pub fn add_word(held: u32, low: u32) -> u32 {
+    fields::insert(held, 10, 12, low.into())
 }
