@@ -4,7 +4,9 @@
 //! [`added_refusal`](crate::added_refusal) knows them. A later request may
 //! change an answer that the two agreed on: that is a departure. A recording
 //! that meets one is not among the stored ones, and the differential runs hold
-//! it against their model alone.
+//! its finish against their model alone.
+
+mod add_field;
 
 use std::ops::RangeInclusive;
 
@@ -14,16 +16,22 @@ use crate::Call;
 pub struct Departure {
     /// The name of the line of reference/differences.txt that shows it.
     pub name: &'static str,
-    /// Whether a recording of an architecture and these calls, the last of
-    /// which may be refused, meets it.
-    pub is_met: fn(arch: u32, calls: &[Call<'_>]) -> bool,
+    /// Whether a recording of an architecture, so many symbols and these calls
+    /// meets it. Of one that both refuse it may say either.
+    pub is_met: fn(arch: u32, symbols: u32, calls: &[Call<'_>]) -> bool,
 }
 
 /// Every departure.
-pub const DEPARTURES: &[Departure] = &[Departure {
-    name: "wide-constant",
-    is_met: |_, calls| asks_for_wide_constant(calls),
-}];
+pub const DEPARTURES: &[Departure] = &[
+    Departure {
+        name: "wide-constant",
+        is_met: |_, _, calls| asks_for_wide_constant(calls),
+    },
+    Departure {
+        name: "add-field-not-clear",
+        is_met: add_field::changes_code,
+    },
+];
 
 /// The sizes of constants that stand on a multiple of 64 by document 02,
 /// Request One, and on one of 16 in the Rust.
@@ -32,10 +40,6 @@ const WIDE: RangeInclusive<usize> = 33..=64;
 /// Whether a wide constant is asked for, and so pooled. Where it happens to
 /// stand on the same offset in both, the alignment that finish reports is
 /// still 64 here and 32 there; one that is added alone changes nothing.
-///
-/// The asking may be the call that is refused. A known constant is refused a
-/// label only where the recording has been refused or has finished, or is
-/// refused by an added number: no finish of it could have been compared.
 fn asks_for_wide_constant(calls: &[Call<'_>]) -> bool {
     let mut sizes = Vec::new();
     calls.iter().any(|call| match call {
@@ -55,8 +59,9 @@ fn asks_for_wide_constant(calls: &[Call<'_>]) -> bool {
 pub fn first_departure(
     departures: &[Departure],
     arch: u32,
+    symbols: u32,
     calls: &[Call<'_>],
 ) -> Option<&'static str> {
-    let met = departures.iter().find(|each| (each.is_met)(arch, calls));
-    met.map(|departure| departure.name)
+    let is_met = |departure: &&Departure| (departure.is_met)(arch, symbols, calls);
+    departures.iter().find(is_met).map(|met| met.name)
 }

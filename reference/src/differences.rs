@@ -10,6 +10,9 @@ use crate::{
     first_departure, read_text, run_steps,
 };
 
+/// The symbols that are there to be named.
+const SYMBOLS: u32 = 1;
+
 pub struct Difference {
     pub name: String,
     /// The refusal that this project answers with; 0 where it answers none.
@@ -22,9 +25,9 @@ pub struct Difference {
 }
 
 impl Difference {
-    /// What the Rust answers now. One symbol is there to be named.
+    /// What the Rust answers now.
     pub fn run(&self) -> Answer {
-        run_steps(self.arch_number(), 1, &self.steps)
+        run_steps(self.arch_number(), SYMBOLS, &self.steps)
     }
 
     /// Whether the screen of the stored recordings turns this one away by
@@ -33,16 +36,20 @@ impl Difference {
     /// the screen does not know is that of a departure.
     pub fn is_screened(&self) -> bool {
         let arch = self.arch_number();
-        match (added_refusal_of_text(arch, 1, &self.steps), self.number) {
+        match (
+            added_refusal_of_text(arch, SYMBOLS, &self.steps),
+            self.number,
+        ) {
             (Some(4), 0 | 13 | 18) | (None, 0) => true,
-            (None, _) => first_departure(DEPARTURES, arch, &self.calls()).is_some(),
+            (None, _) => first_departure(DEPARTURES, arch, SYMBOLS, &self.calls()).is_some(),
             (number, kept) => number == Some(kept),
         }
     }
 
     /// Whether this is the line that shows a departure.
     pub fn shows(&self, departure: &Departure) -> bool {
-        self.name == departure.name && (departure.is_met)(self.arch_number(), &self.calls())
+        let is_met = || (departure.is_met)(self.arch_number(), SYMBOLS, &self.calls());
+        self.name == departure.name && is_met()
     }
 
     /// The calls, without the finishes amid them.

@@ -232,7 +232,7 @@ impl Recording {
     }
 }
 
-fn label_use(code: u32) -> Result<LabelUse, Error> {
+pub(crate) fn label_use(code: u32) -> Result<LabelUse, Error> {
     LABEL_USES
         .get(code as usize)
         .copied()

@@ -6,6 +6,15 @@ use crate::random::Random;
 use crate::sheet::SHEET_BYTES;
 use crate::{Call, LABEL_TARGET, X64};
 
+/// The field of code 16, bits 10 to 21.
+pub const ADD_FIELD: u32 = 0xFFF << 10;
+
+/// A word for a use of a code to go into. For code 16 the field is cleared:
+/// with most others the recording meets the departure `add-field-not-clear`.
+pub fn fit_for(code: u32, word: u32) -> u32 {
+    if code == 16 { word & !ADD_FIELD } else { word }
+}
+
 /// Calls, and the offset that they have reached.
 #[derive(Clone)]
 pub struct Draft {

@@ -1,6 +1,7 @@
 //! Uses and refs: what their fields hold before and after.
 
 use super::Draft;
+use super::draft::{ADD_FIELD, fit_for};
 use crate::random::Random;
 use crate::{AARCH64, Call, X64, X86};
 
@@ -17,7 +18,12 @@ pub fn drafts() -> Vec<Draft> {
     drafts.extend(A64_CODES.map(in_noise));
     drafts.extend(A64_CODES.map(unaligned));
     drafts.extend([0, 0x123, 0xFFF, 0x1001].map(page_offset));
-    drafts.extend([0u32, 0x0040_0000, 0x003F_FC00].map(stale_add));
+    drafts.extend([0x9100_0000, 0x9140_0000, 0xFFBF_FFFF, u32::MAX].map(clear_add));
+    drafts.extend(AMONG.map(|(target, held)| add_among(target, held)));
+    drafts.extend([0, 1 << 22, 0x55 << 10].map(add_twice));
+    drafts.extend((1..5).map(overlapping_adds));
+    drafts.extend([10, 11, 12, 13, 14].map(covered_add));
+    drafts.push(add_under_constant());
     for (from, to) in PAGES {
         drafts.push(pages(from, to));
     }
@@ -31,6 +37,13 @@ pub fn drafts() -> Vec<Draft> {
 
 const STALE: [u32; 6] = [0, 1, 0xFFFF_FFFF, 0x7FFF_FFFF, 0x8000_0000, 0x1234_5678];
 const REF_ADDENDS: [i32; 5] = [0, 1, -1, 100_000, -2_000_000_000];
+/// Targets, and words whose fields hold none but their bits.
+const AMONG: [(u32, u32); 4] = [
+    (0xFFF, 0x913F_FC00),
+    (0xFFF, 0xFFD5_57FF),
+    (0x555, 0x9100_1400),
+    (0x1800, 0x9160_0000),
+];
 const PAGES: [(u32, u32); 6] = [
     (0, 0),
     (0, 4095),
@@ -80,8 +93,10 @@ fn in_noise(code: u32) -> Draft {
     let back = draft.here();
     draft.noise(&mut random, 32);
     let forward = draft.label();
-    draft.word(random.word()).use_at(32, forward, code);
-    draft.word(random.word()).use_at(36, back, code);
+    for (at, label) in [(32, forward), (36, back)] {
+        let word = fit_for(code, random.word());
+        draft.word(word).use_at(at, label, code);
+    }
     draft.noise(&mut random, 56).bind(forward);
     draft
 }
@@ -90,7 +105,8 @@ fn in_noise(code: u32) -> Draft {
 fn unaligned(code: u32) -> Draft {
     let mut draft = Draft::new(AARCH64);
     let label = draft.label();
-    draft.zeros(3).word(0xFFFF_FFFF).zeros(4).bind(label);
+    let word = fit_for(code, 0xFFFF_FFFF);
+    draft.zeros(3).word(word).zeros(4).bind(label);
     draft.use_at(3, label, code);
     draft
 }
@@ -110,14 +126,64 @@ fn page_offset(target: u32) -> Draft {
     draft
 }
 
-/// Code 16 on a field that is not clear: it ORs.
-fn stale_add(stale: u32) -> Draft {
+/// A clear field, behind bit 22 (sh) and amid others that must stay.
+fn clear_add(word: u32) -> Draft {
+    add_among(0xABC, word & !ADD_FIELD)
+}
+
+/// A field whose bits are all among those of the label.
+fn add_among(target: u32, word: u32) -> Draft {
+    let mut draft = Draft::new(AARCH64);
+    let label = draft.label();
+    draft.word(word).use_at(0, label, 16);
+    draft.advance(target).bind(label);
+    draft
+}
+
+/// Two uses of one label over one field that holds nothing, bit 22 beside it,
+/// or the label.
+fn add_twice(held: u32) -> Draft {
     let mut draft = Draft::new(AARCH64);
     draft.zeros(0x55);
     let label = draft.here();
     let at = draft.offset;
-    draft.word(0x9100_0000 | stale).use_at(at, label, 16);
-    draft.use_at(at, label, 16);
+    draft.word(0x9100_0000 | held);
+    draft.use_at(at, label, 16).use_at(at, label, 16);
+    draft
+}
+
+/// Uses of code 16 whose words share 3 to no bytes, the one before and after
+/// the other. No bit of the label stands in the other's field.
+fn overlapping_adds(gap: u32) -> Draft {
+    let mut draft = Draft::new(AARCH64);
+    draft.zeros(0x30);
+    let label = draft.here();
+    let at = draft.offset;
+    draft.zeros(8);
+    for at in [at, at + gap, at] {
+        draft.use_at(at, label, 16);
+    }
+    draft
+}
+
+/// A field that is not clear, all of which a later use covers.
+fn covered_add(code: u32) -> Draft {
+    let mut draft = Draft::new(AARCH64);
+    draft.zeros(0x54);
+    let label = draft.here();
+    draft.word(u32::MAX);
+    draft.use_at(0x54, label, 16).use_at(0x54, label, code);
+    draft
+}
+
+/// Two labels in a field that a constant covers.
+fn add_under_constant() -> Draft {
+    let mut draft = Draft::new(AARCH64);
+    let constant = draft.constant(&[0x5A; 4]);
+    draft.zeros(5);
+    let label = draft.here();
+    let pooled = draft.constant_label(constant);
+    draft.use_at(8, label, 16).use_at(8, pooled, 16);
     draft
 }
 

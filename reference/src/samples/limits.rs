@@ -1,6 +1,7 @@
 //! The reach limits of every code, on both sides of each.
 
 use super::Draft;
+use super::draft::fit_for;
 use crate::{AARCH64, X64, X86};
 
 pub fn drafts() -> Vec<Draft> {
@@ -42,22 +43,24 @@ pub fn drafts() -> Vec<Draft> {
     drafts
 }
 
-/// A field that is not clear, but for code 0, with its label at a distance.
+/// A field that is not clear, but for codes 0 and 16, with its label at a
+/// distance.
 fn use_at_distance(arch: u32, code: u32, distance: i64) -> Draft {
     let size = if code == 1 { 1 } else { 4 };
     let mut draft = Draft::new(arch);
     let label = draft.label();
     // Labels inside the field are bound while it is written.
-    let field = vec![if code == 0 { 0 } else { 0x81 }; size as usize];
+    let held = if code == 0 { 0 } else { 0x8181_8181 };
+    let field = &fit_for(code, held).to_le_bytes()[..size as usize];
     let at = distance.min(0).unsigned_abs() as u32;
     let target = (i64::from(at) + distance) as u32;
     if target <= at {
-        draft.bind(label).advance(at).bytes(&field);
+        draft.bind(label).advance(at).bytes(field);
     } else if target < at + size {
         let (first, second) = field.split_at((target - at) as usize);
         draft.bytes(first).bind(label).bytes(second);
     } else {
-        draft.bytes(&field).advance(target).bind(label);
+        draft.bytes(field).advance(target).bind(label);
     }
     draft.use_at(at, label, code);
     draft

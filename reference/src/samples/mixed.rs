@@ -1,6 +1,7 @@
 //! Recordings drawn at random.
 
 use super::Draft;
+use super::draft::fit_for;
 use crate::random::Random;
 use crate::{AARCH64, Call, LABEL_TARGET, X64, X86, added_refusal};
 
@@ -182,7 +183,9 @@ fn field(random: &mut Random, draft: &mut Draft) {
         draft.align(4);
     }
     let at = draft.offset;
-    draft.noise(random, 4);
+    let bytes = random.bytes(4);
+    let word = u32::from_le_bytes(bytes.try_into().expect("four bytes"));
+    draft.word(fit_for(code, word));
     let label = any_label(random, draft);
     draft.use_at(at, label, code);
 }

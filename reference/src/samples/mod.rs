@@ -35,10 +35,14 @@ pub fn samples() -> Vec<Sample> {
     let mut seen = HashSet::new();
     let drafts = families.iter().flatten();
     drafts
-        .filter(|draft| first_departure(DEPARTURES, draft.arch, &draft.calls).is_none())
+        .filter(|draft| !departs(draft))
         .map(to_sample)
         .filter(|sample| seen.insert(sample.clone()))
         .collect()
+}
+
+fn departs(draft: &Draft) -> bool {
+    first_departure(DEPARTURES, draft.arch, draft.symbols, &draft.calls).is_some()
 }
 
 fn to_sample(draft: &Draft) -> Sample {

@@ -28,28 +28,25 @@ pub struct Rust<'a> {
 }
 
 impl<'a> Rust<'a> {
-    /// Recordings that meet one of the departures are not compared.
+    /// Finishes that meet one of the departures are not compared.
     pub fn new(scenario: &Scenario, departures: &'static [Departure]) -> Self {
         let Scenario { arch, symbols, .. } = *scenario;
-        let mut rust = Self {
+        let recording = can_start(arch, symbols).then(|| Recording::new(arch, symbols).ok());
+        Self {
             arch,
             symbols,
-            recording: None,
+            recording: recording.flatten(),
             accepted: Vec::new(),
             by_hand: false,
             departures,
             departure: None,
             compared: false,
-        };
-        if can_start(arch, symbols) && !rust.departs() {
-            rust.recording = Recording::new(arch, symbols).ok();
         }
-        rust
     }
 
     /// Whether the recording meets a departure, which is then noted.
     fn departs(&mut self) -> bool {
-        let met = first_departure(self.departures, self.arch, &self.accepted);
+        let met = first_departure(self.departures, self.arch, self.symbols, &self.accepted);
         self.departure = self.departure.or(met);
         met.is_some()
     }
@@ -67,7 +64,6 @@ impl<'a> Rust<'a> {
         [self.arch, self.symbols] = lent.words(Part::Counts, 0);
         if !can_start(self.arch, self.symbols)
             || added_refusal(self.arch, self.symbols, &self.accepted).is_some()
-            || self.departs()
         {
             return;
         }
@@ -121,13 +117,7 @@ impl<'a> Rust<'a> {
         let refusal = reply.refusal;
         let (made, others) = calls.split_at(reply.value as usize);
         let refused = others.first().filter(|_| refusal != 0);
-        let accepted = self.accepted.len() + made.len();
-        self.accepted.extend(made.iter().chain(refused).cloned());
-        let departs = self.departs();
-        self.accepted.truncate(accepted);
-        if departs {
-            return Ok(());
-        }
+        self.accepted.extend_from_slice(made);
         for (index, call) in made.iter().enumerate() {
             let answer = quietly(|| recording.call(call)).and_then(|answer| answer);
             if let Err(error) = answer {
@@ -152,6 +142,9 @@ impl<'a> Rust<'a> {
         let Some(mut recording) = self.recording.take() else {
             return Ok(());
         };
+        if self.departs() {
+            return Ok(());
+        }
         let added = added_refusal(self.arch, self.symbols, &self.accepted);
         let refusal = reply.refusal;
         let expected = error_of(refusal);

@@ -20,7 +20,7 @@ const INPUTS: u64 = 40;
 /// A departure of this test alone, which some recordings of each family meet.
 const DEPARTURES: &[Departure] = &[Departure {
     name: "alignments",
-    is_met: |_, calls| has_alignment(calls),
+    is_met: |_, _, calls| has_alignment(calls),
 }];
 
 fn has_alignment(calls: &[Call<'_>]) -> bool {
