@@ -19,7 +19,7 @@ mod sheet;
 use crate::{Boundary, Lent, NONE, Part, Reply};
 use calls::{Call, Recording};
 use counts::Counts;
-pub use rules::{Rules, code_alignment};
+pub use rules::{Rules, add_word, code_alignment};
 
 /// The number of a refusal.
 type Refusal = u32;

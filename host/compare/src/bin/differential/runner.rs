@@ -35,7 +35,7 @@ pub struct Outcome {
     pub finished: bool,
     /// A finish was compared with the Rust's.
     pub compared: bool,
-    /// The departure for which the Rust was left aside.
+    /// The departure for which a finish was held against the model alone.
     pub departure: Option<&'static str>,
 }
 

@@ -4,7 +4,7 @@
 mod elf;
 mod requests;
 
-use compare::{Lent, Part, Reply};
+use compare::{Lent, Part, Reply, Rules};
 use reference::{Call, Departure, run_calls};
 
 use crate::families::{self, Family};
@@ -56,8 +56,9 @@ pub fn run() -> Findings {
             requests::as_wide_as_the_change(&family, &mut runner, &mut findings);
         }
     }
-    requests::with_wrong_rules(&mut findings);
-    elf::with_wrong_rules(&mut findings);
+    requests::wrong_pools_are_found(&mut findings);
+    requests::wrong_adds_are_found(&mut findings);
+    elf::wrong_entries_are_found(&mut findings);
     findings
 }
 
@@ -68,6 +69,26 @@ fn inputs_of(name: &str, count: u64) -> Vec<Scenario> {
         .find(|family| family.name == name);
     let family = family.expect("it is one of the families");
     (0..count).map(|index| family.scenario(0, index)).collect()
+}
+
+/// Puts each wrong rule in the place of the model's own: ours, which follows
+/// that, differs from it on some input. By the right rules it differs on none.
+fn with_wrong_rules(
+    about: &str,
+    wrong: &[(&str, Rules)],
+    inputs: &[Scenario],
+    findings: &mut Findings,
+) {
+    let differs = |rules| {
+        let mut runner = Runner::ruled_by(rules);
+        inputs.iter().any(|input| runner.run(input).is_err())
+    };
+    for (name, rules) in wrong {
+        findings.add(differs(*rules), || format!("{about}: {name}"));
+    }
+    findings.add(!differs(Rules::default()), || {
+        format!("{about}: differs by the right rules")
+    });
 }
 
 fn against_model(family: &Family, runner: &mut Runner, findings: &mut Findings) {

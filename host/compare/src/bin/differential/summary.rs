@@ -21,7 +21,7 @@ pub struct Tally {
     pub disagreements: u64,
     /// First refusals by number.
     refused: [u64; LAST_REFUSAL + 1],
-    /// Recordings for which the Rust was left aside, by departure.
+    /// Recordings whose finish was held against the model alone, by departure.
     pub departed: BTreeMap<&'static str, u64>,
 }
 

@@ -9,6 +9,8 @@ use crate::scenario::Step;
 
 /// The most bytes that one call of a sheet carries.
 const SHEET_BYTES: usize = 12;
+/// More bytes than this are worth a call of their own beside the sheets.
+const FEW_BYTES: usize = 8 * SHEET_BYTES;
 
 /// None in half of the cases, else any condition.
 pub fn any_condition(random: &mut Random) -> u32 {
@@ -59,6 +61,15 @@ impl Draft {
         for part in bytes.chunks(SHEET_BYTES) {
             self.push(Call::Bytes(Cow::Owned(part.to_vec())));
         }
+    }
+
+    /// Few bytes as [`Self::bytes`] has them, many in one call.
+    pub fn stretch(&mut self, bytes: &[u8]) {
+        if bytes.len() <= FEW_BYTES {
+            return self.bytes(bytes);
+        }
+        self.offset += bytes.len() as u32;
+        self.push(Call::Bytes(Cow::Owned(bytes.to_vec())));
     }
 
     pub fn zeros(&mut self, count: u32) {
@@ -231,14 +242,17 @@ impl Draft {
         self.any_label(random).wrapping_add(LABEL_TARGET)
     }
 
-    /// Sheets that make the calls, direct calls between them for constants
-    /// that no sheet carries, and a finish.
+    /// Sheets that make the calls, direct calls between them for bytes and
+    /// constants that no sheet carries, and a finish.
     pub fn into_steps(self) -> Vec<Step> {
         let mut steps = Vec::new();
         for call in self.calls {
             match (call, steps.last_mut()) {
                 (Call::Constant(bytes), _) if bytes.len() > SHEET_BYTES => {
                     steps.push(Step::Constant(bytes.into_owned()));
+                }
+                (Call::Bytes(bytes), _) if bytes.len() > SHEET_BYTES => {
+                    steps.push(Step::Bytes(bytes.into_owned()));
                 }
                 (call, Some(Step::Sheet(calls))) => calls.push(call),
                 (call, _) => steps.push(Step::Sheet(vec![call])),

@@ -1,5 +1,6 @@
 //! The families of inputs.
 
+mod adds;
 mod chains;
 mod damaged;
 mod direct;
@@ -106,7 +107,7 @@ pub fn all() -> Vec<Family> {
     vec![
         Family {
             name: "short",
-            about: "all recordings of few calls over seven small alphabets",
+            about: "all recordings of few calls over eight small alphabets",
             source: Source::Numbered {
                 total: short::total(),
                 make: short::scenario,
@@ -170,6 +171,13 @@ pub fn all() -> Vec<Family> {
             50_000,
             true,
             pools::scenario,
+        ),
+        Family::random(
+            "adds",
+            "ADDs over fields that already hold something",
+            50_000,
+            true,
+            adds::scenario,
         ),
         Family::random(
             "tables",

@@ -71,7 +71,7 @@ pub fn scenario(number: u64) -> Scenario {
     unreachable!("a recording's number is below the total")
 }
 
-const ALPHABETS: [Alphabet; 7] = [
+const ALPHABETS: [Alphabet; 8] = [
     // Jumps over gaps that bring them to their limits.
     Alphabet {
         arch: X64,
@@ -211,6 +211,27 @@ const ALPHABETS: [Alphabet; 7] = [
             |d| use_here(d, 14),
             |d| use_here(d, 16),
             |d| d.use_at(4, 0, 11),
+        ],
+        most: 5,
+        binds_rest: true,
+    },
+    // ADDs over fields that hold something, over a branch, and over each other.
+    Alphabet {
+        arch: AARCH64,
+        first: &[new_label, new_label],
+        letters: &[
+            |d| d.bind(0),
+            |d| d.bind(1),
+            |d| d.bytes(&0x9100_0000u32.to_le_bytes()),
+            |d| d.bytes(&0x9100_0400u32.to_le_bytes()),
+            |d| d.bytes(&0x917F_FC1Fu32.to_le_bytes()),
+            |d| d.zeros(3),
+            |d| d.align(1024),
+            |d| d.use_at(0, 0, 16),
+            |d| d.use_at(0, 1, 16),
+            |d| d.use_at(1, 1, 16),
+            |d| d.use_at(4, 0, 16),
+            |d| d.use_at(0, 1, 11),
         ],
         most: 5,
         binds_rest: true,

@@ -5,8 +5,7 @@ use compare::model::relas::{
 };
 use compare::{LABEL_TARGET, Lent, MOST_ENTRIES, NONE, Part, Rules};
 
-use super::{Findings, inputs_of};
-use crate::runner::Runner;
+use super::{Findings, inputs_of, with_wrong_rules};
 
 /// Inputs that each wrong rule is tried on.
 const TRIED: u64 = 5_000;
@@ -279,18 +278,7 @@ fn wrong_rules() -> Vec<(&'static str, Rules)> {
     wrong
 }
 
-/// Puts each wrong rule in the place of the model's own: ours differs from it
-/// on some input.
-pub fn with_wrong_rules(findings: &mut Findings) {
+pub fn wrong_entries_are_found(findings: &mut Findings) {
     let inputs = inputs_of("relas", TRIED);
-    let differs = |rules| {
-        let mut runner = Runner::ruled_by(rules);
-        inputs.iter().any(|input| runner.run(input).is_err())
-    };
-    for (name, rules) in wrong_rules() {
-        findings.add(differs(rules), || format!("ELF: {name}"));
-    }
-    findings.add(!differs(Rules::default()), || {
-        "ELF: differs by the right rules".into()
-    });
+    with_wrong_rules("ELF", &wrong_rules(), &inputs, findings);
 }
