@@ -17,7 +17,7 @@ use crate::summary::Tally;
 /// Inputs of each family that each fault is put into.
 const INPUTS: u64 = 40;
 
-/// A departure of this test alone, which some recordings of each family meet.
+/// A departure of this test alone, which some recordings of most families meet.
 const DEPARTURES: &[Departure] = &[Departure {
     name: "alignments",
     is_met: |_, _, calls| has_alignment(calls),
