@@ -1,4 +1,5 @@
-// Cases G to L of document 01, run: each letter, then the patched field in hexadecimal, or the refusal's number.
+// Cases G to L of document 01, run: each letter, then the patched field in hexadecimal, or the refusal's number. Then what an ADD holds
+// beforehand, in hexadecimal, and what it becomes (document 02, Request Four): its field is replaced, its sh is not.
 use fields::Decoded;
 use fields::LabelUse;
 
@@ -35,4 +36,7 @@ fn main() {
     run(b"J", 16, 0x91000000, 0, 0x0123);
     run(b"K", 10, 0x54000000, 0, 6);
     run(b"L", 12, 0x58000000, 0, 6);
+    run(b"91000400", 16, 0x91000400, 4, 2);
+    run(b"913ffc00", 16, 0x913ffc00, 4, 0x1000);
+    run(b"91400000", 16, 0x91400000, 0, 0x0123);
 }

@@ -6,7 +6,6 @@ use mathlib.Core.List.{List}
 use Prim.Native.Nat.{ℕ, _+_, _*_, _/_, _%_, _^_, _<_}
 use native.Mathlib.Nat.{mod-lt, mod-eq-of-lt}
 use native.Mathlib.Omega.{arith}
-use lib.Bits.{or-lt}
 use lib.ListN.{length, take, getD}
 use Rattle.seqs.proofs.Numbers.{lt-or-ge, eq-or-ne}
 use Rattle.words.specs.Words.{wordAt, bytesOf}
@@ -48,7 +47,7 @@ patched-lt A64Branch26 offset target word h = insert-lt 0 26 word (minus target 
 patched-lt A64Ldr19 offset target word h = insert-lt 5 19 word (minus target offset / 4) 32 (omega arith) h
 patched-lt A64Adr21 offset target word h = adr-lt word (minus target offset) h
 patched-lt A64Adrp21 offset target word h = adr-lt word (minus (target / 4096) (offset / 4096)) h
-patched-lt A64AddAbsLo12 offset target word h = or-lt 32 word (target % 4096 * 1024) h (omega arith)
+patched-lt A64AddAbsLo12 offset target word h = insert-lt 10 12 word target 32 (omega arith) h
 
 -- a number of one byte or of four, written and read
 number-read : (size v : ℕ) → (size ≡ 1) ⊎ (size ≡ 4) → v < 2 ^ (8 * size) → wordAt (take size (bytesOf v)) 0 ≡ v

@@ -2,12 +2,11 @@
 use mathlib.Core.Path.{_≡_, refl, sym, ap, _∙_, subst}
 use mathlib.Core.Bool.{true, _&&_}
 use Prim.Native.Nat.{ℕ, _+_, _-_, _*_, _/_, _%_, _^_, _≤_, _<_}
-use native.Mathlib.Nat.{mod-lt, div-div-eq-div-mul}
+use native.Mathlib.Nat.{mod-lt}
 use native.Mathlib.Omega.{arith}
 use borrow.Author.Tests.{eqb-true, eq-eqb}
 use lib.Dec.{eqb}
 use lib.Pow.{mod-pow-add}
-use lib.Bits.{bitOr}
 use Rattle.seqs.proofs.Booleans.{both-true}
 use Rattle.fields.specs.declared.LabelUse.{LabelUse}
 use Rattle.fields.specs.declared.LabelUse.the-variants.{
@@ -27,7 +26,7 @@ use Rattle.fields.specs.Reach.{canReach, canReachDelta, pagesReach, page
 use Rattle.fields.specs.Patch.{patchedWord, insertAdr}
 use Rattle.fields.specs.Arm.{immhilo, addImmediate}
 use Rattle.fields.specs.Meaning.{meaning, demanded, loadMultiple, Clear}
-use Rattle.fields.proofs.Insertion.{insert-read, insert-above, or-inserts}
+use Rattle.fields.proofs.Insertion.{insert-read, insert-above}
 use Rattle.fields.proofs.Signed.{extend-low, extend-exact, widen-range, minus-zero, plus-minus}
 
 -- A distance in words of 4 bytes, inserted at any position and width, is read back whole.
@@ -114,15 +113,12 @@ module _ (base offset target word : ℕ) (offset-fits : offset < modulus) (targe
       ∙ plus-minus base (page offset) (page target) fits
       ∙ sym (page-plus base target aligned)
 
-  add-means : base % 4096 ≡ 0 → bits 22 10 word ≡ 0 → addImmediate (bitOr word (target % 4096 * 1024)) ≡ plus base target % 4096
+  -- sh lies above the field and stays 0, so the immediate is not shifted
+  add-means : base % 4096 ≡ 0 → bits 22 22 word ≡ 0 → addImmediate (insertBits 10 12 word target) ≡ plus base target % 4096
   add-means aligned clear =
-      let v = target % 4096 in
-      let w = insertBits 10 12 word v in
-      let low : word / 1024 % 4096 ≡ 0 = omega arith in
-      let sh : w / 4194304 % 2 ≡ 0 =
-      ap (λ (x : ℕ). x % 2) (insert-above 10 12 word v 22 (omega arith)) ∙ omega (arith, div-div-eq-div-mul word 1024 4096) in
-      let imm : w / 1024 % 4096 ≡ v = insert-read 10 12 word v ∙ omega arith in
-      ap addImmediate (or-inserts 10 12 word v low (omega arith)) ∙ rw (eq-eqb (w / 4194304 % 2) 0 sh, imm) (omega arith)
+      let added = insertBits 10 12 word target in
+      let sh : bits 22 22 added ≡ 0 = ap (λ (x : ℕ). x % 2) (insert-above 10 12 word target 22 (omega arith)) ∙ clear in
+      rw (eq-eqb (bits 22 22 added) 0 sh, insert-read 10 12 word target) (omega arith)
 
 -- Every field that reaches its target means, by the manuals, what the target demands, wherever the code is loaded.
 pub patched-means : (k : LabelUse) (base offset target word : ℕ) → offset < modulus → target < modulus → base % loadMultiple k ≡ 0 → Clear k word

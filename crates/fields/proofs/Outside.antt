@@ -24,7 +24,7 @@ use Rattle.fields.specs.Bits.{bits, insertBits}
 use Rattle.fields.specs.Kinds.{patchSize}
 use Rattle.fields.specs.Patch.{patchedWord, insertAdr}
 use Rattle.fields.specs.Meaning.{covers, inField}
-use Rattle.fields.proofs.Insertion.{insert-below, insert-above, or-below, or-above}
+use Rattle.fields.proofs.Insertion.{insert-below, insert-above}
 
 -- a bit outside a field is below it or above it
 outside : (p n i : ℕ) → covers p n i ≡ false → (1 + i ≤ p) ⊎ (p + n ≤ i)
@@ -72,11 +72,4 @@ outside-stays A64Branch26 word offset target i l h = insert-outside 0 26 word (m
 outside-stays A64Ldr19 word offset target i l h = insert-outside 5 19 word (minus target offset / 4) i h
 outside-stays A64Adr21 word offset target i l h = adr-outside word (minus target offset) i h
 outside-stays A64Adrp21 word offset target i l h = adr-outside word (minus (target / 4096) (offset / 4096)) i h
-outside-stays A64AddAbsLo12 word offset target i l h =
-    let v = target % 4096 in
-    bit i (patchedWord A64AddAbsLo12 word offset target)
-    ∙ ⊎-elim
-    (λ below. or-below 10 word v i 1 below)
-    (λ above. ap (λ (x : ℕ). x % 2 ^ 1) (or-above 10 12 word v i above (omega arith)))
-    (outside 10 12 i h)
-    ∙ sym (bit i word)
+outside-stays A64AddAbsLo12 word offset target i l h = insert-outside 10 12 word target i h

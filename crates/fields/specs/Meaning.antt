@@ -60,7 +60,7 @@ loadMultiple A64Adr21 = 1
 loadMultiple A64Adrp21 = 4096
 loadMultiple A64AddAbsLo12 = 4096
 
--- Code 16 ORs, "so that field is clear beforehand", and so is sh.
+-- what a word is to hold beside its field: ADD shifts its immediate where sh, bit 22, is set, and patching leaves sh as it is
 abbrev pub Clear : LabelUse → ℕ → Type 0
 Clear X86JmpRel32 word = Unit {0}
 Clear X86BranchRel8 word = Unit {0}
@@ -70,7 +70,7 @@ Clear A64Branch26 word = Unit {0}
 Clear A64Ldr19 word = Unit {0}
 Clear A64Adr21 word = Unit {0}
 Clear A64Adrp21 word = Unit {0}
-Clear A64AddAbsLo12 word = bits 22 10 word ≡ 0
+Clear A64AddAbsLo12 word = bits 22 22 word ≡ 0
 
 -- bit i is one of the `width` bits from bit `position` on
 abbrev pub covers : ℕ → ℕ → ℕ → Bool

@@ -1,10 +1,9 @@
--- What is written into a field: document 01, "fields", and asmkit's `patch_with_addend` and `patch`.
+-- What is written into a field: document 01, "fields", with document 02, Request Four; asmkit's `patch_with_addend` and `patch`.
 use mathlib.Core.List.{List}
 use mathlib.Core.Bool.{cond}
-use Prim.Native.Nat.{ℕ, _*_, _/_, _%_}
+use Prim.Native.Nat.{ℕ, _/_, _%_}
 use lib.Dec.{eqb}
 use lib.ListN.{length, take}
-use lib.Bits.{bitOr}
 use Rattle.words.specs.Words.{wordAt, bytesOf}
 use Rattle.fields.specs.Words64.{plus, minus, signExtend}
 use Rattle.fields.specs.Bits.{insertBits}
@@ -27,7 +26,7 @@ abbrev pub insertAdr : ℕ → ℕ → ℕ
 insertAdr word value = insertBits 5 19 (insertBits 29 2 word value) (value / 4)
 
 -- The number that a field at `offset`, which holds `word`, gets where it names `target`. x86 counts from the field's end; branches and
--- loads count in words of 4 bytes, ADRP in pages of 4,096. Code 16 ORs the target's low 12 bits into bits 10 to 21.
+-- loads count in words of 4 bytes, ADRP in pages of 4,096. ADD takes the target's low 12 bits, whatever its field holds (Request Four).
 abbrev pub patchedWord : LabelUse → ℕ → ℕ → ℕ → ℕ
 patchedWord X86JmpRel32 word offset target = minus (minus target offset) 4 % 4294967296
 patchedWord X86BranchRel8 word offset target = minus (minus target offset) 1 % 256
@@ -37,7 +36,7 @@ patchedWord A64Branch26 word offset target = insertBits 0 26 word (minus target 
 patchedWord A64Ldr19 word offset target = insertBits 5 19 word (minus target offset / 4)
 patchedWord A64Adr21 word offset target = insertAdr word (minus target offset)
 patchedWord A64Adrp21 word offset target = insertAdr word (minus (target / 4096) (offset / 4096))
-patchedWord A64AddAbsLo12 word offset target = bitOr word (target % 4096 * 1024)
+patchedWord A64AddAbsLo12 word offset target = insertBits 10 12 word target
 
 -- The bytes of a field at `offset` where it names `target`. Bytes that are no such field stay.
 unfoldable pub patched : LabelUse → ℕ → ℕ → List ℕ → List ℕ

@@ -377,7 +377,7 @@ impl LabelUse {
             LabelUse::A64Adrp21 => {
                 insert_adr(word, wrapping_sub(target / 4096, offset as u64 / 4096))
             }
-            LabelUse::A64AddAbsLo12 => word | (target % 4096 * 1024) as u32,
+            LabelUse::A64AddAbsLo12 => insert_bits(word, 10, 12, target),
         }
     }
 
