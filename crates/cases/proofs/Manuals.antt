@@ -19,11 +19,11 @@ use Rattle.fields.specs.Kinds.{codeOf}
 use Rattle.fields.specs.Arm.{addImmediate}
 use Rattle.fields.specs.Meaning.{loadMultiple}
 
--- ADD X0, X0, #1 and ADD X0, X0, #1, LSL #12
-add-adds : addImmediate 0x91000400 ≡ 1
+-- ADD X0, X0, #0x123, and what becomes of a template with sh, ADD X0, X0, #0x123, LSL #12
+add-adds : addImmediate 0x91048C00 ≡ 0x123
 add-adds = refl
 
-add-shifts : addImmediate 0x91400400 ≡ 4096
+add-shifts : addImmediate 0x91448C00 ≡ 0x123000
 add-shifts = refl
 
 -- NOP of a register has neither SIB nor displacement, whichever the register is.

@@ -1,4 +1,4 @@
--- The worked cases of document 01, "Reaches and landings", as rows of one table, and rows with a pool, some of them for document 02, Request One: small
+-- The worked cases of document 01, "Reaches and landings", as rows of one table, and rows with a pool and for document 02, Requests One and Four: small
 -- recordings, and what finish makes of them by the definitions that its contract names.
 use mathlib.Core.Bool.{true, false}
 use mathlib.Core.List.{List, [], _∷_, _++_}
@@ -70,6 +70,19 @@ usage word offset code label =
       pool = [];
     }
 
+-- on AArch64, four zeros, then a word with two uses of it, of a label at 1 and of one at 2
+abbrev pub usedTwice : ℕ → ℕ → Pooled
+usedTwice word code =
+    record {
+      arch = archA64;
+      code = replicate 4 0 ++ bytesOf word;
+      events = [];
+      labels = 1 ∷ 2 ∷ [];
+      uses = record { offset = 4; label = 0; code = code } ∷ record { offset = 4; label = 1; code = code } ∷ [];
+      refs = [];
+      pool = [];
+    }
+
 -- code with a constant, which has label 0 and is asked for
 abbrev pub constant : List ℕ → List LayoutEvent → List ℕ → View
 constant code events bytes =
@@ -84,8 +97,9 @@ constant code events bytes =
       relocs = [];
     }
 
--- A to L; then a constant of 8 bytes on X64 and on AArch64, and a jump to one of 9 bytes; then constants of 32 and of 33 bytes, and a jump of 5 bytes and
--- 59 zeros before one of 64 bytes, whose alignment gains 3 bytes of padding when the jump becomes short
+-- A to L; then ADDs whose field holds something, whose sh is set, and that have two uses; then a constant of 8 bytes on X64 and on AArch64, and a jump to
+-- one of 9 bytes; then constants of 32 and of 33 bytes, and a jump of 5 bytes and 59 zeros before one of 64 bytes, whose alignment gains 3 bytes of padding
+-- when the jump becomes short
 unfoldable pub table : List Row
 table =
     record { recording = zeros 132 (jmp 0 0 ∷ []) (132 ∷ []); from = 0; count = 0; expected = finished 129 32 1 0 [] }
@@ -110,6 +124,9 @@ table =
     ∷ record { recording = usage 0x91000000 0 16 0x0123; from = 0; count = 4; expected = finished 0x0123 32 0 0 (bytesOf 0x91048C00) }
     ∷ record { recording = usage 0x54000000 0 10 6; from = 0; count = 4; expected = refused refusals.branchOutOfReach }
     ∷ record { recording = usage 0x58000000 0 12 6; from = 0; count = 4; expected = refused refusals.labelTooFarAhead }
+    ∷ record { recording = usage 0x91000400 4 16 2; from = 4; count = 4; expected = finished 8 32 0 0 (bytesOf 0x91000800) }
+    ∷ record { recording = usage 0x91400000 0 16 0x0123; from = 0; count = 4; expected = finished 0x0123 32 0 0 (bytesOf 0x91448C00) }
+    ∷ record { recording = usedTwice 0x91000000 16; from = 4; count = 4; expected = finished 8 32 0 0 (bytesOf 0x91000800) }
     ∷ record {
       recording = pooled archX64 (constant (0xC3 ∷ []) [] (1 ∷ 2 ∷ 3 ∷ 4 ∷ 5 ∷ 6 ∷ 7 ∷ 8 ∷ []));
       from = 0;
