@@ -137,12 +137,13 @@ x64-meets =
       few = three .few;
     }
 
--- On AArch64: B to label 0, at 12, and ADRP and ADD of a constant's label; 4 bytes of padding stand before the constant, at 16.
+-- On AArch64: B to label 0, at 12, and ADRP and ADD of a constant's label; 4 bytes of padding stand before the constant, at 16. ADD's field holds 4,095
+-- beforehand.
 abbrev a64 : Lent
 a64 =
     record {
       counts = bytesOfAll (archA64 ∷ 0 ∷ 0 ∷ 0 ∷ 12 ∷ 2 ∷ 0 ∷ 3 ∷ 0 ∷ 1 ∷ 1 ∷ 0 ∷ []);
-      code = bytesOfAll (0x14000000 ∷ 0x90000000 ∷ 0x91000000 ∷ []);
+      code = bytesOfAll (0x14000000 ∷ 0x90000000 ∷ 0x913FFC00 ∷ []);
       labels = bytesOfAll (12 ∷ none ∷ []);
       events = [];
       uses = bytesOfAll (0 ∷ 0 ∷ 11 ∷ 4 ∷ 1 ∷ 14 ∷ 8 ∷ 1 ∷ 16 ∷ []);

@@ -99,7 +99,7 @@ heldBy p i k = part (fillUses (p .labels) (take i (p .uses)) (p .code)) (useOf p
 
 -- Without a jump: p is the pooled recording. Nothing moves; uses are filled first, then the constants.
 pub record InPlace (p : Pooled) (code : List ℕ) : Type 0 where
-  -- a use that no later use and no constant covers means its label: code 16 where its field was clear, code 0 where its field held 0
+  -- a use that no later use and no constant covers means its label: code 16 where sh was 0, code 0 where its field held 0
   pub uses : (i : ℕ) (k : LabelUse) → i < length (p .uses) → decoded (useOf p i .code) ≡ Use k
       → ((j : ℕ) → i < j → UseMisses p (useOf p i .offset) (patchSize k) j)
       → ((j : ℕ) → ConstantMisses (λ (offset : ℕ). offset) p (useOf p i .offset) (patchSize k) j)
