@@ -1,7 +1,8 @@
 /* Fields of AArch64: a branch over a word, and the address of what follows it by adrp and add. Alignments are padded with zeros. */
 #include "small_tables.h"
 
-static const uint32_t BRANCH = 0x14000000, ADRP_X0 = 0x90000000, ADD_X0_X0 = 0x91000000;
+/* The add holds an immediate, 1, which its label's low bits replace. */
+static const uint32_t BRANCH = 0x14000000, ADRP_X0 = 0x90000000, ADD_X0_X0 = 0x91000400;
 
 /* Appends an instruction whose field names a label. */
 static void put_instruction(wargnifla_tables *tables, uint32_t instruction, uint32_t label, uint32_t code) {

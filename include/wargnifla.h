@@ -120,8 +120,8 @@ enum wargnifla_field {
     WARGNIFLA_FIELD_A64Adr21 = 13,     /* adr: d is in -2^20..2^20 - 1 */
     WARGNIFLA_FIELD_A64Adrp21 = 14,    /* adrp: always; it holds the distance of pages of 4,096 bytes */
     WARGNIFLA_FIELD_A64Ldr12 = 15,
-    WARGNIFLA_FIELD_A64AddAbsLo12 = 16 /* the add after an adrp: always; the label's low 12 bits are ORed in, so the field is to be clear, and the
-                                          code to be loaded on a multiple of 4,096 */
+    WARGNIFLA_FIELD_A64AddAbsLo12 = 16 /* the add after an adrp: always; the label's low 12 bits take the place of its immediate, whatever that was.
+                                          Bit 22, which shifts it, stays and is to be 0; the code is to be loaded on a multiple of 4,096 */
 };
 
 /* The kinds of relocation, with asmkit's names. Kinds 0 and 1 are of every architecture, 2 to 6, 9 and 10 of X86 and X64, 8 and 11 to 21 of AArch64;

@@ -20,6 +20,9 @@ const NOP_LINE: usize = 9;
 const MOST_LINES: usize = 4;
 const LINES_OF_A_CUT_RUN: usize = 2;
 
+/// The bit of `add` that shifts its immediate by 12 bits. No use changes it.
+const ADD_SHIFT: u32 = 1 << 22;
+
 /// How much of long runs a listing shows.
 #[derive(Clone, Copy, Debug, Default, PartialEq, Eq)]
 pub enum Extent {
@@ -344,9 +347,11 @@ impl<'a> Texts<'a> {
     fn field(&self, offset: CodeOffset, kind: LabelUse, label: Label, addend: i32) -> String {
         let mut text = kind.to_string();
         let bytes = offset as usize..(offset + kind.patch_size()) as usize;
-        let bytes = &self.finished.data()[bytes];
-        if let (Arch::AArch64, Ok(word)) = (self.finished.arch(), bytes.try_into()) {
-            let _ = write!(text, " in {:08X}", u32::from_le_bytes(word));
+        let word = self.finished.data()[bytes].try_into().ok();
+        let is_a64 = self.finished.arch() == Arch::AArch64;
+        let word = word.filter(|_| is_a64).map(u32::from_le_bytes);
+        if let Some(word) = word {
+            let _ = write!(text, " in {word:08X}");
         }
         let _ = write!(text, ": {}", self.target(label));
         if addend != 0 {
@@ -354,6 +359,10 @@ impl<'a> Texts<'a> {
         }
         let target = i64::from(self.finished.label_offset(label)) + i64::from(addend);
         let _ = write!(text, ", {}", self.distance(offset.into(), kind, target));
+        let is_shifted = |word| word & ADD_SHIFT != 0;
+        if kind == LabelUse::A64AddAbsLo12 && word.is_some_and(is_shifted) {
+            text.push_str("; bit 22 is set: 4,096 times that is added");
+        }
         text
     }
 

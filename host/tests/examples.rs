@@ -75,6 +75,14 @@ fn sheets_of_fields_and_constants() {
         ],
     );
     shows(
+        "add-template.txt",
+        "AArch64: 56 bytes, alignment 32, layouts 0, long jumps 0 of 0",
+        &[
+            "A64AddAbsLo12 in 9100A000: label copies at 40, low 12 bits 40",
+            "A64AddAbsLo12 in 9100C021: label least at 48, low 12 bits 48",
+        ],
+    );
+    shows(
         "pooled-constant.txt",
         "X64: 32 bytes, alignment 32, layouts 1, long jumps 0 of 1",
         &[

@@ -210,3 +210,16 @@ fn page_fields_show_what_they_hold() {
         lines[1]
     );
 }
+
+/// What an `add` held is replaced; that it shifts its immediate is not, and is said.
+#[test]
+fn an_add_with_an_immediate_shows_what_becomes_of_it() {
+    let of_template = |bytes| {
+        let text = format!("n; z 2; l 0; z 2; b {bytes}; u 4 0 16");
+        listed(Arch::AArch64, &text, Extent::Brief).pop().unwrap()
+    };
+    let said = "A64AddAbsLo12 in 91000800: label 0 at 2, low 12 bits 2";
+    assert!(of_template("00040091").ends_with(said));
+    let said = "A64AddAbsLo12 in 91400800: label 0 at 2, low 12 bits 2; bit 22 is set: 4,096 times that is added";
+    assert!(of_template("00FC7F91").ends_with(said));
+}

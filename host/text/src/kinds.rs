@@ -213,7 +213,7 @@ pub enum LabelUse {
     A64Adrp21,
     /// Known by number only: every use of it is refused.
     A64Ldr12,
-    /// The low 12 bits of a label's offset, in bits 21:10: the `add` after an `adrp`.
+    /// The low 12 bits of a label's offset, in bits 21:10, whatever these held: the `add` after an `adrp`. Bit 22, which shifts them, stays.
     A64AddAbsLo12,
 }
 
