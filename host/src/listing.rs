@@ -1,5 +1,6 @@
 //! The finished code as a listing: what every byte is there for.
 
+use std::collections::HashSet;
 use std::fmt::Write;
 use std::ops::Range;
 
@@ -140,14 +141,18 @@ fn rows(texts: &Texts<'_>) -> Vec<Row> {
         ..
     } = texts;
     let pooled = recording.pooled();
-    let mut rows = event_rows(texts, &pooled);
-    rows.extend(field_rows(texts));
-    rows.extend(pooled.constants.iter().map(|placed| {
+    let constants = pooled.constants.iter().map(|placed| {
         let start = finished.label_offset(placed.label);
         let label = recording.names.text(placed.label);
         let what = format!("constant {}, {label}", placed.constant.id());
         Row::new(start, start + placed.size, what)
-    }));
+    });
+    let constants: Vec<Row> = constants.collect();
+    let mut fields = field_rows(texts);
+    mark_covered(&mut fields, &constants);
+    let mut rows = event_rows(texts, &pooled);
+    rows.extend(fields);
+    rows.extend(constants);
     rows.extend(finished.relocs().iter().map(|reloc| {
         let size = reloc.kind.field_size();
         texts.row_within(reloc.offset, size, texts.relocation(reloc))
@@ -212,7 +217,25 @@ pub(crate) fn padding_text(align: u32, owner: Option<Constant>, len: u32, record
     format!("align {align}{owner}: {now}{before}")
 }
 
-/// The fields that finish filled: refs with a jump, uses without.
+/// Says of a field that something is written over it: it need not mean its label then. Fields are written in order, the constants, which rise, after
+/// them.
+fn mark_covered(fields: &mut [Row], constants: &[Row]) {
+    let is_constant = |byte: &usize| {
+        let next = constants.partition_point(|constant| constant.bytes.end <= *byte);
+        let next = constants.get(next);
+        next.is_some_and(|constant| constant.bytes.contains(byte))
+    };
+    let mut later = HashSet::new();
+    for field in fields.iter_mut().rev() {
+        let mut bytes = field.bytes.clone();
+        if bytes.any(|byte| later.contains(&byte) || is_constant(&byte)) {
+            field.what.push_str("; what is written later covers it");
+        }
+        later.extend(field.bytes.clone());
+    }
+}
+
+/// The fields that finish filled, in the order of writing: refs with a jump, uses without.
 fn field_rows(texts: &Texts<'_>) -> Vec<Row> {
     let Texts {
         recording,

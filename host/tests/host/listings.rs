@@ -67,9 +67,28 @@ fn fields_that_overlap_say_so() {
     let text = "n; l 0; z 5; u 0 0 0; u 2 0 1";
     let lines = listed(Arch::X86, text, Extent::Brief);
     assert!(
+        lines[1].ends_with("label 0 at 0, distance -4; what is written later covers it"),
+        "{}",
+        lines[1]
+    );
+    assert!(
         lines[2].ends_with("X86BranchRel8: label 0 at 0, distance -3 (overlaps the row above)")
     );
     assert_eq!(lines[3], "       4  00                          1 byte");
+}
+
+/// Constants are written after the fields.
+#[test]
+fn a_field_under_a_constant_says_so() {
+    let field = |offset| {
+        let text = format!("n; l 0; b 90; c 0102; k 0; u {offset} 0 0");
+        let lines = listed(Arch::X86, &text, Extent::Brief);
+        let line = lines.iter().find(|line| line.contains("X86JmpRel32"));
+        line.unwrap().contains("; what is written later covers it")
+    };
+    // The constant stands at 8, with padding from 1 to 8.
+    assert!(!field(4));
+    assert!(field(5));
 }
 
 #[test]
@@ -218,8 +237,20 @@ fn an_add_with_an_immediate_shows_what_becomes_of_it() {
         let text = format!("n; z 2; l 0; z 2; b {bytes}; u 4 0 16");
         listed(Arch::AArch64, &text, Extent::Brief).pop().unwrap()
     };
+    let plain = of_template("00040091");
     let said = "A64AddAbsLo12 in 91000800: label 0 at 2, low 12 bits 2";
-    assert!(of_template("00040091").ends_with(said));
+    assert!(plain.ends_with(said), "{plain}");
+    let shifted = of_template("00FC7F91");
     let said = "A64AddAbsLo12 in 91400800: label 0 at 2, low 12 bits 2; bit 22 is set: 4,096 times that is added";
-    assert!(of_template("00FC7F91").ends_with(said));
+    assert!(shifted.ends_with(said), "{shifted}");
+}
+
+/// Each use clears the field before it writes: the last one decides, whatever the others left there.
+#[test]
+fn the_last_of_several_uses_decides_an_immediate() {
+    let last = |text| listed(Arch::AArch64, text, Extent::Brief).pop().unwrap();
+    let twice = last("n; n; z 1; l 0; z 1; l 1; z 2; b 00000091; u 4 0 16; u 4 1 16");
+    assert!(twice.contains("00 08 00 91"), "{twice}");
+    let over_branch = last("n; l 0; z 4; b 00000014; u 4 0 11; u 4 0 16");
+    assert!(over_branch.contains("FF 03 C0 17"), "{over_branch}");
 }
