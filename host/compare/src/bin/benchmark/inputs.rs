@@ -12,7 +12,7 @@ const ABS8: u32 = 1;
 /// The most bytes of a sheet's call.
 const MOST_BYTES: usize = 12;
 
-/// One step of a recording; the architecture is X64.
+/// One step of a recording.
 #[derive(Clone)]
 pub enum Step {
     Sheet(Vec<u8>),
@@ -221,18 +221,30 @@ pub fn one_jump() -> Vec<Step> {
 
 /// 65,536 uses of 1,000 labels, without a jump.
 pub fn uses() -> Vec<Step> {
+    uses_of(0, |draft| draft.bytes(264))
+}
+
+/// The same, of the immediates of ADDs that hold nothing: the Rust would mix
+/// in what they hold.
+pub fn adds() -> Vec<Step> {
+    const ADD: [u8; 4] = 0x9100_0000u32.to_le_bytes();
+    uses_of(16, |draft| draft.copy(&ADD.repeat(66)))
+}
+
+/// Uses of a code, each 264 bytes of code behind a label.
+fn uses_of(code: u32, put: impl Fn(&mut Draft)) -> Vec<Step> {
     let mut random = Random::new(2);
     let mut draft = Draft::default();
     for _ in 0..1_000 {
         let label = draft.label();
         draft.bind(label);
-        draft.bytes(264);
+        put(&mut draft);
     }
     for number in 0..MOST_ENTRIES as u32 {
         draft.calls.push(Call::Use {
             offset: number * 4,
             label: random.below(1_000),
-            code: 0,
+            code,
         });
     }
     vec![draft.sheet()]

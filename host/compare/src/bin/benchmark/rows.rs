@@ -1,5 +1,7 @@
 //! The rows: what of which input is timed, and beside what.
 
+use compare::{AARCH64, X64};
+
 use crate::inputs::{self, Step};
 use crate::library::library;
 use crate::relas::Task;
@@ -41,6 +43,7 @@ pub struct Row {
     pub timed: Timed,
     pub sides: Sides,
     pub input: Input,
+    pub arch: u32,
     /// So many recordings are timed together; by the clock on the wall, if
     /// there is more than one.
     pub batch: usize,
@@ -55,6 +58,7 @@ const FINISH: Row = Row {
     timed: Timed::Finish,
     sides: Sides::Verified(HandOut::Copies),
     input: Input::Library,
+    arch: X64,
     batch: 1,
     fewest: 15,
 };
@@ -94,6 +98,10 @@ impl Row {
         Self { sides, ..self }
     }
 
+    const fn on(self, arch: u32) -> Self {
+        Self { arch, ..self }
+    }
+
     const fn batched(self, batch: usize) -> Self {
         Self { batch, ..self }
     }
@@ -106,7 +114,7 @@ impl Row {
 const OWNED: Sides = Sides::Verified(HandOut::Owned);
 const WRAPPER: Sides = Sides::Wrapper(HandOut::Copies);
 
-pub const ROWS: [Row; 39] = [
+pub const ROWS: [Row; 40] = [
     row("jumps-1", "finish: 1 jump", || inputs::small(1)).batched(16),
     row("jumps-10", "finish: 10 jumps", || inputs::small(10)).batched(16),
     row("jumps-20", "finish: 20 jumps", || inputs::small(20)).batched(16),
@@ -152,6 +160,7 @@ pub const ROWS: [Row; 39] = [
     )
     .beside(Sides::Copy),
     row("uses", "finish: 65,536 uses, no jump", inputs::uses),
+    row("adds", "finish: 65,536 ADDs on AArch64", inputs::adds).on(AARCH64),
     row(
         "relocations",
         "finish: 65,536 relocations, 1,200 events",

@@ -14,8 +14,8 @@ use crate::sides::{Copy, Rust, Side, Verified, Wrapper, memory};
 pub fn measure(row: &Row, effort: Effort) -> Result<(Measured, Option<String>), String> {
     let steps = row.input.steps()?;
     let mut memory = memory(row.recordings());
-    let mut verified = Verified::new(&mut memory);
-    let rust = |hand_out| Rust::new(row.recordings(), hand_out);
+    let mut verified = Verified::new(row.arch, &mut memory);
+    let rust = |hand_out| Rust::new(row.arch, row.recordings(), hand_out);
     let measured = match row.sides {
         Sides::Verified(hand_out) => compare(row, effort, &steps, &mut verified, rust(hand_out)),
         Sides::Wrapper(hand_out) => {

@@ -2,7 +2,7 @@
 
 use std::hint::black_box;
 
-use compare::{Lending, Lent, MOST_CODE, MOST_ENTRIES, Ours, Part, Reply, X64};
+use compare::{Lending, Lent, MOST_CODE, MOST_ENTRIES, Ours, Part, Reply};
 use reference::{Call, Finished, Recording, Sheet};
 use wargnifla::{Arch, CodeBuffer, CodeBufferFinalized, Error, Label, RelaxableJump};
 
@@ -49,11 +49,15 @@ pub fn memory(recordings: usize) -> Vec<Ours> {
 }
 
 /// The C functions. Nothing is cleared between runs.
-pub struct Verified<'a>(Vec<Lending<'a>>);
+pub struct Verified<'a> {
+    arch: u32,
+    lendings: Vec<Lending<'a>>,
+}
 
 impl<'a> Verified<'a> {
-    pub fn new(memory: &'a mut [Ours]) -> Self {
-        Self(memory.iter_mut().map(Ours::lending).collect())
+    pub fn new(arch: u32, memory: &'a mut [Ours]) -> Self {
+        let lendings = memory.iter_mut().map(Ours::lending).collect();
+        Self { arch, lendings }
     }
 
     /// A word of what the first recording's finish reports.
@@ -63,17 +67,17 @@ impl<'a> Verified<'a> {
 
     /// What the first recording was lent of a part, or left there.
     pub fn content(&self, part: Part) -> &[u8] {
-        self.0[0].content(part)
+        self.lendings[0].content(part)
     }
 
     pub fn write_relas(&mut self, section: u32) {
-        for lending in &mut self.0 {
+        for lending in &mut self.lendings {
             accepted(lending.write_relas(section));
         }
     }
 
     pub fn read_relas(&mut self) {
-        for lending in &mut self.0 {
+        for lending in &mut self.lendings {
             accepted(lending.read_relas());
         }
     }
@@ -102,8 +106,8 @@ impl Side for Verified<'_> {
     fn clear(&mut self) {}
 
     fn record(&mut self, steps: &[Step]) {
-        for lending in &mut self.0 {
-            accepted(lending.start(X64, 0));
+        for lending in &mut self.lendings {
+            accepted(lending.start(self.arch, 0));
             for step in steps {
                 record_by_verified(lending, step);
             }
@@ -111,7 +115,7 @@ impl Side for Verified<'_> {
     }
 
     fn finish(&mut self) {
-        for lending in &mut self.0 {
+        for lending in &mut self.lendings {
             accepted(lending.finish());
         }
     }
@@ -141,7 +145,7 @@ fn accepted(reply: Reply) {
     assert_eq!(reply.refusal, 0, "ours refuses a call: {reply:?}");
 }
 
-/// The host's safe wrapper, call by call.
+/// The host's safe wrapper, call by call, on X64.
 #[derive(Default)]
 pub struct Wrapper {
     buffer: Option<CodeBuffer>,
@@ -228,6 +232,7 @@ impl HandOut {
 
 /// The Rust. Its recordings grow their vectors.
 pub struct Rust {
+    arch: u32,
     hand_out: HandOut,
     count: usize,
     recordings: Vec<Recording>,
@@ -235,8 +240,9 @@ pub struct Rust {
 }
 
 impl Rust {
-    pub fn new(count: usize, hand_out: HandOut) -> Self {
+    pub fn new(arch: u32, count: usize, hand_out: HandOut) -> Self {
         Self {
+            arch,
             hand_out,
             count,
             recordings: Vec::with_capacity(count),
@@ -253,7 +259,7 @@ impl Side for Rust {
 
     fn record(&mut self, steps: &[Step]) {
         for _ in 0..self.count {
-            self.recordings.push(new_recording());
+            self.recordings.push(new_recording(self.arch));
             let recording = self.recordings.last_mut().expect("one was pushed");
             record_by_rust(recording, steps);
         }
@@ -273,15 +279,15 @@ impl Side for Rust {
     }
 
     fn whole(&mut self, steps: &[Step]) {
-        let mut recording = new_recording();
+        let mut recording = new_recording(self.arch);
         record_by_rust(&mut recording, steps);
         let finished = self.hand_out.finish(&mut recording);
         assert!(black_box(finished).is_ok(), "the Rust finishes");
     }
 }
 
-fn new_recording() -> Recording {
-    Recording::new(X64, 0).expect("the Rust knows X64")
+fn new_recording(arch: u32) -> Recording {
+    Recording::new(arch, 0).expect("the Rust knows the architecture")
 }
 
 fn record_by_rust(recording: &mut Recording, steps: &[Step]) {
