@@ -1,4 +1,4 @@
--- Readings of the manuals that no finished code of ours reaches: a branch of a definition in specs/ that nothing else exercises has its case here.
+-- Readings of the manuals beside those that are claimed of finished code: a branch of a definition in specs/ that nothing else exercises has its case here.
 use mathlib.Core.Path.{_≡_, refl}
 use mathlib.Core.Logic.{_≢_}
 use mathlib.Core.List.{[], _∷_}
@@ -19,7 +19,7 @@ use Rattle.fields.specs.Kinds.{codeOf}
 use Rattle.fields.specs.Arm.{addImmediate}
 use Rattle.fields.specs.Meaning.{loadMultiple}
 
--- ADD X0, X0, #0x123, and what becomes of a template with sh, ADD X0, X0, #0x123, LSL #12
+-- case J's ADD X0, X0, #0x123, and the same with sh, ADD X0, X0, #0x123, LSL #12
 add-adds : addImmediate 0x91048C00 ≡ 0x123
 add-adds = refl
 

@@ -1,4 +1,4 @@
--- The cases of document 01, and those with a pool, hold of the definitions.
+-- The cases of document 01, and those with ADDs and with a pool, hold of the definitions.
 use mathlib.Core.Path.{_≡_, refl}
 use mathlib.Core.List.{map}
 use Rattle.seqs.specs.Every.{every}
