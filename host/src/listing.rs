@@ -21,7 +21,7 @@ const NOP_LINE: usize = 9;
 const MOST_LINES: usize = 4;
 const LINES_OF_A_CUT_RUN: usize = 2;
 
-/// The bit of `add` that shifts its immediate by 12 bits. No use changes it.
+/// The bit of `add` that shifts its immediate by 12 bits. A use of the immediate leaves it as it is.
 const ADD_SHIFT: u32 = 1 << 22;
 
 /// How much of long runs a listing shows.
