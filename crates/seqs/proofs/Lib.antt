@@ -5,3 +5,4 @@ pub mod Picking
 pub mod Booleans
 pub mod Every
 pub mod Scans
+pub mod Counting

@@ -1,3 +1,4 @@
+pub mod Counting
 pub mod Every
 pub mod Over
 pub mod Pick
