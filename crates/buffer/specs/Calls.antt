@@ -1,7 +1,8 @@
--- What each recording call answers and leaves in what it was lent: document 01, "recording". A call that is turned down changes nothing lent.
+-- What each recording call answers and leaves in what it was lent: document 01, "recording"; document 02, Request Five. A call that is turned down changes
+-- nothing lent.
 use mathlib.Core.Bool.{cond}
 use mathlib.Core.List.{List}
-use Prim.Native.Nat.{ℕ, _+_, _*_, _/_, _%_}
+use Prim.Native.Nat.{ℕ, _+_, _-_, _*_, _/_, _%_}
 use lib.Dec.{eqb}
 use lib.ListN.{length, replicate}
 use Rattle.refusals.specs.Numbers as refusals
@@ -26,6 +27,7 @@ use Rattle.buffer.specs.State.{
   withConstants,
   withAsked,
   withRelocs,
+  withOpen,
   turnedDown,
   accepted,
   noneMade,
@@ -45,6 +47,7 @@ use Rattle.buffer.specs.Refusals.{
   noRoomToAsk,
   whyReloc,
 }
+use Rattle.buffer.specs.Open.{opened, targetOpened, settled}
 use Rattle.buffer.specs.Tables.{labelSize, useWords, useSize, refWords, refSize, constantWords, constantSize, constantHead, askedSize, relocWords, relocSize}
 
 -- a new recording; a refused start gives a record of zeros
@@ -64,6 +67,7 @@ started arch symbols =
       constants = 0;
       asked = 0;
       relocs = 0;
+      unresolved = 0;
     })
     (record {
       buffer = record {
@@ -79,6 +83,7 @@ started arch symbols =
         constants = 0;
         asked = 0;
         relocs = 0;
+        unresolved = 0;
       };
       refusal = whyStart arch;
     })
@@ -95,11 +100,13 @@ getLabel b labels =
     let why = whyLabel b (length labels / labelSize) in
     pick (eqb why 0) (made (withLabels b (b .labels + 1)) (b .labels), setWord labels (b .labels) none) (noneMade b why, labels)
 
--- the label stands at the current offset; a refusal is not recorded
-unfoldable pub bindLabel : CodeBuffer → List ℕ → ℕ → Recorded × List ℕ
-bindLabel b labels label =
-    let why = whyBind b labels label in
-    pick (eqb why 0) (accepted b, setWord labels label (b .code)) (record { buffer = b; refusal = why }, labels)
+-- the label stands at the current offset, and the entries that name it are open no more; a refusal is not recorded
+unfoldable pub bindLabel : CodeBuffer → List ℕ → List ℕ → List ℕ → List ℕ → List ℕ → ℕ → Recorded × List ℕ
+bindLabel b labels events uses refs relocs label =
+    let why = whyBind b labels (length events / eventSize) (length uses / useSize) (length refs / refSize) (length relocs / relocSize) label in
+    pick (eqb why 0)
+    (accepted (withOpen b (b .unresolved - settled b events uses refs relocs label)), setWord labels label (b .code))
+    (record { buffer = b; refusal = why }, labels)
 
 -- "x86 pads with NOPs, AArch64 with zeros."
 abbrev pub padding : ℕ → ℕ → List ℕ
@@ -121,22 +128,23 @@ alignTo b code events multiple =
     (accepted (withCode (recorded .0) (b .code + n)), (over code (b .code) (padding (b .arch) n), recorded .1))
     (turnedDown b why, (code, events))
 
-unfoldable pub useLabel : CodeBuffer → List ℕ → ℕ → ℕ → ℕ → Recorded × List ℕ
-useLabel b uses offset label code =
-    let why = whyUse b (length uses / useSize) label code in
+-- it is open where its label is not bound
+unfoldable pub useLabel : CodeBuffer → List ℕ → List ℕ → ℕ → ℕ → ℕ → Recorded × List ℕ
+useLabel b labels uses offset label code =
+    let why = whyUse b (length labels / labelSize) (length uses / useSize) label code in
     let k = b .uses * useWords in
     pick (eqb why 0)
-    (accepted (withUses b (b .uses + 1)), setWord (setWord (setWord uses k offset) (k + 1) label) (k + 2) code)
+    (accepted (withOpen (withUses b (b .uses + 1)) (b .unresolved + opened labels label)), setWord (setWord (setWord uses k offset) (k + 1) label) (k + 2) code)
     (turnedDown b why, uses)
 
 -- kept on X64; the addend is a 32-bit two's complement word
-unfoldable pub recordRef : CodeBuffer → List ℕ → ℕ → ℕ → ℕ → ℕ → Recorded × List ℕ
-recordRef b refs offset label code addend =
-    let why = whyRef b (length refs / refSize) label code in
+unfoldable pub recordRef : CodeBuffer → List ℕ → List ℕ → ℕ → ℕ → ℕ → ℕ → Recorded × List ℕ
+recordRef b labels refs offset label code addend =
+    let why = whyRef b (length labels / labelSize) (length refs / refSize) label code in
     let k = b .refs * refWords in
     pick (eqb why 0)
     (pick (keepsEvents (b .arch))
-    (accepted (withRefs b (b .refs + 1)), setWord (setWord (setWord (setWord refs k offset) (k + 1) label) (k + 2) code) (k + 3) addend)
+    (accepted (withOpen (withRefs b (b .refs + 1)) (b .unresolved + opened labels label)), setWord (setWord (setWord (setWord refs k offset) (k + 1) label) (k + 2) code) (k + 3) addend)
     (accepted b, refs))
     (turnedDown b why, refs)
 
@@ -145,7 +153,9 @@ unfoldable pub recordJump : CodeBuffer → List ℕ → List ℕ → ℕ → ℕ
 recordJump b labels events start len label cc =
     let why = whyJump b labels events start len label cc in
     pick (eqb why 0)
-    (pick (keepsEvents (b .arch)) (accepted (withEvents b (b .events + 1)), setEvent events (b .events) jumpKind start len label cc) (accepted b, events))
+    (pick (keepsEvents (b .arch))
+    (accepted (withOpen (withEvents b (b .events + 1)) (b .unresolved + opened labels label)), setEvent events (b .events) jumpKind start len label cc)
+    (accepted b, events))
     (turnedDown b why, events)
 
 -- an entry is its size, its label, and 64 bytes, of which those past its size are not touched
@@ -175,12 +185,12 @@ constantLabel b constants asked labels constant =
     (noneMade b why, (constants, (asked, labels)))
 
 -- an entry is offset, kind, target, 0 and the addend, a 64-bit two's complement word, low half first
-unfoldable pub addReloc : CodeBuffer → List ℕ → ℕ → ℕ → ℕ → ℕ → Recorded × List ℕ
-addReloc b relocs offset kind target addend =
-    let why = whyReloc b (length relocs / relocSize) offset kind target in
+unfoldable pub addReloc : CodeBuffer → List ℕ → List ℕ → ℕ → ℕ → ℕ → ℕ → Recorded × List ℕ
+addReloc b labels relocs offset kind target addend =
+    let why = whyReloc b (length labels / labelSize) (length relocs / relocSize) offset kind target in
     let k = b .relocs * relocWords in
     pick (eqb why 0) (
-      accepted (withRelocs b (b .relocs + 1)),
+      accepted (withOpen (withRelocs b (b .relocs + 1)) (b .unresolved + targetOpened labels target)),
       setWord
           (setWord (setWord (setWord (setWord (setWord relocs k offset) (k + 1) kind) (k + 2) target) (k + 3) 0) (k + 4) (addend % 4294967296))
           (k + 5)

@@ -15,7 +15,7 @@ use Rattle.fields.specs.Kinds.{archX86, archX64, archA64, isArch, decoded, supp
 use Rattle.relax.specs.Events.{eventAt, endOf, eventSize, noCondition, mostJump, shortLen}
 use Rattle.buffer.specs.declared.CodeBuffer.{CodeBuffer}
 use Rattle.buffer.specs.State.{none, labelTarget, keepsEvents}
-use Rattle.buffer.specs.Tables.{mostEntries, mostCode, lastOffset, mostConstant, mostAlignment, lastReloc, labelSize}
+use Rattle.buffer.specs.Tables.{mostEntries, mostCode, lastOffset, mostConstant, mostAlignment, lastReloc, mostOpen, labelSize}
 
 -- the architectures that a recording may be of
 abbrev pub archOccurs : ℕ → Bool
@@ -26,11 +26,11 @@ abbrev pub refusalOccurs : ℕ → Bool
 refusalOccurs n = eqb n 0 || leb refusals.firstRecorded n && leb n refusals.codeFull && not (eqb n refusals.alreadyBound)
 
 -- What every call looks at first. 1: a count handed in passes what is lent, an argument breaks its form (either makes `fit` false), its
--- architecture or refusal can't occur; the recorded refusal; 3: the call is lent more than a limit (`within` is false); 4: it has finished.
+-- architecture or refusal can't occur, or "any call answers 1 to one above 262,144" of the entries that are open; the recorded refusal; 3: the call is lent more than a limit (`within` is false); 4: it has finished.
 unfoldable pub standing : CodeBuffer → Bool → Bool → ℕ
 standing b fit within =
     first (
-    (not (archOccurs (b .arch) && refusalOccurs (b .refusal) && fit), refusals.malformed)
+    (not (archOccurs (b .arch) && refusalOccurs (b .refusal) && leb (b .unresolved) mostOpen && fit), refusals.malformed)
     ∷ (not (eqb (b .refusal) 0), b .refusal)
     ∷ (not within, refusals.pastLimit)
     ∷ (not (eqb (b .finished) 0), refusals.alreadyFinished)
@@ -53,10 +53,20 @@ whyLabel b room =
     orElse (standing b (leb (b .labels) room) (leb room mostEntries))
     (first ((leb room (b .labels), refusals.tableFull) ∷ []))
 
+-- the tables that name labels, of events, uses, refs and relocations: no count passes what is lent, none exceeds the limit; the numbers are entries lent
+abbrev pub namersFit : CodeBuffer → ℕ → ℕ → ℕ → ℕ → Bool
+namersFit b events uses refs relocs = leb (b .events) events && (leb (b .uses) uses && (leb (b .refs) refs && leb (b .relocs) relocs))
+
+abbrev pub namersWithin : ℕ → ℕ → ℕ → ℕ → Bool
+namersWithin events uses refs relocs = leb events mostEntries && (leb uses mostEntries && (leb refs mostEntries && leb relocs mostEntries))
+
 -- a bind. 8: the label is unknown; 9: it is bound already. Neither is recorded.
-unfoldable pub whyBind : CodeBuffer → List ℕ → ℕ → ℕ
-whyBind b labels label =
-    orElse (standing b (leb (b .labels) (length labels / labelSize)) (leb (length labels / labelSize) mostEntries))
+unfoldable pub whyBind : CodeBuffer → List ℕ → ℕ → ℕ → ℕ → ℕ → ℕ → ℕ
+whyBind b labels events uses refs relocs label =
+    orElse
+    (standing b
+    (leb (b .labels) (length labels / labelSize) && namersFit b events uses refs relocs)
+    (leb (length labels / labelSize) mostEntries && namersWithin events uses refs relocs))
     (first ((leb (b .labels) label, refusals.unknownNumber) ∷ (not (eqb (wordAt labels label) none), refusals.alreadyBound) ∷ []))
 
 -- a power of two, at most 4,096: what divides 4,096
@@ -81,10 +91,11 @@ foreign (Use k) arch = not (supportsArch k arch)
 foreign Unsupported arch = true
 foreign Unknown arch = true
 
--- a use. 1: code above 16; 6: code 15; 7: a kind foreign to the architecture; 8: the label is unknown; 11: the table is full.
-unfoldable pub whyUse : CodeBuffer → ℕ → ℕ → ℕ → ℕ
-whyUse b room label code =
-    orElse (standing b (leb (b .uses) room && leb code lastCode) (leb room mostEntries))
+-- a use, beside `known` labels that are lent. 1: code above 16; 6: code 15; 7: a kind foreign to the architecture; 8: the label is unknown; 11: the table
+-- is full.
+unfoldable pub whyUse : CodeBuffer → ℕ → ℕ → ℕ → ℕ → ℕ
+whyUse b known room label code =
+    orElse (standing b (leb (b .labels) known && (leb (b .uses) room && leb code lastCode)) (leb known mostEntries && leb room mostEntries))
     (first (
     (eqb code unsupportedCode, refusals.unsupportedUse)
     ∷ (foreign (decoded code) (b .arch), refusals.foreignKind)
@@ -94,9 +105,9 @@ whyUse b room label code =
     ))
 
 -- a ref. Off X64 it is accepted unread once 1 to 4 are past.
-unfoldable pub whyRef : CodeBuffer → ℕ → ℕ → ℕ → ℕ
-whyRef b room label code =
-    orElse (standing b (leb (b .refs) room && leb code lastCode) (leb room mostEntries))
+unfoldable pub whyRef : CodeBuffer → ℕ → ℕ → ℕ → ℕ → ℕ
+whyRef b known room label code =
+    orElse (standing b (leb (b .labels) known && (leb (b .refs) room && leb code lastCode)) (leb known mostEntries && leb room mostEntries))
     (pick (keepsEvents (b .arch))
     (first (
     (foreign (decoded code) (b .arch), refusals.foreignKind)
@@ -177,9 +188,9 @@ targetKnown b target = pick (ltb target labelTarget) (ltb target (b .symbols)) (
 
 -- a relocation. 1: kind above 27; 7: a kind foreign to the architecture; 8: the target is unknown; 10: the offset exceeds 16,777,215; 11: the table is
 -- full.
-unfoldable pub whyReloc : CodeBuffer → ℕ → ℕ → ℕ → ℕ → ℕ
-whyReloc b room offset kind target =
-    orElse (standing b (leb (b .relocs) room && leb kind lastReloc) (leb room mostEntries))
+unfoldable pub whyReloc : CodeBuffer → ℕ → ℕ → ℕ → ℕ → ℕ → ℕ
+whyReloc b known room offset kind target =
+    orElse (standing b (leb (b .labels) known && (leb (b .relocs) room && leb kind lastReloc)) (leb known mostEntries && leb room mostEntries))
     (first (
     (foreignReloc kind (b .arch), refusals.foreignKind)
     ∷ (not (targetKnown b target), refusals.unknownNumber)

@@ -17,6 +17,10 @@ mostConstant = 64
 abbrev pub mostAlignment : ℕ
 mostAlignment = 4096
 
+-- the most entries that may be open: uses, refs, events and relocations are 65,536 each
+abbrev pub mostOpen : ℕ
+mostOpen = 262144
+
 -- the last kind of relocation, in the order of asmkit's `Reloc`
 abbrev pub lastReloc : ℕ
 lastReloc = 27

@@ -14,6 +14,7 @@ use crate::NONE;
 use crate::Recorded;
 use crate::both;
 use crate::either;
+use crate::open::opened;
 
 // The end of the last of `n` events.
 pub fn last_end(events: &[u8], n: usize) -> u64
@@ -145,8 +146,10 @@ impl CodeBuffer {
             };
         }
         let n = self.events;
+        let more = opened(labels, label);
         relax::put_event(events, n as usize, relax::JUMP, start, len, label, cc);
         self.events = n + 1;
+        self.unresolved = self.unresolved + more;
         Recorded {
             buffer: self,
             refusal: 0,

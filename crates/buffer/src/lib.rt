@@ -5,16 +5,19 @@ ghost use mathlib.Core.Bool.{_&&_, _||_};
 ghost use Rattle.buffer.specs.State.{turnedDown, noneMade};
 ghost use Rattle.buffer.specs.Refusals.{archOccurs, refusalOccurs, standing};
 ghost use Rattle.buffer.specs.Calls.{started};
+ghost use Rattle.buffer.specs.Tables.{mostOpen};
+ghost use lib.Dec.{leb};
 
 pub mod bytes;
 mod constants;
 pub mod jumps;
 mod labels;
+mod open;
 pub mod relocs;
 pub mod uses;
 
 // The offset of a label that is not bound, the label of a constant that has none, and what a refused call for either gives.
-pub const NONE: u32 = 0xffffffff;
+pub const NONE: u32 = naming::UNBOUND;
 
 // The limits: entries of a table, bytes of code, the last offset in it, bytes of a constant, the largest alignment.
 pub const MOST_ENTRIES: usize = 65536;
@@ -26,6 +29,9 @@ pub const LAST_OFFSET: u32 = 16777215;
 pub const MOST_CONSTANT: usize = 64;
 
 pub const MOST_ALIGNMENT: u32 = 4096;
+
+// The most entries that may be open: uses, refs, events and relocations are `MOST_ENTRIES` each.
+pub const MOST_OPEN: u32 = 262144;
 
 // An entry of each table, in words and in bytes; `relax` has those of events. A constant's bytes come after its size and its label.
 pub const LABEL_SIZE: usize = 4;
@@ -74,6 +80,8 @@ pub struct CodeBuffer {
     pub constants: u32,
     pub asked: u32,
     pub relocs: u32,
+    // How many uses, refs, jumps and label relocations name a label that is not bound.
+    pub unresolved: u32,
 }
 
 // The recording after a call, and 0 or the refusal's number.
@@ -154,6 +162,7 @@ impl CodeBuffer {
                     constants: 0,
                     asked: 0,
                     relocs: 0,
+                    unresolved: 0,
                 },
                 refusal: refusals::UNKNOWN_ARCH,
             };
@@ -172,18 +181,17 @@ impl CodeBuffer {
                 constants: 0,
                 asked: 0,
                 relocs: 0,
+                unresolved: 0,
             },
             refusal: 0,
         }
     }
 
     fn is_sound(self, fit: bool) -> bool
-        ensures { λ r. ⌜ r ≡ (archOccurs (self .arch) && refusalOccurs (self .refusal) && fit) ⌝ }
+        ensures { λ r. ⌜ r ≡ (archOccurs (self .arch) && refusalOccurs (self .refusal) && leb (self .unresolved) mostOpen && fit) ⌝ }
     {
-        both(
-            both(arch_occurs(self.arch), refusal_occurs(self.refusal)),
-            fit,
-        )
+        let known = both(arch_occurs(self.arch), refusal_occurs(self.refusal));
+        both(both(known, self.unresolved <= MOST_OPEN), fit)
     }
 
     // What every call looks at first: 0, 1, the recorded refusal, 3 or 4. `fit`: every count that can be compared with what is lent passes it

@@ -7,6 +7,7 @@ ghost use Rattle.buffer.specs.Refusals.{relocArchs, foreignReloc, target
 ghost use Rattle.buffer.specs.Calls.{addReloc};
 ghost use Rattle.buffer.specs.Tables.{relocWords, relocSize};
 use crate::CodeBuffer;
+use crate::LABEL_SIZE;
 use crate::LABEL_TARGET;
 use crate::LAST_OFFSET;
 use crate::LAST_RELOC;
@@ -15,6 +16,7 @@ use crate::RELOC_SIZE;
 use crate::RELOC_WORDS;
 use crate::Recorded;
 use crate::both;
+use crate::open::target_opened;
 
 // The architecture of each kind: 0 any, 1 X86 and X64, 2 AArch64, 3 none here.
 const ARCHS: [u8; 28] = [
@@ -102,11 +104,16 @@ impl CodeBuffer {
         target - LABEL_TARGET < self.labels
     }
 
-    fn why_no_reloc(self, room: usize, offset: u32, kind: u32, target: u32) -> u32
-        ensures { λ r. ⌜ r ≡ whyReloc self room offset kind target ⌝ }
+    // `known` labels are lent, and room for `room` relocations.
+    fn why_no_reloc(self, known: usize, room: usize, offset: u32, kind: u32, target: u32) -> u32
+        ensures { λ r. ⌜ r ≡ whyReloc self known room offset kind target ⌝ }
     {
         let n = self.relocs as usize;
-        let why = self.standing(both(n <= room, kind <= LAST_RELOC), room <= MOST_ENTRIES);
+        let formed = both(n <= room, kind <= LAST_RELOC);
+        let why = self.standing(
+            both(self.labels as usize <= known, formed),
+            both(known <= MOST_ENTRIES, room <= MOST_ENTRIES),
+        );
         if why != 0 {
             return why;
         }
@@ -128,21 +135,30 @@ impl CodeBuffer {
     // A relocation at `offset`; the addend is a 64-bit two's complement word.
     pub fn add_reloc_at_offset(
         mut self,
+        labels: &[u8],
         relocs: &mut [u8],
         offset: u32,
         kind: u32,
         target: u32,
         addend: u64,
     ) -> Recorded
-        ensures { λ r. ⌜ (r, now (relocs .exit)) ≡ addReloc self (now (relocs .entry)) offset kind target addend ⌝ }
+        ensures { λ r. ⌜ (r, now (relocs .exit)) ≡ addReloc self (now (labels .entry)) (now (relocs .entry)) offset kind target addend ⌝ }
     {
-        let why = self.why_no_reloc(relocs.len() / RELOC_SIZE, offset, kind, target);
+        let why = self.why_no_reloc(
+            labels.len() / LABEL_SIZE,
+            relocs.len() / RELOC_SIZE,
+            offset,
+            kind,
+            target,
+        );
         if why != 0 {
             return self.turn_down(why);
         }
         let n = self.relocs;
+        let more = target_opened(labels, target);
         put_reloc(relocs, n as usize, offset, kind, target, addend);
         self.relocs = n + 1;
+        self.unresolved = self.unresolved + more;
         Recorded {
             buffer: self,
             refusal: 0,

@@ -8,6 +8,7 @@ ghost use Rattle.buffer.specs.Refusals.{foreign, whyUse, whyRef};
 ghost use Rattle.buffer.specs.Calls.{useLabel, recordRef};
 ghost use Rattle.buffer.specs.Tables.{useWords, useSize, refWords, refSize};
 use crate::CodeBuffer;
+use crate::LABEL_SIZE;
 use crate::MOST_ENTRIES;
 use crate::REF_SIZE;
 use crate::REF_WORDS;
@@ -15,6 +16,7 @@ use crate::Recorded;
 use crate::USE_SIZE;
 use crate::USE_WORDS;
 use crate::both;
+use crate::open::opened;
 
 // Whether the architecture has no field of the kind that `code` stands for.
 pub fn is_foreign(code: u32, arch: u32) -> bool
@@ -49,13 +51,15 @@ fn put_ref(refs: &mut [u8], i: usize, offset: u32, label: u32, code: u32, addend
 }
 
 impl CodeBuffer {
-    fn why_no_use(self, room: usize, label: u32, code: u32) -> u32
-        ensures { λ r. ⌜ r ≡ whyUse self room label code ⌝ }
+    // `known` labels are lent, and room for `room` uses.
+    fn why_no_use(self, known: usize, room: usize, label: u32, code: u32) -> u32
+        ensures { λ r. ⌜ r ≡ whyUse self known room label code ⌝ }
     {
         let n = self.uses as usize;
+        let formed = both(n <= room, code <= fields::LAST_CODE);
         let why = self.standing(
-            both(n <= room, code <= fields::LAST_CODE),
-            room <= MOST_ENTRIES,
+            both(self.labels as usize <= known, formed),
+            both(known <= MOST_ENTRIES, room <= MOST_ENTRIES),
         );
         if why != 0 {
             return why;
@@ -78,33 +82,42 @@ impl CodeBuffer {
     // The field at `offset`, of the kind that `code` stands for, names the label.
     pub fn use_label_at_offset(
         mut self,
+        labels: &[u8],
         uses: &mut [u8],
         offset: u32,
         label: u32,
         code: u32,
     ) -> Recorded
-        ensures { λ r. ⌜ (r, now (uses .exit)) ≡ useLabel self (now (uses .entry)) offset label code ⌝ }
+        ensures { λ r. ⌜ (r, now (uses .exit)) ≡ useLabel self (now (labels .entry)) (now (uses .entry)) offset label code ⌝ }
     {
-        let why = self.why_no_use(uses.len() / USE_SIZE, label, code);
+        let why = self.why_no_use(
+            labels.len() / LABEL_SIZE,
+            uses.len() / USE_SIZE,
+            label,
+            code,
+        );
         if why != 0 {
             return self.turn_down(why);
         }
         let n = self.uses;
+        let more = opened(labels, label);
         put_use(uses, n as usize, offset, label, code);
         self.uses = n + 1;
+        self.unresolved = self.unresolved + more;
         Recorded {
             buffer: self,
             refusal: 0,
         }
     }
 
-    fn why_no_ref(self, room: usize, label: u32, code: u32) -> u32
-        ensures { λ r. ⌜ r ≡ whyRef self room label code ⌝ }
+    fn why_no_ref(self, known: usize, room: usize, label: u32, code: u32) -> u32
+        ensures { λ r. ⌜ r ≡ whyRef self known room label code ⌝ }
     {
         let n = self.refs as usize;
+        let formed = both(n <= room, code <= fields::LAST_CODE);
         let why = self.standing(
-            both(n <= room, code <= fields::LAST_CODE),
-            room <= MOST_ENTRIES,
+            both(self.labels as usize <= known, formed),
+            both(known <= MOST_ENTRIES, room <= MOST_ENTRIES),
         );
         if why != 0 {
             return why;
@@ -127,15 +140,21 @@ impl CodeBuffer {
     // The same with an addend, a 32-bit two's complement word. Off X64 nothing is kept.
     pub fn record_label_ref(
         mut self,
+        labels: &[u8],
         refs: &mut [u8],
         offset: u32,
         label: u32,
         code: u32,
         addend: u32,
     ) -> Recorded
-        ensures { λ r. ⌜ (r, now (refs .exit)) ≡ recordRef self (now (refs .entry)) offset label code addend ⌝ }
+        ensures { λ r. ⌜ (r, now (refs .exit)) ≡ recordRef self (now (labels .entry)) (now (refs .entry)) offset label code addend ⌝ }
     {
-        let why = self.why_no_ref(refs.len() / REF_SIZE, label, code);
+        let why = self.why_no_ref(
+            labels.len() / LABEL_SIZE,
+            refs.len() / REF_SIZE,
+            label,
+            code,
+        );
         if why != 0 {
             return self.turn_down(why);
         }
@@ -146,8 +165,10 @@ impl CodeBuffer {
             };
         }
         let n = self.refs;
+        let more = opened(labels, label);
         put_ref(refs, n as usize, offset, label, code, addend);
         self.refs = n + 1;
+        self.unresolved = self.unresolved + more;
         Recorded {
             buffer: self,
             refusal: 0,

@@ -1,7 +1,8 @@
--- What a finish that is not turned down for its counts knows of them.
+-- What a call that is lent a whole recording, a finish or a sheet, knows of its counts where it is not turned down for them.
 use mathlib.Core.Path.{_≡_}
 use mathlib.Core.Bool.{true, _&&_}
 use Prim.Native.Nat.{ℕ, _/_, _≤_}
+use native.Mathlib.Omega.{arith}
 use borrow.Author.Tests.{leb-true}
 use lib.Dec.{leb}
 use lib.ListN.{length}
@@ -9,7 +10,8 @@ use Rattle.seqs.proofs.Booleans.{both-true}
 use Rattle.relax.specs.Events.{eventSize}
 use Rattle.buffer.specs.Tables.{mostEntries, mostCode, labelSize, useSize, refSize, constantSize, askedSize, relocSize}
 use Rattle.recording.specs.Calls.{Recording}
+use Rattle.buffer.specs.steps.Count.{NamersFit}
 use Rattle.checks.specs.Lent.{countsFit, withinLimits}
 
 pub record Counted (r : Recording) (segments output : ℕ) : Type 0 where
   pub code : r .buffer .code ≤ length (r .code)
@@ -69,4 +71,18 @@ counted r segments output h w =
       relocs-limit = leb-true (length (r .relocs) / relocSize) mostEntries (w7 .0);
       segments-limit = leb-true (segments) mostEntries (w8 .0);
       output-limit = leb-true (output) mostCode (w8 .1);
+    }
+
+-- of the tables whose entries name labels
+pub counted-namers : {r : Recording} {segments output : ℕ} → Counted r segments output → NamersFit (r .buffer) (r .events) (r .uses) (r .refs) (r .relocs)
+counted-namers c =
+    record {
+      events-room = omega (arith, c .events);
+      uses-room = omega (arith, c .uses);
+      refs-room = omega (arith, c .refs);
+      relocs-room = omega (arith, c .relocs);
+      events-few = omega (arith, c .events, c .events-limit);
+      uses-few = omega (arith, c .uses, c .uses-limit);
+      refs-few = omega (arith, c .refs, c .refs-limit);
+      relocs-few = omega (arith, c .relocs, c .relocs-limit);
     }

@@ -1,3 +1,4 @@
+pub mod CountsWithinLimits
 pub mod Clear
 pub mod Forms
 pub mod Marking

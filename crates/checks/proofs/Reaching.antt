@@ -1,11 +1,10 @@
--- Labels that are named, and fields that are clear.
-use mathlib.Core.Path.{_≡_, sym, _∙_}
-use mathlib.Core.Logic.{_≢_}
+-- The sizes of fields, and fields that are clear.
+use mathlib.Core.Path.{_≡_}
 use mathlib.Core.Bool.{true, false}
 use mathlib.Core.List.{List}
-use Prim.Native.Nat.{ℕ, _+_, _-_, _*_, _≤_, _<_}
+use Prim.Native.Nat.{ℕ, _+_, _*_, _≤_, _<_}
 use native.Mathlib.Omega.{arith}
-use borrow.Author.Tests.{eq-eqb, ne-eqb, lt-ltb, le-ltb, le-leb, lt-leb}
+use borrow.Author.Tests.{le-leb, lt-leb}
 use Rattle.words.specs.Words.{wordAt}
 use Rattle.fields.specs.Kinds.{decoded, patchSize}
 use Rattle.fields.specs.declared.Decoded.{Decoded}
@@ -22,25 +21,10 @@ use Rattle.fields.specs.declared.LabelUse.the-variants.{
   A64Adrp21,
   A64AddAbsLo12,
 }
-use Rattle.relax.specs.Events.{eventWords}
-use Rattle.buffer.specs.Tables.{refWords, relocWords}
+use Rattle.buffer.specs.Tables.{refWords}
 use Rattle.pool.specs.steps.Pool.{poolStart}
 use Rattle.fields.specs.Kinds.{sizeOf}
-use Rattle.checks.specs.steps.Fields.{isBoundAt, jumpBound, targetBound, clearOfEvents, clearOfPool, refClear}
-
-pub jump-none : (events labels : List ℕ) (i kind : ℕ) → kind ≡ wordAt events (i * eventWords) → kind ≢ 1 → true ≡ jumpBound events labels i
-jump-none events labels i kind e h = rw (ne-eqb (wordAt events (i * eventWords)) 1 (λ (q : wordAt events (i * eventWords) ≡ 1). h (e ∙ q)))
-
-pub jump-named : (events labels : List ℕ) (i kind : ℕ) → kind ≡ wordAt events (i * eventWords) → kind ≡ 1
-    → isBoundAt labels (wordAt events (i * eventWords + 3)) ≡ jumpBound events labels i
-jump-named events labels i kind e h = rw (eq-eqb (wordAt events (i * eventWords)) 1 (sym e ∙ h))
-
-pub target-symbol : (relocs labels : List ℕ) (i target : ℕ) → target ≡ wordAt relocs (i * relocWords + 2) → target < 2147483648 → true ≡ targetBound relocs labels i
-target-symbol relocs labels i target e h = rw (lt-ltb (wordAt relocs (i * relocWords + 2)) 2147483648 (rw e at h))
-
-pub target-label : (relocs labels : List ℕ) (i target : ℕ) → target ≡ wordAt relocs (i * relocWords + 2) → 2147483648 ≤ target
-    → isBoundAt labels (target - 2147483648) ≡ targetBound relocs labels i
-target-label relocs labels i target e h = rw (e, le-ltb (wordAt relocs (i * relocWords + 2)) 2147483648 (rw e at h))
+use Rattle.checks.specs.steps.Fields.{clearOfEvents, clearOfPool, refClear}
 
 -- no field has more than four bytes
 patch-small : (k : LabelUse) → patchSize k ≤ 4

@@ -1,116 +1,20 @@
-// Numbers 15, 17 and 19 to 22: labels that are named and not bound, refs that overlap an event, and uses that can't reach.
+// Numbers 17 and 19 to 22: refs that overlap an event, and uses that can't reach.
 ghost use mathlib.Core.Path.{_≡_};
-ghost use Prim.Native.Nat.{_+_, _-_, _*_, _≤_};
+ghost use Prim.Native.Nat.{_+_, _*_, _≤_};
 ghost use lib.ListN.{length};
-ghost use Rattle.words.specs.Words.{wordAt};
 ghost use Rattle.fields.specs.Kinds.{decoded};
-ghost use Rattle.relax.specs.Events.{eventAt, eventWords, eventSize, jumpKind};
-ghost use Rattle.buffer.specs.State.{labelTarget};
-ghost use Rattle.buffer.specs.Tables.{labelSize, useSize, refSize, relocWords, relocSize};
+ghost use Rattle.relax.specs.Events.{eventAt, eventSize};
+ghost use Rattle.buffer.specs.Tables.{labelSize, useSize, refSize};
 ghost use Rattle.recording.specs.View.{entries};
 ghost use Rattle.recording.specs.Sound.{startAt, endAt};
 ghost use Rattle.fresh.specs.Forms.{isMoving, moves};
 ghost use Rattle.pool.specs.steps.Pool.{poolStart};
 ghost use Rattle.fields.specs.Kinds.{sizeOf};
 ghost use Rattle.fields.specs.Reach.{reachOf};
-ghost use Rattle.checks.specs.steps.Fields.{isBoundAt, jumpBound, targetBound, usesBound, refsBound, jumpsBound, relocsBound, refClear, refsClear, whyUnreached, whyUses};
+ghost use Rattle.checks.specs.steps.Fields.{refClear, refsClear, whyUnreached, whyUses};
 ghost use Rattle.checks.specs.steps.Search.{Ordered, Placed};
-ghost use Rattle.checks.specs.steps.Handed.{useLabel, refLabel, Named, JumpsNamed, TargetsNamed};
+ghost use Rattle.checks.specs.steps.Handed.{useLabel, Named};
 use relax::LayoutEvent;
-
-// Whether a label is bound.
-fn is_bound_at(labels: &[u8], label: u32) -> bool
-    requires { ⌜ label * labelSize + labelSize ≤ length (now labels) ⌝ }
-    ensures { λ r. ⌜ r ≡ isBoundAt (now (labels .entry)) label ⌝ }
-{
-    words::word_at(labels, label as usize) != buffer::NONE
-}
-
-// The same of the label that word `k` of a table names.
-fn is_named_bound(table: &[u8], k: usize, labels: &[u8]) -> bool
-    requires { ⌜ k * 4 + 4 ≤ length (now table) ⌝ ∗ ⌜ wordAt (now table) k * labelSize + labelSize ≤ length (now labels) ⌝ }
-    ensures { λ r. ⌜ r ≡ isBoundAt (now (labels .entry)) (wordAt (now (table .entry)) k) ⌝ }
-{
-    is_bound_at(labels, words::word_at(table, k))
-}
-
-pub fn uses_bound(uses: &[u8], n: usize, labels: &[u8]) -> bool
-    requires { ⌜ n * useSize ≤ length (now uses) ⌝ ∗ ⌜ Named (useLabel (now uses)) n (now labels) ⌝ }
-    ensures { λ r. ⌜ r ≡ usesBound (now (uses .entry)) n (now (labels .entry)) ⌝ }
-{
-    let mut i: usize = 0;
-    while i < n {
-        if !is_named_bound(uses, i * buffer::USE_WORDS + 1, labels) {
-            return false;
-        }
-        i += 1;
-    }
-    true
-}
-
-pub fn refs_bound(refs: &[u8], n: usize, labels: &[u8]) -> bool
-    requires { ⌜ n * refSize ≤ length (now refs) ⌝ ∗ ⌜ Named (refLabel (now refs)) n (now labels) ⌝ }
-    ensures { λ r. ⌜ r ≡ refsBound (now (refs .entry)) n (now (labels .entry)) ⌝ }
-{
-    let mut i: usize = 0;
-    while i < n {
-        if !is_named_bound(refs, i * buffer::REF_WORDS + 1, labels) {
-            return false;
-        }
-        i += 1;
-    }
-    true
-}
-
-fn jump_bound(events: &[u8], labels: &[u8], i: usize) -> bool
-    requires { ⌜ i * eventSize + eventSize ≤ length (now events) ⌝ ∗ ⌜ (wordAt (now events) (i * eventWords) ≡ jumpKind → wordAt (now events) (i * eventWords + 3) * labelSize + labelSize ≤ length (now labels)) ⌝ }
-    ensures { λ r. ⌜ r ≡ jumpBound (now (events .entry)) (now (labels .entry)) i ⌝ }
-{
-    if words::word_at(events, i * relax::EVENT_WORDS) != relax::JUMP {
-        return true;
-    }
-    is_named_bound(events, i * relax::EVENT_WORDS + 3, labels)
-}
-
-pub fn jumps_bound(events: &[u8], n: usize, labels: &[u8]) -> bool
-    requires { ⌜ n * eventSize ≤ length (now events) ⌝ ∗ ⌜ JumpsNamed (now events) n (now labels) ⌝ }
-    ensures { λ r. ⌜ r ≡ jumpsBound (now (events .entry)) n (now (labels .entry)) ⌝ }
-{
-    let mut i: usize = 0;
-    while i < n {
-        if !jump_bound(events, labels, i) {
-            return false;
-        }
-        i += 1;
-    }
-    true
-}
-
-// A target from 2^31 on is a label's.
-fn target_bound(relocs: &[u8], labels: &[u8], i: usize) -> bool
-    requires { ⌜ i * relocSize + relocSize ≤ length (now relocs) ⌝ ∗ ⌜ (labelTarget ≤ wordAt (now relocs) (i * relocWords + 2) → (wordAt (now relocs) (i * relocWords + 2) - labelTarget) * labelSize + labelSize ≤ length (now labels)) ⌝ }
-    ensures { λ r. ⌜ r ≡ targetBound (now (relocs .entry)) (now (labels .entry)) i ⌝ }
-{
-    let target = words::word_at(relocs, i * buffer::RELOC_WORDS + 2);
-    if target < buffer::LABEL_TARGET {
-        return true;
-    }
-    is_bound_at(labels, target - buffer::LABEL_TARGET)
-}
-
-pub fn relocs_bound(relocs: &[u8], n: usize, labels: &[u8]) -> bool
-    requires { ⌜ n * relocSize ≤ length (now relocs) ⌝ ∗ ⌜ TargetsNamed (now relocs) n (now labels) ⌝ }
-    ensures { λ r. ⌜ r ≡ relocsBound (now (relocs .entry)) n (now (labels .entry)) ⌝ }
-{
-    let mut i: usize = 0;
-    while i < n {
-        if !target_bound(relocs, labels, i) {
-            return false;
-        }
-        i += 1;
-    }
-    true
-}
 
 fn is_moving(event: LayoutEvent) -> bool
     ensures { λ r. ⌜ r ≡ isMoving event ⌝ }

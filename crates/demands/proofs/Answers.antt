@@ -31,7 +31,7 @@ use Rattle.finish.specs.declared.Finished.{Finished}
 use Rattle.finish.specs.declared.Outcome.{Outcome}
 use Rattle.seqs.specs.Every.{every}
 use Rattle.finish.specs.Refusals.{allBound, refClear, refReaches, whyNotLaid, whyNotWritten, usesRefusal, whyNotInPlace, whyUnfit}
-use Rattle.finish.specs.Finish.{Left, relaxed, unrelaxed, finishedWith, placedBy, finish}
+use Rattle.finish.specs.Finish.{Left, relaxed, unrelaxed, finishedWith, withFinished, placedBy, finish}
 use Rattle.demands.specs.Demand2.{finishedCode}
 
 -- a recording that is fit: its entries are those that recordings write, and the pooled code, the output and the tables are small
@@ -147,6 +147,7 @@ pub record Answered (r : Recording) (ss : List Segment) (output : List ℕ) : Ty
   pub straight : moves (pooled (r .buffer .arch) (view r) .events) ≡ false
       → Kept (pooled (r .buffer .arch) (view r)) (overWords (r .labels) (pooled (r .buffer .arch) (view r) .labels)) output (finishedCode r ss output)
       (finish r ss output .1 .0) (finish r ss output .0 .code .len)
+  pub counts : finish r ss output .0 .buffer ≡ withFinished (r .buffer)
   pub aligned : finish r ss output .0 .code .alignment ≡ codeAlignment (pooled (r .buffer .arch) (view r) .pool)
   pub labels : finish r ss output .0 .code .labels ≡ r .buffer .labels
   pub relocs : finish r ss output .0 .code .relocs ≡ r .buffer .relocs
@@ -182,6 +183,7 @@ finish-answered r ss output e =
           subst (λ (x : Finished × Left). Kept p labels output (take (x .0 .code .len) (x .1 .1 .1 .1)) (x .1 .0) (x .0 .code .len))
           (sym (is ∙ ap (λ (x : Outcome × Left). (finishedWith b (codeAlignment (p .pool)) (x .0), x .1)) all))
           (unrelaxed-leaves p labels (r .relocs) ss output (subst (λ (x : Outcome × Left). x .0 .refusal ≡ 0) all zero));
+      counts = ap (λ (x : Finished × Left). x .0 .buffer) is;
       aligned = ap (λ (x : Finished × Left). x .0 .code .alignment) is;
       labels = ap (λ (x : Finished × Left). x .0 .code .labels) is;
       relocs = ap (λ (x : Finished × Left). x .0 .code .relocs) is;

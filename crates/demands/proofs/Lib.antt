@@ -18,5 +18,6 @@ pub mod Example
 pub mod Demand1
 pub mod Boundary
 pub mod Relocations
+pub mod NoneOpen
 pub mod Claims
 pub mod Worked

@@ -151,18 +151,18 @@ pooled-begins arch v (suc n) =
     begins-on (v .code) (pooledTo arch v n .code) (pooledTo arch v (suc n) .code) (pooled-begins arch v n) (record { more = _; is = refl })
 
 -- an alignment that is not turned down pads
-aligned : (r : Recording) → Sound r → (m : Word) → answered (align m) r ≡ 0
+aligned : (r : Recording) (m : Word) → answered (align m) r ≡ 0
     → view (after (align m) r) .code ≡ view r .code ++ padding (r .buffer .arch) (paddingLength (r .buffer .code) (m .value))
 unfolding alignTo
-aligned r s m e =
+aligned r m e =
     let why = whyAlign (r .buffer) (length (r .code)) (length (r .events) / eventSize) (m .value) in
     let taken : eqb why 0 ≡ true = chosen-zero (λ (x : Recorded × (List ℕ × List ℕ)). x .0 .refusal) (eqb why 0) _ _ (λ q. eqb-false why 0 q) e in
     let zero = eqb-true why 0 taken in
     ⊎-elim
     (λ (x64 : r .buffer .arch ≡ 2).
-    ap (λ (v : View). v .code) (see-align r s m zero x64)
+    ap (λ (v : View). v .code) (see-align r m zero x64)
     ∙ ap (λ (arch : ℕ). view r .code ++ padding arch (paddingLength (r .buffer .code) (m .value))) (sym x64))
-    (λ (other : r .buffer .arch ≢ 2). ap (λ (v : View). v .code) (see-align-elsewhere r s m zero other))
+    (λ (other : r .buffer .arch ≢ 2). ap (λ (v : View). v .code) (see-align-elsewhere r m zero other))
     (eq-or-ne (r .buffer .arch) 2)
 
 -- Without a jump: the padding of an alignment recorded by a call, whatever calls and growth follow, byte by byte where no use and no constant covers it.
@@ -179,7 +179,7 @@ recorded-padding r s m e f later ss output done none =
     let on =
     begins-on (view (after (align m) r) .code) (v .code) (p .code) (leads-begin (after (align m) r) f later) (pooled-begins arch v (length (v .asked))) in
     let is : p .code ≡ view r .code ++ (pad ++ on .more) =
-    on .is ∙ ap (λ (l : List ℕ). l ++ on .more) (aligned r s m e) ∙ append-assoc (view r .code) pad (on .more) in
+    on .is ∙ ap (λ (l : List ℕ). l ++ on .more) (aligned r m e) ∙ append-assoc (view r .code) pad (on .more) in
     subst (Padded p (r .buffer .arch) start n) (sym (finish-answered f ss output done .straight none .is))
     (stays-padded p (r .buffer .arch) start n
     (part-between (p .code) (view r .code) pad (on .more) start n is (sym (length-take-le start (r .code) (s .code .room))) (sym (padding-length (r .buffer .arch) n))))

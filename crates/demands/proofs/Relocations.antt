@@ -41,9 +41,9 @@ use Rattle.demands.proofs.Discharged.{is-bound}
 use Rattle.demands.proofs.Offsets.{bound-left}
 
 -- a table of relocations with the same length and targets
-record SameTargets (relocs : List ℕ) (left : List ℕ) : Type 0 where
-  size : length left ≡ length relocs
-  target : (i : ℕ) → wordAt left (i * relocWords + 2) ≡ wordAt relocs (i * relocWords + 2)
+pub record SameTargets (relocs : List ℕ) (left : List ℕ) : Type 0 where
+  pub size : length left ≡ length relocs
+  pub target : (i : ℕ) → wordAt left (i * relocWords + 2) ≡ wordAt relocs (i * relocWords + 2)
 
 -- mapped offsets leave the targets
 relocated-targets : (at : ℕ → ℕ) (relocs : List ℕ) (n : ℕ) → SameTargets relocs (relocated at relocs n)
@@ -79,7 +79,7 @@ placed-targets p r ss output =
     (pick-either (Same (r .relocs) ss output) _ _ _ (relaxed-targets (r .relocs) ss output p _ _) (unrelaxed-targets (r .relocs) ss output p _))
     (same (r .relocs) ss output)
 
-finish-targets : (r : Recording) (ss : List Segment) (output : List ℕ) → SameTargets (r .relocs) (finishing.finish r ss output .1 .1 .0)
+pub finish-targets : (r : Recording) (ss : List Segment) (output : List ℕ) → SameTargets (r .relocs) (finishing.finish r ss output .1 .1 .0)
 unfolding finishing.finish
 finish-targets r ss output =
     let placed = placed-targets (pooled (r .buffer .arch) (view r)) r ss output in

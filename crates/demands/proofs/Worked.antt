@@ -8,6 +8,8 @@ use native.Mathlib.Omega.{arith}
 use lib.Dec.{ltb}
 use lib.ListN.{length, getD, replicate}
 use borrow.Author.Tests.{ltb-true}
+use Rattle.seqs.specs.Counting.{count}
+use Rattle.recording.specs.Open.{naming}
 use Rattle.seqs.specs.Every.{every, all}
 use Rattle.seqs.specs.Over.{over}
 use Rattle.seqs.specs.Pick.{pick}
@@ -57,7 +59,7 @@ bytes-of (b ∷ l) e (suc i) = bytes-of l (both-true (ltb b 256) (every (λ (x :
 abbrev x64 : Lent
 x64 =
     record {
-      counts = bytesOfAll (archX64 ∷ 0 ∷ 0 ∷ 0 ∷ 16 ∷ 3 ∷ 2 ∷ 0 ∷ 1 ∷ 2 ∷ 2 ∷ 0 ∷ []);
+      counts = bytesOfAll (archX64 ∷ 0 ∷ 0 ∷ 0 ∷ 16 ∷ 3 ∷ 2 ∷ 0 ∷ 1 ∷ 2 ∷ 2 ∷ 0 ∷ 0 ∷ []);
       code = replicate 16 0;
       labels = bytesOfAll (16 ∷ none ∷ none ∷ []);
       events = bytesOfAll (1 ∷ 4 ∷ 6 ∷ 0 ∷ 4 ∷ 2 ∷ 10 ∷ 6 ∷ 16 ∷ 0 ∷ []);
@@ -104,7 +106,7 @@ abbrev x64-choice : Choice
 x64-choice = false ∷ false ∷ false ∷ false ∷ []
 
 x64-clear : (j : ℕ) → ConstantMisses (moved (pooledIn x64) x64-choice) (pooledIn x64) 0 4 j
-unfolding every all over pick wordAt nop.form nop.nopsBy nop.nops paddingLength decoded signExtend range canReachDelta patched conditionOf eventOf eventAt standing isAlignment
+unfolding every all count naming over pick wordAt nop.form nop.nopsBy nop.nops paddingLength decoded signExtend range canReachDelta patched conditionOf eventOf eventAt standing isAlignment
     lastEnd formFits eventFits keptOnly eventsFit outside labelFits labelsFit usesFit refFits refsFit relocsFit constantFits constantsFit askedFits askedOnce
     isAsked orderFits entriesFit countsFit withinLimits pooledOne form width roleOf moves items writes starts stands moved jumps reaches isFar farOf any join settle fillField
     fillRefs fillJump fillJumps fillPool fill assembled segments poolBoundBefore relocBound allBound refClear refReaches whyNotLaid whyNotWritten whyUnfit relocated relaxed
@@ -114,7 +116,7 @@ x64-clear (suc zero) known x from to low high = omega arith
 x64-clear (suc (suc j)) known x from to low high = let few : suc (suc j) < 2 = known in omega arith
 
 x64-meets : X64Meets
-unfolding every all over pick wordAt nop.form nop.nopsBy nop.nops paddingLength decoded signExtend range canReachDelta patched conditionOf eventOf eventAt standing isAlignment
+unfolding every all count naming over pick wordAt nop.form nop.nopsBy nop.nops paddingLength decoded signExtend range canReachDelta patched conditionOf eventOf eventAt standing isAlignment
     lastEnd formFits eventFits keptOnly eventsFit outside labelFits labelsFit usesFit refFits refsFit relocsFit constantFits constantsFit askedFits askedOnce
     isAsked orderFits entriesFit countsFit withinLimits pooledOne form width roleOf moves items writes starts stands moved jumps reaches isFar farOf any join settle fillField
     fillRefs fillJump fillJumps fillPool fill assembled segments poolBoundBefore relocBound allBound refClear refReaches whyNotLaid whyNotWritten whyUnfit relocated relaxed
@@ -138,11 +140,11 @@ x64-meets =
     }
 
 -- On AArch64: B to label 0, at 12, and ADRP and ADD of a constant's label; 4 bytes of padding stand before the constant, at 16. ADD's field holds 4,095
--- beforehand.
+-- beforehand. Two uses are open until the constant is pooled.
 abbrev a64 : Lent
 a64 =
     record {
-      counts = bytesOfAll (archA64 ∷ 0 ∷ 0 ∷ 0 ∷ 12 ∷ 2 ∷ 0 ∷ 3 ∷ 0 ∷ 1 ∷ 1 ∷ 0 ∷ []);
+      counts = bytesOfAll (archA64 ∷ 0 ∷ 0 ∷ 0 ∷ 12 ∷ 2 ∷ 0 ∷ 3 ∷ 0 ∷ 1 ∷ 1 ∷ 0 ∷ 2 ∷ []);
       code = bytesOfAll (0x14000000 ∷ 0x90000000 ∷ 0x913FFC00 ∷ []);
       labels = bytesOfAll (12 ∷ none ∷ []);
       events = [];
@@ -202,7 +204,7 @@ behind-all a n before zero known x from to low high = omega arith
 behind-all a n before (suc j) known x from to low high = let few : suc j < 1 = known in omega arith
 
 a64-meets : A64Meets
-unfolding every all over pick wordAt paddingLength decoded signExtend range insertBits canReach canReachDelta pagesReach reachRefusal patched heldAddend conditionOf eventOf
+unfolding every all count naming over pick wordAt paddingLength decoded signExtend range insertBits canReach canReachDelta pagesReach reachRefusal patched heldAddend conditionOf eventOf
     eventAt standing lastEnd keptOnly eventsFit outside labelFits labelsFit useFits usesFit refsFit relocsFit constantFits constantsFit askedFits askedOnce isAsked orderFits
     entriesFit countsFit withinLimits pooledOne roleOf moves fillUse fillUses fillPool inPlace poolBoundBefore relocBound allBound useRefusal usesRefusal whyNotInPlace whyUnfit
     unrelaxed placedBy finishing.finish finish
@@ -225,7 +227,7 @@ a64-meets =
 abbrev wide : Lent
 wide =
     record {
-      counts = bytesOfAll (archX86 ∷ 0 ∷ 0 ∷ 0 ∷ 1 ∷ 1 ∷ 0 ∷ 0 ∷ 0 ∷ 1 ∷ 1 ∷ 0 ∷ []);
+      counts = bytesOfAll (archX86 ∷ 0 ∷ 0 ∷ 0 ∷ 1 ∷ 1 ∷ 0 ∷ 0 ∷ 0 ∷ 1 ∷ 1 ∷ 0 ∷ 0 ∷ []);
       code = 0x90 ∷ [];
       labels = bytesOfAll (none ∷ []);
       events = [];
@@ -239,7 +241,7 @@ wide =
 abbrev unasked : Lent
 unasked =
     record {
-      counts = bytesOfAll (archX86 ∷ 0 ∷ 0 ∷ 0 ∷ 1 ∷ 0 ∷ 0 ∷ 0 ∷ 0 ∷ 1 ∷ 0 ∷ 0 ∷ []);
+      counts = bytesOfAll (archX86 ∷ 0 ∷ 0 ∷ 0 ∷ 1 ∷ 0 ∷ 0 ∷ 0 ∷ 0 ∷ 1 ∷ 0 ∷ 0 ∷ 0 ∷ []);
       code = 0x90 ∷ [];
       labels = [];
       events = [];
@@ -260,7 +262,7 @@ record WideMeets : Type 0 where
   less : (m : ℕ) → 32 ≤ m → wordOf (finish unasked [] (replicate 1 0) (replicate 24 0)) 2 ≤ m
 
 wide-meets : WideMeets
-unfolding every all over pick wordAt nop.form nop.nopsBy nop.nops paddingLength standing lastEnd keptOnly eventsFit outside labelFits labelsFit usesFit refsFit relocsFit
+unfolding every all count naming over pick wordAt nop.form nop.nopsBy nop.nops paddingLength standing lastEnd keptOnly eventsFit outside labelFits labelsFit usesFit refsFit relocsFit
     constantFits constantsFit askedFits askedOnce isAsked orderFits entriesFit countsFit withinLimits pooledOne codeAlignment moves fillUses fillPool inPlace poolBoundBefore
     relocBound allBound usesRefusal whyNotInPlace whyUnfit unrelaxed placedBy finishing.finish finish
 wide-meets =

@@ -4,17 +4,20 @@ use mathlib.Core.Logic.{_≢_}
 use mathlib.Core.Bool.{Bool, true, false, not}
 use Prim.Native.Nat.{ℕ, _≤_, _<_}
 use native.Mathlib.Omega.{arith}
-use borrow.Author.Tests.{not-false, ltb-false}
-use lib.Dec.{ltb}
+use borrow.Author.Tests.{not-false, eqb-true, ltb-false}
+use lib.Dec.{eqb, ltb}
 use lib.ListN.{length}
 use Rattle.refusals.specs.Numbers as refusals
-use Rattle.seqs.proofs.Picking.{pick-yes, pick-no, yes-eq, no-eq, yes-not, no-not, yes-lt, no-lt, passed, neither}
+use Rattle.seqs.proofs.Picking.{pick-yes, pick-no, yes-eq, no-eq, yes-ne, no-ne, yes-not, no-not, yes-lt, no-lt, passed, neither}
 use Rattle.buffer.specs.Refusals.{standing}
 use Rattle.buffer.proofs.Standing.{stands}
 use Rattle.buffer.specs.Tables.{mostEntries, mostCode}
+use Rattle.buffer.specs.steps.Count.{NamersFit, openCount}
 use Rattle.recording.specs.Calls.{Recording}
 use Rattle.recording.specs.Sound.{CodeSound, Sound}
 use Rattle.recording.specs.View.{view}
+use Rattle.recording.specs.Open.{openOf}
+use Rattle.recording.proofs.Naming.{open-count}
 use Rattle.fresh.specs.Pooled.{pooled}
 use Rattle.pool.specs.steps.Pool.{poolStart, isAnyBound}
 use Rattle.checks.specs.Entries.{entriesFit}
@@ -22,7 +25,7 @@ use Rattle.checks.specs.steps.Handed.{CountsFit, tables}
 use Rattle.checks.proofs.Sound.{fits-sound, code-unread}
 use Rattle.checks.specs.Lent.{countsFit, withinLimits}
 use Rattle.finish.specs.Refusals.{poolBoundBefore, whyUnfit}
-use Rattle.finish.proofs.CountsWithinLimits.{Counted, counted}
+use Rattle.checks.proofs.CountsWithinLimits.{Counted, counted, counted-namers}
 use Rattle.finish.proofs.PooledTables.{Tied}
 use Rattle.finish.proofs.SoundRecording.{tied, pooled-ends}
 use Rattle.finish.proofs.ScansAgree.{pool-bound}
@@ -45,6 +48,9 @@ module _ (r : Recording) (segments output : ℕ) (stood : standing (r .buffer) (
     asked-room = omega (arith, limits .asked);
     relocs-room = omega (arith, limits .relocs);
   }
+
+  pub namers : NamersFit (r .buffer) (r .events) (r .uses) (r .refs) (r .relocs)
+  namers = counted-namers limits
 
   pub code-fits : CodeSound (r .code) (r .buffer .code)
   code-fits = record { room = limits .code; limit = omega (arith, limits .code, limits .code-limit) }
@@ -82,32 +88,45 @@ module _ (r : Recording) (segments output : ℕ) where
     unfit-entries e = sym (yes-eq _ 0 _ _ stood ∙ yes-not (entriesFit r) 1 _ e)
 
     module _ (fit : entriesFit r ≡ true) where
-      pub unfit-bound : isAnyBound (r .labels) (r .constants) (r .asked) (r .buffer .asked) ≡ true → refusals.poolLabelBound ≡ whyUnfit r segments output
+      -- a number of open entries that is not the count over the tables
+      pub unfit-open : openCount (r .buffer) (r .labels) (r .events) (r .uses) (r .refs) (r .relocs) ≢ r .buffer .unresolved → refusals.malformed ≡ whyUnfit r segments output
       unfolding whyUnfit
-      unfit-bound e =
-          sym (yes-eq _ 0 _ _ stood ∙ no-not (entriesFit r) 1 _ fit ∙ pick-yes (poolBoundBefore (view r)) 13 _ (bound-before r segments output stood fit ∙ e))
+      unfit-open ne =
+          sym (yes-eq _ 0 _ _ stood ∙ no-not (entriesFit r) 1 _ fit ∙ yes-ne (r .buffer .unresolved) (openOf (view r)) 1 _ (λ e. ne (sym (open-count r) ∙ sym e)))
 
-      module _ (free : isAnyBound (r .labels) (r .constants) (r .asked) (r .buffer .asked) ≡ false) where
-        pub unfit-long : mostCode < poolStart (r .buffer .code) (r .constants) (r .asked) (r .buffer .asked) → refusals.poolTooLarge ≡ whyUnfit r segments output
+      module _ (right : r .buffer .unresolved ≡ openOf (view r)) where
+        pub unfit-bound : isAnyBound (r .labels) (r .constants) (r .asked) (r .buffer .asked) ≡ true → refusals.poolLabelBound ≡ whyUnfit r segments output
         unfolding whyUnfit
-        unfit-long h =
+        unfit-bound e =
             sym (yes-eq _ 0 _ _ stood
             ∙ no-not (entriesFit r) 1 _ fit
-            ∙ pick-no (poolBoundBefore (view r)) 13 _ (bound-before r segments output stood fit ∙ free)
-            ∙ yes-lt mostCode (length (pooled (r .buffer .arch) (view r) .code)) refusals.poolTooLarge 0 (omega (arith, h, pooled-ends r (sound r segments output stood fit) (asked-few r segments output stood))))
+            ∙ no-ne (r .buffer .unresolved) (openOf (view r)) 1 _ right
+            ∙ pick-yes (poolBoundBefore (view r)) 13 _ (bound-before r segments output stood fit ∙ e))
 
-        pub unfit-none : poolStart (r .buffer .code) (r .constants) (r .asked) (r .buffer .asked) ≤ mostCode → 0 ≡ whyUnfit r segments output
-        unfolding whyUnfit
-        unfit-none h =
-            sym (yes-eq _ 0 _ _ stood
-            ∙ no-not (entriesFit r) 1 _ fit
-            ∙ pick-no (poolBoundBefore (view r)) 13 _ (bound-before r segments output stood fit ∙ free)
-            ∙ no-lt mostCode (length (pooled (r .buffer .arch) (view r) .code)) refusals.poolTooLarge 0 (omega (arith, h, pooled-ends r (sound r segments output stood fit) (asked-few r segments output stood))))
+        module _ (free : isAnyBound (r .labels) (r .constants) (r .asked) (r .buffer .asked) ≡ false) where
+          pub unfit-long : mostCode < poolStart (r .buffer .code) (r .constants) (r .asked) (r .buffer .asked) → refusals.poolTooLarge ≡ whyUnfit r segments output
+          unfolding whyUnfit
+          unfit-long h =
+              sym (yes-eq _ 0 _ _ stood
+              ∙ no-not (entriesFit r) 1 _ fit
+              ∙ no-ne (r .buffer .unresolved) (openOf (view r)) 1 _ right
+              ∙ pick-no (poolBoundBefore (view r)) 13 _ (bound-before r segments output stood fit ∙ free)
+              ∙ yes-lt mostCode (length (pooled (r .buffer .arch) (view r) .code)) refusals.poolTooLarge 0 (omega (arith, h, pooled-ends r (sound r segments output stood fit) (asked-few r segments output stood))))
+
+          pub unfit-none : poolStart (r .buffer .code) (r .constants) (r .asked) (r .buffer .asked) ≤ mostCode → 0 ≡ whyUnfit r segments output
+          unfolding whyUnfit
+          unfit-none h =
+              sym (yes-eq _ 0 _ _ stood
+              ∙ no-not (entriesFit r) 1 _ fit
+              ∙ no-ne (r .buffer .unresolved) (openOf (view r)) 1 _ right
+              ∙ pick-no (poolBoundBefore (view r)) 13 _ (bound-before r segments output stood fit ∙ free)
+              ∙ no-lt mostCode (length (pooled (r .buffer .arch) (view r) .code)) refusals.poolTooLarge 0 (omega (arith, h, pooled-ends r (sound r segments output stood fit) (asked-few r segments output stood))))
 
 -- What a recording that passes knows.
 pub record Passed (r : Recording) (segments output : ℕ) : Type 0 where
   pub stood : standing (r .buffer) (countsFit r) (withinLimits r segments output) ≡ 0
   pub fit : entriesFit r ≡ true
+  pub right : r .buffer .unresolved ≡ openOf (view r)
   pub free : isAnyBound (r .labels) (r .constants) (r .asked) (r .buffer .asked) ≡ false
   pub short : poolStart (r .buffer .code) (r .constants) (r .asked) (r .buffer .asked) ≤ mostCode
 
@@ -117,11 +136,13 @@ passed-unfit r segments output h =
     let a = neither (standing (r .buffer) (countsFit r) (withinLimits r segments output)) _ h in
     let b = passed (not (entriesFit r)) refusals.malformed _ (λ e. omega arith) (a .1) in
     let fit = not-false (entriesFit r) (b .0) in
-    let d = passed (poolBoundBefore (view r)) refusals.poolLabelBound _ (λ e. omega arith) (b .1) in
+    let k = passed (not (eqb (r .buffer .unresolved) (openOf (view r)))) refusals.malformed _ (λ e. omega arith) (b .1) in
+    let d = passed (poolBoundBefore (view r)) refusals.poolLabelBound _ (λ e. omega arith) (k .1) in
     let e = passed (ltb mostCode (length (pooled (r .buffer .arch) (view r) .code))) refusals.poolTooLarge 0 (λ e. omega arith) (d .1) in
     record {
       stood = a .0;
       fit = fit;
+      right = eqb-true (r .buffer .unresolved) (openOf (view r)) (not-false _ (k .0));
       free = sym (bound-before r segments output (a .0) fit) ∙ d .0;
       short = omega (arith, ltb-false mostCode (length (pooled (r .buffer .arch) (view r) .code)) (e .0), pooled-ends r (sound r segments output (a .0) fit) (asked-few r segments output (a .0)));
     }

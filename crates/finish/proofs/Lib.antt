@@ -6,10 +6,10 @@ pub mod FilledFields
 pub mod MappedTables
 pub mod PooledRuns
 pub mod FinishedCode
-pub mod CountsWithinLimits
 pub mod RelaxedRequires
 pub mod StageAnswers
 pub mod WithOrWithoutJump
 pub mod FitOrRefused
+pub mod RemainsOpen
 pub mod WholeFinish
 pub mod Plans

@@ -1,6 +1,6 @@
 -- What the calls of a relaxed finish are handed, from the entries that are checked and the layout that the rounds leave.
 use mathlib.Core.Path.{_≡_, refl, sym, ap, _∙_, subst}
-use mathlib.Core.Logic.{_≢_, ⊎-elim, inl, inr}
+use mathlib.Core.Logic.{_≢_}
 use mathlib.Core.Bool.{true}
 use mathlib.Core.List.{List, [], _∷_, _++_}
 use Prim.Native.Nat.{ℕ, _+_, _*_, _≤_, _<_}
@@ -17,8 +17,8 @@ use Rattle.relax.specs.declared.LayoutEvent.{LayoutEvent}
 use Rattle.relax.specs.declared.Segment.{Segment}
 use Rattle.relax.specs.Events.{eventAt, endOf, noEvent}
 use Rattle.buffer.specs.State.{none}
-use Rattle.buffer.specs.Tables.{mostEntries, mostCode, refWords, refSize, relocWords}
-use Rattle.recording.specs.Sound.{FormOf, RefsSound}
+use Rattle.buffer.specs.Tables.{mostEntries, mostCode, refWords, refSize}
+use Rattle.recording.specs.Sound.{RefsSound}
 use Rattle.recording.specs.View as tables
 use Rattle.recording.proofs.Views.{length-entries, getD-entries}
 use Rattle.fresh.specs.Pooled.{Pooled}
@@ -38,12 +38,11 @@ use Rattle.layout.proofs.Table.{table-laid, rising-laid}
 use Rattle.emit.specs.steps.Emit.{Within, startAt, RefsFit, RefsKnown, JumpsFit, WordsFit}
 use Rattle.fields.specs.Kinds.{sizeOf}
 use Rattle.checks.specs.steps.Fields.{refsClear}
-use Rattle.checks.specs.steps.Handed.{useLabel, refLabel, Named, JumpsNamed, TargetsNamed}
 use Rattle.seqs.proofs.Every.{every-at}
 use Rattle.seqs.specs.Every.{every}
 use Rattle.finish.specs.Refusals.{refClear}
 use Rattle.finish.specs.steps.Tables.{tablesPooled}
-use Rattle.finish.specs.steps.Ready.{Ready, Entered, Clearing, Writing, endOfRuns}
+use Rattle.finish.specs.steps.Ready.{Ready, Clearing, Writing, endOfRuns}
 use Rattle.finish.proofs.PooledInOrder.{recorded-ordered, recorded-modest, recorded-writes, jump-label, offset-lies, ref-apart, constant-size, pooled-length, well-formed, pool-apart}
 use Rattle.finish.proofs.ScansAgree.{refs-clear}
 use Rattle.finish.proofs.FinishedCode.{any·ref, start-segment}
@@ -357,27 +356,3 @@ module _ {code labels events constants asked refs : List ℕ} {len count n m f :
       named = record { known = λ j h. omega (arith, same, ready .named .known j h) };
       written = pool-room;
     }
-
-pub kind-label : (labels kind start len what cc : ℕ) → FormOf labels kind start len what cc → kind ≡ 1 → what < labels
-kind-label labels kind start len what cc (inl j) k = j .3
-kind-label labels kind start len what cc (inr a) k = absurd (omega (arith, a .0, k))
-
--- the labels that entries name lie in the table of labels
-module _ {labels events uses refs relocs : List ℕ} {arch symbols len count n u f l : ℕ} (e : Entered labels events uses refs relocs arch symbols len count n u f l) where
-  pub uses-named : Named (useLabel uses) u labels
-  uses-named = record { known = λ i h. omega (arith, e .used .entry i h .label, e .room) }
-
-  pub refs-named : Named (refLabel refs) f labels
-  refs-named = record { known = λ i h. omega (arith, e .referred .entry i h .label, e .room) }
-
-  pub targets-named : TargetsNamed relocs l labels
-  targets-named = record {
-    known = λ i h ge.
-        ⊎-elim
-        (λ (a : (wordAt relocs (i * relocWords + 2) < 2147483648) × (wordAt relocs (i * relocWords + 2) < symbols)). absurd (omega (arith, a .0, ge)))
-        (λ (b : (2147483648 ≤ wordAt relocs (i * relocWords + 2)) × (wordAt relocs (i * relocWords + 2) < 2147483648 + count)). omega (arith, b .1, ge, e .room))
-        (e .relocated .entry i h .target);
-  }
-
-  pub jumps-named : JumpsNamed events n labels
-  jumps-named = record { known = λ i h k. omega (arith, kind-label count _ _ _ _ _ (e .recorded .entry i h .form) k, e .room) }

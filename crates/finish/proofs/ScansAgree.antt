@@ -1,29 +1,32 @@
--- What the scans of crate checks find of the tables, as the definitions say it of the pooled recording.
+-- What the scans of the tables find, as the definitions say it of the pooled recording.
 use mathlib.Core.Path.{_≡_, refl, sym, ap, _∙_}
-use mathlib.Core.Logic.{_≢_, ⊎-elim}
-use mathlib.Core.Bool.{Bool, true, false, not, _&&_, _||_, or-false, and-true}
+use mathlib.Core.Logic.{⊎-elim}
+use mathlib.Core.Bool.{Bool, true, false, not, _&&_, _||_, cond, or-false, and-true}
 use mathlib.Core.List.{List, [], _∷_, _++_}
-use Prim.Native.Nat.{ℕ, zero, suc, _+_, _-_, _*_, _≤_, _<_}
+use Prim.Native.Nat.{ℕ, zero, suc, _+_, _*_, _<_}
 use native.Mathlib.Omega.{arith}
 use lib.Dec.{eqb, leb}
 use lib.ListN.{length}
-use borrow.Author.Tests.{ne-eqb, lt-ltb}
+use borrow.Author.Tests.{ne-eqb, eqb-true, lt-ltb, le-ltb, lt-leb, le-leb, not-false}
+use Rattle.seqs.specs.Counting.{count}
 use Rattle.seqs.specs.Pick.{pick, orElse, firstOf}
+use Rattle.seqs.proofs.Booleans.{both-false}
+use Rattle.seqs.proofs.Counting.{count-none}
 use Rattle.seqs.proofs.Every.{all-of, every-append}
-use Rattle.seqs.proofs.Numbers.{lt-or-ge, eq-or-ne}
+use Rattle.seqs.proofs.Numbers.{lt-or-ge}
 use Rattle.seqs.proofs.Picking.{no-eq}
 use Rattle.words.specs.Words.{wordAt}
 use Rattle.fields.specs.declared.Decoded.the-variants.{Use}
 use Rattle.fields.specs.Kinds.{decoded, sizeOf}
 use Rattle.relax.specs.declared.LayoutEvent.{LayoutEvent}
-use Rattle.relax.specs.declared.LayoutEvent.the-variants.{Align}
-use Rattle.relax.specs.Events.{eventOf, eventAt, endOf, startOf, eventWords}
+use Rattle.relax.specs.declared.LayoutEvent.the-variants.{Jump, Align}
+use Rattle.relax.specs.Events.{eventAt, endOf, startOf}
 use Rattle.relax.proofs.Columns.{start-at, end-at}
-use Rattle.relax.specs.declared.Alignment.{Alignment}
-use Rattle.buffer.specs.State.{none}
-use Rattle.buffer.specs.Tables.{useWords, refWords, relocWords}
+use Rattle.buffer.specs.State.{none, labelTarget, keepsEvents}
+use Rattle.buffer.specs.Tables.{useWords, refWords}
 use Rattle.recording.specs.Sound.{startAt, endAt}
 use Rattle.recording.specs.View as tables
+use Rattle.recording.specs.Open.{useNames, refNames, jumpNames, targetNames, naming, isOpen, openOf}
 use Rattle.recording.proofs.Views.{getD-entries, every-entries}
 use Rattle.fresh.specs.Pooled.{Pooled}
 use Rattle.fresh.specs.Forms.{moves, roleOf}
@@ -32,13 +35,8 @@ use Rattle.pool.specs.steps.Pool.{labelAt, poolStart, poolOffset, poolEvent, is
 use Rattle.seqs.specs.Every.{all}
 use Rattle.checks.specs.steps.Fields as checked
 use Rattle.seqs.specs.Every.{every}
-use Rattle.finish.specs.Refusals.{isBound, poolBoundBefore, jumpBound, relocBound, refClear, useRefusal, usesRefusal}
-
--- a label below the count is bound in the list as in the table
-pub bound-entries : (labels : List ℕ) (count label : ℕ) → label < count
-    → isBound (tables.entries (wordAt labels) count) label ≡ checked.isBoundAt labels label
-unfolding checked.isBoundAt
-bound-entries labels count label h = rw (getD-entries (wordAt labels) count label none h)
+use Rattle.finish.specs.Refusals.{poolBoundBefore, jumpBound, relocBound, allBound, refClear, useRefusal, usesRefusal}
+use Rattle.finish.specs.steps.Tables.{tablesPooled}
 
 -- 13
 none-bound : (labels constants asked : List ℕ) (n : ℕ)
@@ -70,66 +68,77 @@ pool-bound v labels constants asked count known n el ec ea listed named =
     (ap (λ (x : ℕ). not (not (eqb x none))) (getD-entries (wordAt labels) count (labelAt constants asked j) none (named j h)))))
     ∙ none-bound labels constants asked n)
 
--- the columns of an event: a jump where its kind is 1
-jump-at : (labels : List ℕ) (count kind start len what cc : ℕ) → (kind ≡ 1 → what < count)
-    → jumpBound (tables.entries (wordAt labels) count) (eventOf kind start len what cc) ≡ (not (eqb kind 1) || checked.isBoundAt labels what)
-unfolding eventOf pick roleOf
-jump-at labels count kind start len what cc known =
+-- no label of a pooled constant is bound
+pub unbound-at : (labels constants asked : List ℕ) (n : ℕ) → isAnyBound labels constants asked n ≡ false → (j : ℕ) → j < n → wordAt labels (labelAt constants asked j) ≡ none
+unfolding isAnyBound
+unbound-at labels constants asked zero h j k = absurd (omega arith)
+unbound-at labels constants asked (suc n) h j k =
+    let both = both-false (isAnyBound labels constants asked n) (not (eqb (wordAt labels (labelAt constants asked n)) none)) h in
     ⊎-elim
-    (λ (e : kind ≡ 1). rw e (bound-entries labels count what (known e)))
-    (λ (ne : kind ≢ 1). rw (ne-eqb kind 1 ne, pick))
-    (eq-or-ne kind 1)
+    (λ (lt : j < n). unbound-at labels constants asked n (both .0) j lt)
+    (λ ge. let e : j ≡ n = omega arith in rw e (eqb-true (wordAt labels (labelAt constants asked n)) none (not-false _ (both .1))))
+    (lt-or-ge j n)
 
-every-aligned : (f : LayoutEvent → Bool) (from : ℕ) (constants asked : List ℕ) (n : ℕ) → ((a : Alignment) → f (Align a) ≡ true)
-    → every f (tables.entries (poolEvent from constants asked) n) ≡ true
-every-aligned f from constants asked n h =
-    every-entries f (poolEvent from constants asked) (λ (i : ℕ). true) n (λ i l. h _) ∙ all-of (λ (i : ℕ). true) n (λ i l. refl)
+-- 15: what names a label names a bound one just where it names no open one
+jump-bound : (labels : List ℕ) (e : LayoutEvent) → jumpBound labels e ≡ not (jumpNames (isOpen labels) e)
+unfolding roleOf
+jump-bound labels (Jump j) = refl
+jump-bound labels (Align a) = refl
 
--- 15, of the jumps
-pub jumps-bound : (p : Pooled) (labels events constants asked : List ℕ) (count from n m : ℕ)
-    → p .labels ≡ tables.entries (wordAt labels) count
-    → p .events ≡ tables.entries (eventAt events) n ++ tables.entries (poolEvent from constants asked) m
-    → ((i : ℕ) → i < n → wordAt events (i * eventWords) ≡ 1 → wordAt events (i * eventWords + 3) < count)
-    → every (jumpBound (p .labels)) (p .events) ≡ checked.jumpsBound events n labels
-unfolding checked.jumpsBound eventAt eventOf roleOf
-jumps-bound p labels events constants asked count from n m el ee known =
-    rw (el, ee)
-    (every-append (jumpBound (tables.entries (wordAt labels) count)) (tables.entries (eventAt events) n) (tables.entries (poolEvent from constants asked) m)
-    ∙ rw (every-aligned (jumpBound (tables.entries (wordAt labels) count)) from constants asked m (λ a. refl))
-    (and-true (every (jumpBound (tables.entries (wordAt labels) count)) (tables.entries (eventAt events) n))
-    ∙ every-entries (jumpBound (tables.entries (wordAt labels) count)) (eventAt events) _ n
-    (λ i h.
-    jump-at labels count (wordAt events (i * eventWords)) (wordAt events (i * eventWords + 1)) (wordAt events (i * eventWords + 2)) (wordAt events (i * eventWords + 3)) (wordAt events (i * eventWords + 4))
-    (known i h))))
-
--- 15, of the uses and the refs
-pub uses-bound : (p : Pooled) (labels uses : List ℕ) (count n : ℕ) → p .labels ≡ tables.entries (wordAt labels) count
-    → p .uses ≡ tables.entries (tables.useAt uses) n → ((i : ℕ) → i < n → wordAt uses (i * useWords + 1) < count)
-    → every (λ (u : tables.Use). isBound (p .labels) (u .label)) (p .uses) ≡ checked.usesBound uses n labels
-unfolding checked.usesBound
-uses-bound p labels uses count n el eu known =
-    rw (el, eu) (every-entries _ (tables.useAt uses) _ n (λ i h. bound-entries labels count (wordAt uses (i * useWords + 1)) (known i h)))
-
-pub refs-bound : (p : Pooled) (labels refs : List ℕ) (count n : ℕ) → p .labels ≡ tables.entries (wordAt labels) count
-    → p .refs ≡ tables.entries (tables.refAt refs) n → ((i : ℕ) → i < n → wordAt refs (i * refWords + 1) < count)
-    → every (λ (f : tables.Ref). isBound (p .labels) (f .label)) (p .refs) ≡ checked.refsBound refs n labels
-unfolding checked.refsBound
-refs-bound p labels refs count n el er known =
-    rw (el, er) (every-entries _ (tables.refAt refs) _ n (λ i h. bound-entries labels count (wordAt refs (i * refWords + 1)) (known i h)))
-
--- 15, of the relocations: a target from 2^31 on is a label
-pub relocs-bound : (p : Pooled) (labels relocs : List ℕ) (count n : ℕ) → p .labels ≡ tables.entries (wordAt labels) count
-    → ((i : ℕ) → i < n → 2147483648 ≤ wordAt relocs (i * relocWords + 2) → wordAt relocs (i * relocWords + 2) - 2147483648 < count)
-    → every (relocBound (p .labels)) (tables.entries (tables.relocAt relocs) n) ≡ checked.relocsBound relocs n labels
-unfolding checked.relocsBound relocBound
-relocs-bound p labels relocs count n el known =
-    rw el
-    (every-entries _ (tables.relocAt relocs) _ n
-    (λ i h.
+reloc-bound : (labels : List ℕ) (l : tables.Relocation) → relocBound labels l ≡ not (targetNames (isOpen labels) l)
+unfolding relocBound
+reloc-bound labels l =
     ⊎-elim
-    (λ (lt : wordAt relocs (i * relocWords + 2) < 2147483648). rw (lt-ltb (wordAt relocs (i * relocWords + 2)) 2147483648 lt))
-    (λ ge. rw (bound-entries labels count (wordAt relocs (i * relocWords + 2) - 2147483648) (known i h ge)))
-    (lt-or-ge (wordAt relocs (i * relocWords + 2)) 2147483648)))
+    (λ lt. rw (lt-ltb (l .target) labelTarget lt, lt-leb labelTarget (l .target) lt))
+    (λ ge. rw (le-ltb (l .target) labelTarget ge, le-leb labelTarget (l .target) ge))
+    (lt-or-ge (l .target) labelTarget)
+
+every-same : {A : Type 0} (f g : A → Bool) → ((x : A) → f x ≡ g x) → (xs : List A) → every f xs ≡ every g xs
+unfolding every
+every-same f g same [] = refl
+every-same f g same (x ∷ xs) = rw (same x, every-same f g same xs)
+
+-- the pool's alignments name nothing
+pads-bound : (labels constants asked : List ℕ) (from n : ℕ) (t : Bool) → every (jumpBound labels) (cond t (tables.entries (poolEvent from constants asked) n) []) ≡ true
+unfolding roleOf every
+pads-bound labels constants asked from n true =
+    every-entries (jumpBound labels) (poolEvent from constants asked) (λ (i : ℕ). true) n (λ i l. refl) ∙ all-of (λ (i : ℕ). true) n (λ i l. refl)
+pads-bound labels constants asked from n false = refl
+
+-- a sum is 0 just where each part is
+none-of-two : (a b : ℕ) → eqb (a + b) 0 ≡ (eqb a 0 && eqb b 0)
+none-of-two zero b = let z : 0 + b ≡ b = omega arith in rw z
+none-of-two (suc a) b = rw (ne-eqb (suc a) 0 (λ e. omega arith)) (ne-eqb (suc a + b) 0 (λ e. omega arith))
+
+none-of-four : (a b c d : ℕ) → eqb (a + b + c + d) 0 ≡ (eqb a 0 && (eqb c 0 && (eqb b 0 && eqb d 0)))
+none-of-four a b c d =
+    rw (none-of-two (a + b + c) d, none-of-two (a + b) c, none-of-two a b) (by (eqb a 0) (eqb b 0) (eqb c 0) (eqb d 0))
+  where
+    by : (a b c d : Bool) → (((a && b) && c) && d) ≡ (a && (c && (b && d)))
+    by true true c d = refl
+    by true false true d = refl
+    by true false false d = refl
+    by false b c d = refl
+
+-- 15: every label that is named is bound just where no entry is open
+pub none-open : (v : tables.View) (arch from : ℕ) (code constants asked : List ℕ) (m : ℕ)
+    → allBound (tablesPooled arch from code (v .labels) (v .events) (v .uses) (v .refs) constants asked m) (v .relocs) ≡ eqb (openOf v) 0
+unfolding allBound naming
+none-open v arch from code constants asked m =
+    let f = isOpen (v .labels) in
+    let bound = jumpBound (v .labels) in
+    rw (
+      none-of-four (count (useNames f) (v .uses)) (count (refNames f) (v .refs)) (count (targetNames f) (v .relocs)) (count (jumpNames f) (v .events)),
+      count-none (useNames f) (v .uses),
+      count-none (refNames f) (v .refs),
+      count-none (targetNames f) (v .relocs),
+      count-none (jumpNames f) (v .events),
+      every-append bound (v .events) (cond (keepsEvents arch) (tables.entries (poolEvent from constants asked) m) []),
+      pads-bound (v .labels) constants asked from m (keepsEvents arch),
+      and-true (every bound (v .events)),
+      every-same bound (λ (e : LayoutEvent). not (jumpNames f e)) (jump-bound (v .labels)) (v .events),
+      every-same (relocBound (v .labels)) (λ (l : tables.Relocation). not (targetNames f l)) (reloc-bound (v .labels)) (v .relocs),
+    )
 
 -- with and without a jump: the pool's alignments move nothing
 pub moves-is : (p : Pooled) (events constants asked : List ℕ) (from n m : ℕ)

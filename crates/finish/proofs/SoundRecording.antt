@@ -22,7 +22,7 @@ use Rattle.finish.specs.steps.Ready.{Ready, pooledOf}
 use Rattle.finish.proofs.PooledTables.{Tied, pooledTo-tables, alignment-tables}
 
 -- a label is that of a constant, or of none
-owner : (constants asked : List ℕ) (l n : ℕ) → ((j : ℕ) × (j < n) × (l ≡ labelAt constants asked j)) ⊎ ((j : ℕ) → j < n → l ≢ labelAt constants asked j)
+pub owner : (constants asked : List ℕ) (l n : ℕ) → ((j : ℕ) × (j < n) × (l ≡ labelAt constants asked j)) ⊎ ((j : ℕ) → j < n → l ≢ labelAt constants asked j)
 owner constants asked l zero = inr (λ j h e. omega arith)
 owner constants asked l (suc n) =
     ⊎-elim

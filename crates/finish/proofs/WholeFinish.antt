@@ -1,30 +1,27 @@
 -- The whole finish: the pool's labels are bound in place, the stages run, and a refused finish takes the labels back.
 use mathlib.Core.Path.{_≡_, refl, sym, ap, _∙_}
 use mathlib.Core.Logic.{_≢_, ⊎-elim}
-use mathlib.Core.Bool.{Bool, true, false, not}
+use mathlib.Core.Bool.{Bool, true, false}
 use mathlib.Core.List.{List}
 use Prim.Native.Nat.{ℕ, zero, suc, _*_, _≤_, _<_}
 use native.Mathlib.Omega.{arith}
-use borrow.Author.Tests.{not-false, eqb-true}
 use lib.Dec.{eqb}
 use lib.ListN.{length, getD}
 use Rattle.refusals.specs.Numbers as refusals
 use Rattle.seqs.specs.Pick.{pick}
-use Rattle.seqs.proofs.Booleans.{both-false}
-use Rattle.seqs.proofs.Numbers.{lt-or-ge, eq-or-ne}
+use Rattle.seqs.proofs.Numbers.{eq-or-ne}
 use Rattle.seqs.proofs.Overwrites.{over-nil}
 use Rattle.seqs.proofs.Picking.{yes-eq, no-eq}
 use Rattle.words.specs.Words.{wordAt, setWord, overWords}
 use Rattle.relax.specs.declared.Segment.{Segment}
 use Rattle.buffer.specs.declared.CodeBuffer.{CodeBuffer}
-use Rattle.buffer.specs.State.{none}
 use Rattle.buffer.specs.Tables.{labelSize}
 use Rattle.recording.specs.Calls.{Recording}
 use Rattle.recording.specs.View.{entries, view, relocAt}
 use Rattle.recording.proofs.Views.{word-set}
 use Rattle.fresh.specs.Pooled.{Pooled, pooled, codeAlignment}
 use Rattle.fresh.specs.Forms.{moves}
-use Rattle.pool.specs.steps.Pool.{labelAt, poolOffset, poolBound, poolUnbound, poolAlignment, isAnyBound}
+use Rattle.pool.specs.steps.Pool.{labelAt, poolOffset, poolBound, poolUnbound, poolAlignment}
 use Rattle.pool.proofs.Pool.{length-poolBound, poolUnbound-poolBound, setWord-same}
 use Rattle.finish.specs.declared.Outcome.{Outcome}
 use Rattle.finish.specs.declared.Finished.{Finished}
@@ -32,19 +29,10 @@ use Rattle.finish.specs.Refusals.{allBound, whyNotLaid, whyNotWritten, w
 use Rattle.finish.specs.Finish.{Left, refusedWith, relaxed, unrelaxed, finishedWith, unfinished, placedBy, finish}
 use Rattle.finish.specs.steps.Ready.{Ready, Placeable, pooledOf, placedAs, concluded}
 use Rattle.finish.proofs.SoundRecording.{pool-distinct, offsets-small, pooled-is, alignment-is, ready}
-use Rattle.finish.proofs.FitOrRefused.{limits, asked-few, sound, Passed}
+use Rattle.finish.proofs.ScansAgree.{unbound-at}
+use Rattle.finish.proofs.FitOrRefused.{limits, namers, asked-few, sound, Passed}
+use Rattle.finish.proofs.RemainsOpen.{none-opened}
 use Rattle.finish.proofs.MappedTables.{set-over-words, over-words-set}
-
--- no constant's label is bound
-unbound-at : (labels constants asked : List ℕ) (n : ℕ) → isAnyBound labels constants asked n ≡ false → (j : ℕ) → j < n → wordAt labels (labelAt constants asked j) ≡ none
-unfolding isAnyBound
-unbound-at labels constants asked zero h j k = absurd (omega arith)
-unbound-at labels constants asked (suc n) h j k =
-    let both = both-false (isAnyBound labels constants asked n) (not (eqb (wordAt labels (labelAt constants asked n)) none)) h in
-    ⊎-elim
-    (λ (lt : j < n). unbound-at labels constants asked n (both .0) j lt)
-    (λ ge. let e : j ≡ n = omega arith in rw e (eqb-true (wordAt labels (labelAt constants asked n)) none (not-false _ (both .1))))
-    (lt-or-ge j n)
 
 -- every word written over itself
 words-same : (t : List ℕ) (n : ℕ) → ((i : ℕ) → getD t i 0 < 256) → overWords t (entries (wordAt t) n) ≡ t
@@ -129,7 +117,8 @@ module _ (r : Recording) (segments : ℕ) (output : List ℕ) (pass : Passed r s
       record {
         ready = handed;
         entered = record { room = handed .room; recorded = s .events; used = s .uses; referred = s .refs; relocated = s .relocs };
-        few = omega (arith, k .events, k .events-limit);
+        namers = namers r segments (length output) (pass .stood);
+        settled = none-opened r segments (length output) pass;
         segments-limit = k .segments-limit;
         output-limit = k .output-limit;
       }

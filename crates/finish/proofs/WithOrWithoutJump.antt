@@ -1,9 +1,9 @@
 -- With or without a jump: what is answered and left once the pool's labels are bound.
 use mathlib.Core.Path.{_≡_, refl, sym, ap, _∙_, subst}
 use mathlib.Core.Logic.{_≢_, ⊎-elim}
-use mathlib.Core.Bool.{Bool, true, false, not, _&&_, cond}
+use mathlib.Core.Bool.{Bool, true, false, not, cond}
 use mathlib.Core.List.{List, [], _∷_, _++_}
-use Prim.Native.Nat.{ℕ, _+_, _*_, _≤_, _<_}
+use Prim.Native.Nat.{ℕ, _+_}
 use native.Mathlib.Omega.{arith}
 use lib.Dec.{eqb, ltb}
 use lib.ListN.{length, take}
@@ -16,21 +16,22 @@ use Rattle.relax.specs.declared.LayoutEvent.{LayoutEvent}
 use Rattle.relax.specs.Events.{eventAt}
 use Rattle.relax.specs.declared.Segment.{Segment}
 use Rattle.buffer.specs.declared.CodeBuffer.{CodeBuffer}
-use Rattle.buffer.specs.Tables.{relocWords}
+use Rattle.buffer.specs.steps.Count.{openCount}
 use Rattle.recording.specs.Sound.{RefsSound}
 use Rattle.recording.specs.View as tables
+use Rattle.recording.proofs.Naming.{open-count}
 use Rattle.fresh.specs.Pooled.{Pooled}
 use Rattle.fresh.specs.Forms.{moves}
 use Rattle.pool.specs.steps.Pool.{poolEvent}
 use Rattle.emit.specs.steps.Emit.{WordsFit}
-use Rattle.checks.specs.steps.Fields as checked
+use Rattle.checks.specs.Lent.{recordingOf}
+use Rattle.checks.specs.steps.Fields.{refsClear}
 use Rattle.finish.specs.declared.Outcome.{Outcome}
 use Rattle.finish.specs.Refusals.{allBound, whyNotInPlace}
 use Rattle.finish.specs.Finish.{Left, refusedWith, relaxed, unrelaxed}
 use Rattle.finish.specs.steps.Tables.{tablesPooled}
 use Rattle.finish.specs.steps.Ready.{Ready, Relaxable, Keepable, kept, Placeable, pooledOf, placedAs, Starts}
-use Rattle.finish.proofs.ScansAgree.{uses-bound, refs-bound, relocs-bound, jumps-bound, moves-is}
-use Rattle.finish.proofs.RelaxedRequires.{kind-label}
+use Rattle.finish.proofs.ScansAgree.{none-open, moves-is}
 use Rattle.finish.proofs.StageAnswers.{refused-early}
 
 no-entries : {A : Type 0} (f : ℕ → A) (t : Bool) (n : ℕ) → cond t (tables.entries f n) [] ≡ tables.entries f (cond t n 0)
@@ -61,23 +62,11 @@ module _ {b : CodeBuffer} {code labels events uses refs constants asked relocs o
   events-are : p .events ≡ tables.entries (eventAt events) (b .events) ++ tables.entries (poolEvent (b .code) constants asked) (cond (eqb (b .arch) 2) (b .asked) 0)
   events-are = ap (λ (l : List LayoutEvent). tables.entries (eventAt events) (b .events) ++ l) (no-entries (poolEvent (b .code) constants asked) (eqb (b .arch) 2) (b .asked))
 
-  bound-is : allBound p (tables.entries (tables.relocAt relocs) (b .relocs))
-      ≡ (checked.usesBound uses (b .uses) labels
-      && (checked.relocsBound relocs (b .relocs) labels && (checked.refsBound refs (b .refs) labels && checked.jumpsBound events (b .events) labels)))
-  unfolding allBound
+  -- 15, as the count over the tables says it
+  bound-is : allBound p (tables.entries (tables.relocAt relocs) (b .relocs)) ≡ eqb (openCount b labels events uses refs relocs) 0
   bound-is =
-      rw (
-        uses-bound p labels uses (b .labels) (b .uses) refl refl (λ i h. x .entered .used .entry i h .label),
-        relocs-bound p labels relocs (b .labels) (b .relocs) refl
-            (λ i h ge.
-            ⊎-elim
-            (λ (a : (wordAt relocs (i * relocWords + 2) < 2147483648) × (wordAt relocs (i * relocWords + 2) < b .symbols)). absurd (omega (arith, a .0, ge)))
-            (λ (k : (2147483648 ≤ wordAt relocs (i * relocWords + 2)) × (wordAt relocs (i * relocWords + 2) < 2147483648 + b .labels)). omega (arith, k .1, ge))
-            (x .entered .relocated .entry i h .target)),
-        refs-bound p labels refs (b .labels) (b .refs) refl refl (λ i h. x .entered .referred .entry i h .label),
-        jumps-bound p labels events constants asked (b .labels) (b .code) (b .events) (cond (eqb (b .arch) 2) (b .asked) 0) refl events-are
-            (λ i h e. kind-label (b .labels) _ _ _ _ _ (x .entered .recorded .entry i h .form) e),
-      )
+      let r = recordingOf b code labels events uses refs constants asked relocs in
+      none-open (tables.view r) (b .arch) (b .code) (take (b .code) code) constants asked (b .asked) ∙ ap (λ (k : ℕ). eqb k 0) (open-count r)
 
   jump-is : moves (p .events) ≡ moves (tables.entries (eventAt events) (b .events))
   jump-is = moves-is p events constants asked (b .code) (b .events) (cond (eqb (b .arch) 2) (b .asked) 0) events-are
@@ -105,7 +94,7 @@ module _ {b : CodeBuffer} {code labels events uses refs constants asked relocs o
     ready = subst (λ (a : ℕ). Ready code labels events constants asked a (b .code) (b .labels) (b .events) (b .asked)) (arch-is h) (x .ready);
     referred = subst (λ (a : ℕ). RefsSound refs (b .refs) a (b .labels)) (arch-is h) (x .entered .referred);
     moved = relocs-fit;
-    few = x .few;
+    few = x .namers .events-few;
     segments-limit = x .segments-limit;
     output-limit = x .output-limit;
   }
@@ -121,9 +110,7 @@ module _ {b : CodeBuffer} {code labels events uses refs constants asked relocs o
     known = λ i h. x .entered .used .entry i h .label;
   }
 
-  module _ {bound : Bool}
-      (bound·answer : bound ≡ (checked.usesBound uses (b .uses) labels
-      && (checked.relocsBound relocs (b .relocs) labels && (checked.refsBound refs (b .refs) labels && checked.jumpsBound events (b .events) labels)))) where
+  module _ {bound : Bool} (bound·answer : bound ≡ eqb (openCount b labels events uses refs relocs) 0) where
     pub placed-unbound : {r : Outcome} → bound ≡ false → r ≡ refusedWith refusals.unboundLabel → (ss : List Segment) → (r, (labels, (relocs, (ss, output)))) ≡ placedAs p b labels relocs ss output
     unfolding placedAs
     placed-unbound e er ss = rw (er, bound-is ∙ sym bound·answer) (sym (pick-no bound _ _ e))
@@ -139,7 +126,7 @@ module _ {b : CodeBuffer} {code labels events uses refs constants asked relocs o
 
       -- with a jump: 16 and 17, or a layout
       module _ (jumps : jump ≡ true) {why : ℕ}
-          (why·answer : why ≡ first ((ltb segments (b .events + b .asked), refusals.tooFewSegments) ∷ (not (checked.refsClear refs (b .refs) events (b .events) (b .code) constants asked (b .asked)), refusals.refOverlaps) ∷ [])) where
+          (why·answer : why ≡ first ((ltb segments (b .events + b .asked), refusals.tooFewSegments) ∷ (not (refsClear refs (b .refs) events (b .events) (b .code) constants asked (b .asked)), refusals.refOverlaps) ∷ [])) where
         relaxes : Relaxable code labels events refs constants asked relocs output segments (b .code) (b .labels) (b .events) (b .asked) (b .refs) (b .relocs)
         relaxes = relaxable (sym jump·answer ∙ jumps)
 

@@ -65,8 +65,9 @@ unrelaxed p labels relocs ss output =
     (record { refusal = 0; len = length (p .code); layouts = 0 }, (labels, (relocs, (ss, over output 0 (inPlace p)))))
     (refusedWith why, (labels, (relocs, (ss, output))))
 
+-- finished, and nothing is open: every label that an entry names is bound
 abbrev pub withFinished : CodeBuffer → CodeBuffer
-withFinished b = record { arch = b .arch; symbols = b .symbols; finished = 1; refusal = b .refusal; code = b .code; labels = b .labels; events = b .events; uses = b .uses; refs = b .refs; constants = b .constants; asked = b .asked; relocs = b .relocs }
+withFinished b = record { arch = b .arch; symbols = b .symbols; finished = 1; refusal = b .refusal; code = b .code; labels = b .labels; events = b .events; uses = b .uses; refs = b .refs; constants = b .constants; asked = b .asked; relocs = b .relocs; unresolved = 0 }
 
 -- "With the record, finish reports how many layouts it made."
 abbrev pub finishedWith : CodeBuffer → ℕ → Outcome → Finished

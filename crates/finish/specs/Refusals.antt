@@ -1,5 +1,5 @@
--- Why a finish is turned down: document 01's list, in the order in which finish asks. 1 (counts), the recorded refusal, 3, 4; 1 (entries), 13, 14, 15; with a
--- jump 16, 17, the rounds, 18, 23; without one 19 to 22, 23.
+-- Why a finish is turned down: document 01's list, in the order in which finish asks. 1 (counts), the recorded refusal, 3, 4; 1 (entries; document 02,
+-- Request Five: a wrong number of open ones), 13, 14, 15; with a jump 16, 17, the rounds, 18, 23; without one 19 to 22, 23.
 use mathlib.Core.Bool.{Bool, true, not, _&&_, _||_}
 use mathlib.Core.List.{List, [], _∷_}
 use Prim.Native.Nat.{ℕ, _+_, _-_}
@@ -20,6 +20,7 @@ use Rattle.buffer.specs.Refusals.{standing}
 use Rattle.buffer.specs.Tables.{mostCode}
 use Rattle.recording.specs.Calls.{Recording}
 use Rattle.recording.specs.View as tables
+use Rattle.recording.specs.Open.{openOf}
 use Rattle.fresh.specs.Pooled.{Pooled, pooled}
 use Rattle.fresh.specs.Fresh.{Choice, moved, target}
 use Rattle.fresh.specs.Rounds.{settled}
@@ -93,7 +94,7 @@ usesRefusal p (u ∷ us) = orElse (useRefusal p u) (usesRefusal p us)
 unfoldable pub whyNotInPlace : Pooled → ℕ → ℕ
 whyNotInPlace p output = orElse (usesRefusal p (p .uses)) (first ((ltb output (length (p .code)), refusals.outputTooSmall) ∷ []))
 
--- what finish asks before it looks whether a jump stands
+-- what finish asks before it looks whether a jump stands. 1, too: "any other wrong number handed in, after a recorded refusal, 3 and 4".
 unfoldable pub whyUnfit : Recording → ℕ → ℕ → ℕ
 whyUnfit r segments output =
     let v = tables.view r in
@@ -101,6 +102,7 @@ whyUnfit r segments output =
     orElse (standing (r .buffer) (countsFit r) (withinLimits r segments output))
     (first (
     (not (entriesFit r), refusals.malformed)
+    ∷ (not (eqb (r .buffer .unresolved) (openOf v)), refusals.malformed)
     ∷ (poolBoundBefore v, refusals.poolLabelBound)
     ∷ (ltb mostCode (length (p .code)), refusals.poolTooLarge)
     ∷ []

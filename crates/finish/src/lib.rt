@@ -55,7 +55,7 @@ struct Begun {
     finished: Finished,
 }
 
-// 1 to 4 as every call, 1 for an entry that no recording writes, 13 and 14.
+// 1 to 4 as every call, 1 for an entry that no recording writes and for a wrong number of open ones, 13 and 14.
 fn why_unfit(
     b: CodeBuffer,
     code: &[u8],
@@ -90,6 +90,9 @@ fn why_unfit(
     if !checks::entries::entries_fit(b, labels, events, uses, refs, constants, asked, relocs) {
         return refusals::MALFORMED;
     }
+    if b.count_open(labels, events, uses, refs, relocs) != b.unresolved {
+        return refusals::MALFORMED;
+    }
     let m = b.asked as usize;
     if pool::is_any_bound(labels, constants, asked, m) {
         return refusals::POOL_LABEL_BOUND;
@@ -122,6 +125,7 @@ fn finished_with(mut b: CodeBuffer, alignment: u32, placed: Outcome) -> Finished
     ensures { λ r. ⌜ r ≡ finishedWith b alignment placed ⌝ }
 {
     b.finished = 1;
+    b.unresolved = 0;
     Finished {
         buffer: b,
         refusal: 0,

@@ -1,9 +1,9 @@
 // What becomes of a recording once its entries are checked and the pool's labels are bound: with a jump it is laid out anew, without one it stays as it is.
 ghost use mathlib.Core.Path.{_≡_};
-ghost use mathlib.Core.Bool.{true, false, not, _&&_};
-ghost use mathlib.Core.List.{List, [], _∷_, map};
+ghost use mathlib.Core.Bool.{true, false, not};
+ghost use mathlib.Core.List.{List, [], _∷_};
 ghost use Prim.Native.Nat.{_+_, _*_, _≤_};
-ghost use lib.Dec.{ltb};
+ghost use lib.Dec.{eqb, ltb};
 ghost use lib.ListN.{length, take, replicate};
 ghost use Rattle.refusals.specs.Numbers as refusals;
 ghost use Rattle.seqs.specs.Pick.{first, orElse};
@@ -13,14 +13,15 @@ ghost use Rattle.lookup.specs.steps.Index.{indexSize, Indexed};
 ghost use Rattle.relax.specs.declared.LayoutEvent.{LayoutEvent};
 ghost use Rattle.relax.specs.declared.Segment.{Segment};
 ghost use Rattle.relax.specs.Events.{eventAt};
-ghost use Rattle.buffer.specs.Tables.{useSize};
+ghost use Rattle.buffer.specs.Tables.{labelSize, useSize};
 ghost use Rattle.recording.specs.View as tables;
 ghost use Rattle.layout.specs.steps.Layout.{startAt};
-ghost use Rattle.checks.specs.steps.Fields.{usesBound, refsBound, jumpsBound, relocsBound, refsClear, whyUses};
+ghost use Rattle.buffer.specs.steps.Count.{NamersFit, openCount};
+ghost use Rattle.checks.specs.steps.Fields.{refsClear, whyUses};
 ghost use Rattle.checks.specs.steps.Handed.{fewMarks, useLabel, Named};
 ghost use Rattle.finish.specs.Finish.{relaxed};
 ghost use Rattle.finish.specs.steps.Tables.{tablesPooled};
-ghost use Rattle.finish.specs.steps.Ready.{Entered, Clearing, endOfRuns, codeWritten, Writing, Layable, codeCopied, Copying, Keepable, kept, Placeable, pooledOf, placedAs, Starts};
+ghost use Rattle.finish.specs.steps.Ready.{Clearing, endOfRuns, codeWritten, Writing, Layable, codeCopied, Copying, Keepable, kept, Placeable, pooledOf, placedAs, Starts};
 use crate::Outcome;
 use crate::Started;
 use buffer::CodeBuffer;
@@ -36,7 +37,7 @@ fn refused(why: u32) -> Outcome
     }
 }
 
-// 15: whether every label that is named is bound.
+// 15: whether every label that is named is bound. Where nothing was open before the constants were pooled, no table is looked at.
 fn all_bound(
     b: CodeBuffer,
     labels: &[u8],
@@ -45,14 +46,13 @@ fn all_bound(
     refs: &[u8],
     relocs: &[u8],
 ) -> bool
-    requires { ⌜ Entered (now labels) (now events) (now uses) (now refs) (now relocs) (b .arch) (b .symbols) (b .code) (b .labels) (b .events) (b .uses) (b .refs) (b .relocs) ⌝ }
-    ensures { λ r. ⌜ r ≡ (usesBound (now (uses .entry)) (b .uses) (now (labels .entry)) && (relocsBound (now (relocs .entry)) (b .relocs) (now (labels .entry)) && (refsBound (now (refs .entry)) (b .refs) (now (labels .entry)) && jumpsBound (now (events .entry)) (b .events) (now (labels .entry))))) ⌝ }
+    requires { ⌜ b .labels * labelSize ≤ length (now labels) ⌝ ∗ ⌜ NamersFit b (now events) (now uses) (now refs) (now relocs) ⌝ ∗ ⌜ (b .unresolved ≡ 0 → openCount b (now labels) (now events) (now uses) (now refs) (now relocs) ≡ 0) ⌝ }
+    ensures { λ r. ⌜ r ≡ eqb (openCount b (now (labels .entry)) (now (events .entry)) (now (uses .entry)) (now (refs .entry)) (now (relocs .entry))) 0 ⌝ }
 {
-    let named = checks::fields_fit::uses_bound(uses, b.uses as usize, labels);
-    let targets = checks::fields_fit::relocs_bound(relocs, b.relocs as usize, labels);
-    let referred = checks::fields_fit::refs_bound(refs, b.refs as usize, labels);
-    let jumped = checks::fields_fit::jumps_bound(events, b.events as usize, labels);
-    buffer::both(named, buffer::both(targets, buffer::both(referred, jumped)))
+    if b.unresolved == 0 {
+        return true;
+    }
+    b.count_open(labels, events, uses, refs, relocs) == 0
 }
 
 // 16: the table of segments is short; 17: a ref's field is not clear of the events.

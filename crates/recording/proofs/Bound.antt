@@ -14,7 +14,8 @@ use Rattle.buffer.specs.declared.CodeBuffer.{CodeBuffer}
 use Rattle.buffer.specs.declared.Recorded.{Recorded}
 use Rattle.buffer.specs.declared.Made.{Made}
 use Rattle.buffer.specs.State.{none, withRefusal, refusing}
-use Rattle.buffer.specs.Tables.{labelSize, askedSize}
+use Rattle.relax.specs.Events.{eventSize}
+use Rattle.buffer.specs.Tables.{labelSize, useSize, refSize, askedSize, relocSize}
 use Rattle.buffer.specs.Refusals.{whyLabel, whyBind, noRoomToAsk}
 use Rattle.buffer.specs.Calls.{putBytes, getLabel, bindLabel, alignedEvents, alignTo, useLabel, recordRef, recordJump, addConstant, askedFirst, constantLabel, addReloc}
 use Rattle.buffer.specs.steps.Below.{under, greatestBelow}
@@ -37,10 +38,11 @@ binds (constant-label n) = false
 binds (relocation o k t d) = false
 
 -- a bind that is not turned down
-bind-answered : (b : CodeBuffer) (labels : List ℕ) (l : ℕ) → bindLabel b labels l .0 .refusal ≡ 0 → whyBind b labels l ≡ 0
+bind-answered : (r : Recording) (l : Word) → answered (bind l) r ≡ 0
+    → whyBind (r .buffer) (r .labels) (length (r .events) / eventSize) (length (r .uses) / useSize) (length (r .refs) / refSize) (length (r .relocs) / relocSize) (l .value) ≡ 0
 unfolding bindLabel
-bind-answered b labels l =
-    let why = whyBind b labels l in
+bind-answered r l =
+    let why = whyBind (r .buffer) (r .labels) (length (r .events) / eventSize) (length (r .uses) / useSize) (length (r .refs) / refSize) (length (r .relocs) / relocSize) (l .value) in
     tested why 0 (λ (a : Recorded × List ℕ). a .0 .refusal ≡ 0 → why ≡ 0) _ _ (λ h z. h) (λ z. z)
 
 module _ (r : Recording) (limit : ℕ) (bounded : limit ≤ none) where
@@ -95,7 +97,7 @@ module _ (r : Recording) (limit : ℕ) (bounded : limit ≤ none) where
   unfolding bindLabel
   below-bound l small z =
       let b = r .buffer in
-      let why = bind-answered b (r .labels) (l .value) z in
+      let why = bind-answered r l z in
       let f = bind-accepted why in
       ap (λ (a : Recorded × List ℕ). greatestBelow (a .1) (a .0 .buffer .labels) limit) (yes-eq _ 0 _ _ why)
       ∙ below-bind (r .labels) limit bounded (b .labels) (l .value) (b .code) (f .known) (omega (arith, f .room)) small (f .unbound)

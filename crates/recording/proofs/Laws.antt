@@ -1,9 +1,9 @@
--- The law of each call over the view of a sound recording: what a call that is not turned down adds, and that one that is changes nothing.
+-- The law of each call over the view of a recording: what a call that is not turned down adds, and that one that is changes nothing.
 use mathlib.Core.Path.{_≡_, refl, sym, ap, _∙_}
 use mathlib.Core.Logic.{_≢_}
 use mathlib.Core.Bool.{false}
 use mathlib.Core.List.{List, [], _∷_, _++_}
-use Prim.Native.Nat.{ℕ, _+_, _*_, _/_, _%_}
+use Prim.Native.Nat.{ℕ, _+_, _*_, _/_, _%_, _<_}
 use native.Mathlib.Omega.{arith}
 use borrow.Author.Tests.{leb-false}
 use lib.Dec.{leb, ltb}
@@ -85,7 +85,7 @@ turned-down-unseen (constant-label n) r =
 turned-down-unseen (relocation o k t d) r =
     either _ (λ (a : Recorded × List ℕ). a .0 .refusal ≢ 0 → view (withRelocTable r (a .0 .buffer) (a .1)) ≡ view r) _ _ (λ ne. absurd (ne refl)) (λ ne. refusing-unseen r _)
 
-module _ (r : Recording) (s : Sound r) where
+module _ (r : Recording) where
   pub see-bytes : (l : List ℕ) → whyBytes (r .buffer) (length (r .code)) (length l) ≡ 0 → view (after (bytes l) r) ≡ seeCode (view r) (view r .code ++ l)
   unfolding putBytes
   see-bytes l h =
@@ -103,17 +103,16 @@ module _ (r : Recording) (s : Sound r) where
       ap (λ (a : Made × List ℕ). view (withLabelTable r (a .0 .buffer) (a .1))) (yes-eq _ 0 _ _ h)
       ∙ rw (one-word-more (r .labels) _ n none (appended (r .labels) _ n (none ∷ []) refl (omega arith) (omega arith, tt)))
 
-  pub see-bind : (l : Word) → whyBind (r .buffer) (r .labels) (l .value) ≡ 0
+  pub see-bind : (l : Word) → whyBind (r .buffer) (r .labels) (length (r .events) / eventSize) (length (r .uses) / useSize) (length (r .refs) / refSize) (length (r .relocs) / relocSize) (l .value) ≡ 0 → r .buffer .code < 4294967296
       → view (after (bind l) r) ≡ seeLabels (view r) (set (view r .labels) (l .value) (r .buffer .code))
   unfolding bindLabel
-  see-bind l h =
+  see-bind l h small =
       let f = bind-accepted h in
       let room = f .room in
-      let limit = s .code .limit in
       ap (λ (a : Recorded × List ℕ). view (withLabelTable r (a .0 .buffer) (a .1))) (yes-eq _ 0 _ _ h)
-      ∙ rw (word-set (r .labels) (l .value) (r .buffer .code) (r .buffer .labels) (f .known) (omega arith) (omega arith))
+      ∙ rw (word-set (r .labels) (l .value) (r .buffer .code) (r .buffer .labels) (f .known) (omega arith) small)
 
-  pub see-use : (o l c : Word) → whyUse (r .buffer) (length (r .uses) / useSize) (l .value) (c .value) ≡ 0
+  pub see-use : (o l c : Word) → whyUse (r .buffer) (length (r .labels) / labelSize) (length (r .uses) / useSize) (l .value) (c .value) ≡ 0
       → view (after (use-label o l c) r) ≡ seeUses (view r) (view r .uses ++ (record { offset = o .value; label = l .value; code = c .value } ∷ []))
   unfolding useLabel
   see-use o l c h =
@@ -126,7 +125,7 @@ module _ (r : Recording) (s : Sound r) where
       (o .small, (l .small, (c .small, tt)))))
 
   -- refs and jumps are kept on X64
-  pub see-ref : (o l c d : Word) → whyRef (r .buffer) (length (r .refs) / refSize) (l .value) (c .value) ≡ 0 → r .buffer .arch ≡ 2
+  pub see-ref : (o l c d : Word) → whyRef (r .buffer) (length (r .labels) / labelSize) (length (r .refs) / refSize) (l .value) (c .value) ≡ 0 → r .buffer .arch ≡ 2
       → view (after (ref o l c d) r) ≡ seeRefs (view r) (view r .refs ++ (record { offset = o .value; label = l .value; code = c .value; addend = d .value } ∷ []))
   unfolding recordRef
   see-ref o l c d h x64 =
@@ -138,7 +137,7 @@ module _ (r : Recording) (s : Sound r) where
       (appended (r .refs) _ (n * refWords) (o .value ∷ l .value ∷ c .value ∷ d .value ∷ []) (four-words (r .refs) (n * refWords) (o .value) (l .value) (c .value) (d .value))
       (omega arith) (o .small, (l .small, (c .small, (d .small, tt))))))
 
-  pub see-ref-elsewhere : (o l c d : Word) → whyRef (r .buffer) (length (r .refs) / refSize) (l .value) (c .value) ≡ 0 → r .buffer .arch ≢ 2
+  pub see-ref-elsewhere : (o l c d : Word) → whyRef (r .buffer) (length (r .labels) / labelSize) (length (r .refs) / refSize) (l .value) (c .value) ≡ 0 → r .buffer .arch ≢ 2
       → view (after (ref o l c d) r) ≡ view r
   unfolding recordRef
   see-ref-elsewhere o l c d h other =
@@ -162,7 +161,7 @@ module _ (r : Recording) (s : Sound r) where
   see-jump-elsewhere p n l c h other =
       ap (λ (a : Recorded × List ℕ). view (withEventTable r (a .0 .buffer) (a .1))) (yes-eq _ 0 _ _ h ∙ no-eq _ 2 _ _ other)
 
-  pub see-reloc : (o k t : Word) (d : Word64) → whyReloc (r .buffer) (length (r .relocs) / relocSize) (o .value) (k .value) (t .value) ≡ 0
+  pub see-reloc : (o k t : Word) (d : Word64) → whyReloc (r .buffer) (length (r .labels) / labelSize) (length (r .relocs) / relocSize) (o .value) (k .value) (t .value) ≡ 0
       → view (after (relocation o k t d) r)
       ≡ seeRelocs (view r) (view r .relocs ++ (record { offset = o .value; kind = k .value; target = t .value; addend = d .value } ∷ []))
   unfolding addReloc
@@ -177,20 +176,6 @@ module _ (r : Recording) (s : Sound r) where
       ∙ rw (one-reloc-more (r .relocs) _ n (o .value) (k .value) (t .value) (d .value)
       (appended (r .relocs) _ (n * relocWords) (o .value ∷ k .value ∷ t .value ∷ 0 ∷ low ∷ high ∷ []) (six-words (r .relocs) (n * relocWords) (o .value) (k .value) (t .value) 0 low high)
       (omega arith) (o .small, (k .small, (t .small, (omega arith, (omega arith, (omega arith, tt))))))))
-
-  pub see-constant : (l : List ℕ) → whyConstant (r .buffer) (length (r .constants) / constantSize) (length l) ≡ 0
-      → view (after (constant l) r) ≡ seeConstants (view r) (view r .constants ++ (record { bytes = l; label = none } ∷ []))
-  unfolding addConstant
-  see-constant l h =
-      let n = r .buffer .constants in
-      let f = constant-accepted h in
-      let fits = f .fits in
-      let small = f .small in
-      let a =
-      appended-before (r .constants) _ (n * constantWords) (length l ∷ none ∷ []) l (n * constantSize + constantHead) (omega arith)
-      (appended (r .constants) _ (n * constantWords) (length l ∷ none ∷ []) refl (omega arith) (omega arith, (omega arith, tt))) in
-      ap (λ (a : Made × List ℕ). view (withConstantTable r (a .0 .buffer) (a .1))) (yes-eq _ 0 _ _ h)
-      ∙ rw (one-constant-more (r .constants) n (r .buffer .labels) l (omega arith) (s .constants) a)
 
   padded : (m : Word) → whyAlign (r .buffer) (length (r .code)) (length (r .events) / eventSize) (m .value) ≡ 0
       → let pad = paddingLength (r .buffer .code) (m .value) in
@@ -244,6 +229,33 @@ module _ (r : Recording) (s : Sound r) where
       (no-eq _ 2 _ _ other)
       ∙ rw (padded m h)
 
+  -- asking again changes nothing
+  pub see-asking-again : (n : Word)
+      → whyConstantLabel (r .buffer) (length (r .constants) / constantSize) (length (r .asked) / askedSize) (length (r .labels) / labelSize) (n .value) ≡ 0
+      → labelOf (r .constants) (n .value) ≢ none → view (after (constant-label n) r) ≡ view r
+  unfolding constantLabel
+  see-asking-again n h labelled =
+      ap
+      (λ (a : Made × (List ℕ × (List ℕ × List ℕ))).
+      view (withLabelTable (withAskedTable (withConstantTable r (a .0 .buffer) (a .1 .0)) (a .1 .1 .0)) (a .0 .buffer) (a .1 .1 .1)))
+      (yes-eq _ 0 _ _ h ∙ no-eq _ none _ _ labelled)
+
+-- a constant's entry is one that recordings write
+module _ (r : Recording) (s : Sound r) where
+  pub see-constant : (l : List ℕ) → whyConstant (r .buffer) (length (r .constants) / constantSize) (length l) ≡ 0
+      → view (after (constant l) r) ≡ seeConstants (view r) (view r .constants ++ (record { bytes = l; label = none } ∷ []))
+  unfolding addConstant
+  see-constant l h =
+      let n = r .buffer .constants in
+      let f = constant-accepted h in
+      let fits = f .fits in
+      let small = f .small in
+      let a =
+      appended-before (r .constants) _ (n * constantWords) (length l ∷ none ∷ []) l (n * constantSize + constantHead) (omega arith)
+      (appended (r .constants) _ (n * constantWords) (length l ∷ none ∷ []) refl (omega arith) (omega arith, (omega arith, tt))) in
+      ap (λ (a : Made × List ℕ). view (withConstantTable r (a .0 .buffer) (a .1))) (yes-eq _ 0 _ _ h)
+      ∙ rw (one-constant-more (r .constants) n (r .buffer .labels) l (omega arith) (s .constants) a)
+
   -- a constant's first asking lists it and makes it a label, which is not bound yet
   pub see-first-asking : (n : Word)
       → whyConstantLabel (r .buffer) (length (r .constants) / constantSize) (length (r .asked) / askedSize) (length (r .labels) / labelSize) (n .value) ≡ 0
@@ -271,14 +283,3 @@ module _ (r : Recording) (s : Sound r) where
         one-word-more (r .asked) _ (b .asked) c (appended (r .asked) _ (b .asked) (c ∷ []) refl (omega arith) (small, tt)),
         constant-labelled (r .constants) (b .constants) labels c (f .known) (f .room) limit (s .constants),
       )
-
-  -- asking again changes nothing
-  pub see-asking-again : (n : Word)
-      → whyConstantLabel (r .buffer) (length (r .constants) / constantSize) (length (r .asked) / askedSize) (length (r .labels) / labelSize) (n .value) ≡ 0
-      → labelOf (r .constants) (n .value) ≢ none → view (after (constant-label n) r) ≡ view r
-  unfolding constantLabel
-  see-asking-again n h labelled =
-      ap
-      (λ (a : Made × (List ℕ × (List ℕ × List ℕ))).
-      view (withLabelTable (withAskedTable (withConstantTable r (a .0 .buffer) (a .1 .0)) (a .1 .1 .0)) (a .0 .buffer) (a .1 .1 .1)))
-      (yes-eq _ 0 _ _ h ∙ no-eq _ none _ _ labelled)

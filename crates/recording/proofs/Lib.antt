@@ -9,3 +9,7 @@ pub mod Views
 pub mod Laws
 pub mod Alignments
 pub mod Bound
+pub mod Naming
+pub mod Open
+pub mod Righted
+pub mod Fitting

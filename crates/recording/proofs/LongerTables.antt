@@ -1,4 +1,4 @@
--- A recording whose tables are replaced by longer ones, the counted entries the same, stays sound.
+-- A recording whose tables are replaced by longer ones, the counted entries the same, stays sound, and as much of it is open.
 use mathlib.Core.Path.{_≡_, sym, ap, _∙_}
 use mathlib.Core.Logic.{inl, inr, ⊎-elim}
 use mathlib.Core.List.{List}
@@ -7,10 +7,13 @@ use native.Mathlib.Omega.{arith}
 use lib.ListN.{getD}
 use lib.Seq.{getD-take}
 use Rattle.words.specs.Words.{wordAt}
-use Rattle.relax.specs.Events.{eventWords, eventSize}
+use Rattle.relax.specs.Events.{eventAt, eventWords, eventSize}
 use Rattle.buffer.specs.Tables.{labelSize, useWords, useSize, refWords, refSize, constantWords, constantSize, askedSize, relocWords, relocSize}
 use Rattle.recording.specs.Calls.{Recording}
 use Rattle.recording.specs.Sequences.{Extends, Grown}
+use Rattle.recording.specs.View.{useAt, refAt, relocAt, view}
+use Rattle.recording.specs.Open.{naming, openOf}
+use Rattle.recording.proofs.Views.{entries-same}
 use Rattle.recording.specs.Sound.{
   startAt,
   endAt,
@@ -170,3 +173,45 @@ keeps-growth r s g sound =
       asked = asked-grown (g .constants) (g .asked) (sound .asked);
       relocs = relocs-grown (g .relocs) (sound .relocs);
     })
+
+-- Growth opens nothing: the entries that name labels are the same, and the labels.
+pub grown-open : (r s : Recording) → Grown r s → openOf (view s) ≡ openOf (view r)
+unfolding naming eventAt
+grown-open r s g =
+    rw (
+      g .counts,
+      entries-same (wordAt (s .labels)) (wordAt (r .labels)) (r .buffer .labels) (λ i h. word-same (g .labels) i (omega arith)),
+      entries-same (useAt (s .uses)) (useAt (r .uses)) (r .buffer .uses)
+          (λ i h.
+          rw (
+            word-same (g .uses) (i * useWords) (omega arith),
+            word-same (g .uses) (i * useWords + 1) (omega arith),
+            word-same (g .uses) (i * useWords + 2) (omega arith),
+          )),
+      entries-same (refAt (s .refs)) (refAt (r .refs)) (r .buffer .refs)
+          (λ i h.
+          rw (
+            word-same (g .refs) (i * refWords) (omega arith),
+            word-same (g .refs) (i * refWords + 1) (omega arith),
+            word-same (g .refs) (i * refWords + 2) (omega arith),
+            word-same (g .refs) (i * refWords + 3) (omega arith),
+          )),
+      entries-same (relocAt (s .relocs)) (relocAt (r .relocs)) (r .buffer .relocs)
+          (λ i h.
+          rw (
+            word-same (g .relocs) (i * relocWords) (omega arith),
+            word-same (g .relocs) (i * relocWords + 1) (omega arith),
+            word-same (g .relocs) (i * relocWords + 2) (omega arith),
+            word-same (g .relocs) (i * relocWords + 4) (omega arith),
+            word-same (g .relocs) (i * relocWords + 5) (omega arith),
+          )),
+      entries-same (eventAt (s .events)) (eventAt (r .events)) (r .buffer .events)
+          (λ i h.
+          rw (
+            word-same (g .events) (i * eventWords) (omega arith),
+            word-same (g .events) (i * eventWords + 1) (omega arith),
+            word-same (g .events) (i * eventWords + 2) (omega arith),
+            word-same (g .events) (i * eventWords + 3) (omega arith),
+            word-same (g .events) (i * eventWords + 4) (omega arith),
+          )),
+    )

@@ -93,6 +93,7 @@ module _ (code labels events uses refs constants asked relocs : List ℕ) where
     constants = 0;
     asked = 0;
     relocs = 0;
+    unresolved = 0;
   }))
   empty-sound arch symbols =
       record {

@@ -96,7 +96,7 @@ pub keeps-bind : (r : Recording) (l : Word) → Sound r → Sound (after (bind l
 unfolding bindLabel
 keeps-bind r l s =
     let b = r .buffer in
-    let why = whyBind b (r .labels) (l .value) in
+    let why = whyBind b (r .labels) (length (r .events) / eventSize) (length (r .uses) / useSize) (length (r .refs) / refSize) (length (r .relocs) / relocSize) (l .value) in
     tested why 0 (λ (a : Recorded × List ℕ). Sound (withLabelTable r (a .0 .buffer) (a .1))) _ _
     (λ h.
     let f = bind-accepted h in
@@ -138,7 +138,7 @@ unfolding useLabel
 keeps-use r o l c s =
     let b = r .buffer in
     let k = b .uses * useWords in
-    let why = whyUse b (length (r .uses) / useSize) (l .value) (c .value) in
+    let why = whyUse b (length (r .labels) / labelSize) (length (r .uses) / useSize) (l .value) (c .value) in
     tested why 0 (λ (a : Recorded × List ℕ). Sound (withUseTable r (a .0 .buffer) (a .1))) _ _
     (λ h.
     let f = use-accepted h in
@@ -163,7 +163,7 @@ unfolding recordRef
 keeps-ref r o l c d s =
     let b = r .buffer in
     let k = b .refs * 4 in
-    let why = whyRef b (length (r .refs) / refSize) (l .value) (c .value) in
+    let why = whyRef b (length (r .labels) / labelSize) (length (r .refs) / refSize) (l .value) (c .value) in
     let P : Recorded × List ℕ → Type 0 = λ a. Sound (withRefTable r (a .0 .buffer) (a .1)) in
     tested why 0 P _ _
     (λ h.
@@ -194,7 +194,7 @@ keeps-reloc r o k t d s =
     let at = b .relocs * relocWords in
     let low = d .value % 4294967296 in
     let high = d .value / 4294967296 in
-    let why = whyReloc b (length (r .relocs) / relocSize) (o .value) (k .value) (t .value) in
+    let why = whyReloc b (length (r .labels) / labelSize) (length (r .relocs) / relocSize) (o .value) (k .value) (t .value) in
     let P : Recorded × List ℕ → Type 0 = λ a. Sound (withRelocTable r (a .0 .buffer) (a .1)) in
     tested why 0 P _ _
     (λ h.

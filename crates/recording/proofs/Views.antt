@@ -9,8 +9,10 @@ use native.Mathlib.Omega.{arith}
 use native.Mathlib.Nat.{not-suc-le-zero}
 use lib.ListN.{length, take, drop, set, getD, length-append, length-set, List·getD-append}
 use lib.Seq.{ext-getD, getD-at, getD-set-same, getD-set-other}
+use Rattle.seqs.specs.Counting.{count, howMany}
 use Rattle.seqs.specs.Every.{every, all}
 use Rattle.seqs.specs.Over.{over}
+use Rattle.seqs.proofs.Counting.{count-more}
 use Rattle.seqs.proofs.Every.{every-append}
 use Rattle.seqs.proofs.Overwrites.{part-before, part-over, drop-over}
 use Rattle.seqs.proofs.Numbers.{lt-or-ge, eq-or-ne}
@@ -53,6 +55,13 @@ unfolding every all
 every-entries f g h zero e = refl
 every-entries f g h (suc n) e =
     every-append f (entries g n) (g n ∷ []) ∙ rw (every-entries f g h n (λ i l. e i (omega arith)), and-true (f (g n)), e n (omega arith))
+
+-- and so is a count
+pub count-entries : {A : Type 0} (f : A → Bool) (g : ℕ → A) (h : ℕ → Bool) (n : ℕ) → ((i : ℕ) → i < n → f (g i) ≡ h i)
+    → count f (entries g n) ≡ howMany h n
+unfolding count howMany
+count-entries f g h zero e = refl
+count-entries f g h (suc n) e = count-more f (entries g n) (g n) ∙ rw (count-entries f g h n (λ i l. e i (omega arith)), e n (omega arith))
 
 module _ (t u : List ℕ) (n : ℕ) where
   pub one-use-more : (offset label code : ℕ) → Appended t u (n * useWords) (offset ∷ label ∷ code ∷ [])

@@ -71,32 +71,33 @@ withRelocTable r b t = record { buffer = b; code = r .code; labels = r .labels; 
 abbrev pub after : Call → Recording → Recording
 after (bytes l) r = let a = putBytes (r .buffer) (r .code) l in withCodeTable r (a .0 .buffer) (a .1)
 after newLabel r = let a = getLabel (r .buffer) (r .labels) in withLabelTable r (a .0 .buffer) (a .1)
-after (bind l) r = let a = bindLabel (r .buffer) (r .labels) (l .value) in withLabelTable r (a .0 .buffer) (a .1)
+after (bind l) r =
+    let a = bindLabel (r .buffer) (r .labels) (r .events) (r .uses) (r .refs) (r .relocs) (l .value) in withLabelTable r (a .0 .buffer) (a .1)
 after (align m) r =
     let a = alignTo (r .buffer) (r .code) (r .events) (m .value) in
     withEventTable (withCodeTable r (a .0 .buffer) (a .1 .0)) (a .0 .buffer) (a .1 .1)
-after (use-label o l c) r = let a = useLabel (r .buffer) (r .uses) (o .value) (l .value) (c .value) in withUseTable r (a .0 .buffer) (a .1)
-after (ref o l c d) r = let a = recordRef (r .buffer) (r .refs) (o .value) (l .value) (c .value) (d .value) in withRefTable r (a .0 .buffer) (a .1)
+after (use-label o l c) r = let a = useLabel (r .buffer) (r .labels) (r .uses) (o .value) (l .value) (c .value) in withUseTable r (a .0 .buffer) (a .1)
+after (ref o l c d) r = let a = recordRef (r .buffer) (r .labels) (r .refs) (o .value) (l .value) (c .value) (d .value) in withRefTable r (a .0 .buffer) (a .1)
 after (jump s n l c) r =
     let a = recordJump (r .buffer) (r .labels) (r .events) (s .value) (n .value) (l .value) (c .value) in withEventTable r (a .0 .buffer) (a .1)
 after (constant l) r = let a = addConstant (r .buffer) (r .constants) l in withConstantTable r (a .0 .buffer) (a .1)
 after (constant-label n) r =
     let a = constantLabel (r .buffer) (r .constants) (r .asked) (r .labels) (n .value) in
     withLabelTable (withAskedTable (withConstantTable r (a .0 .buffer) (a .1 .0)) (a .1 .1 .0)) (a .0 .buffer) (a .1 .1 .1)
-after (relocation o k t d) r = let a = addReloc (r .buffer) (r .relocs) (o .value) (k .value) (t .value) (d .value) in withRelocTable r (a .0 .buffer) (a .1)
+after (relocation o k t d) r = let a = addReloc (r .buffer) (r .labels) (r .relocs) (o .value) (k .value) (t .value) (d .value) in withRelocTable r (a .0 .buffer) (a .1)
 
 -- the number that the call answers, 0 where it is not turned down
 abbrev pub answered : Call → Recording → ℕ
 answered (bytes l) r = putBytes (r .buffer) (r .code) l .0 .refusal
 answered newLabel r = getLabel (r .buffer) (r .labels) .0 .refusal
-answered (bind l) r = bindLabel (r .buffer) (r .labels) (l .value) .0 .refusal
+answered (bind l) r = bindLabel (r .buffer) (r .labels) (r .events) (r .uses) (r .refs) (r .relocs) (l .value) .0 .refusal
 answered (align m) r = alignTo (r .buffer) (r .code) (r .events) (m .value) .0 .refusal
-answered (use-label o l c) r = useLabel (r .buffer) (r .uses) (o .value) (l .value) (c .value) .0 .refusal
-answered (ref o l c d) r = recordRef (r .buffer) (r .refs) (o .value) (l .value) (c .value) (d .value) .0 .refusal
+answered (use-label o l c) r = useLabel (r .buffer) (r .labels) (r .uses) (o .value) (l .value) (c .value) .0 .refusal
+answered (ref o l c d) r = recordRef (r .buffer) (r .labels) (r .refs) (o .value) (l .value) (c .value) (d .value) .0 .refusal
 answered (jump s n l c) r = recordJump (r .buffer) (r .labels) (r .events) (s .value) (n .value) (l .value) (c .value) .0 .refusal
 answered (constant l) r = addConstant (r .buffer) (r .constants) l .0 .refusal
 answered (constant-label n) r = constantLabel (r .buffer) (r .constants) (r .asked) (r .labels) (n .value) .0 .refusal
-answered (relocation o k t d) r = addReloc (r .buffer) (r .relocs) (o .value) (k .value) (t .value) (d .value) .0 .refusal
+answered (relocation o k t d) r = addReloc (r .buffer) (r .labels) (r .relocs) (o .value) (k .value) (t .value) (d .value) .0 .refusal
 
 -- and after a sequence of them
 abbrev pub afterAll : List Call → Recording → Recording

@@ -2,3 +2,5 @@ pub mod Calls
 pub mod Sequences
 pub mod Sound
 pub mod View
+pub mod Open
+pub mod steps

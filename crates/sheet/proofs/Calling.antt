@@ -61,21 +61,8 @@ either-is kind m n h =
     (λ other. inr (eqb-true kind n (rw (ne-eqb kind m other) at h)))
     (eq-or-ne kind m)
 
-pub one-of-three : (kind l m n : ℕ) → (eqb kind l || (eqb kind m || eqb kind n)) ≡ true → (kind ≡ l) ⊎ (kind ≡ m) ⊎ (kind ≡ n)
-one-of-three kind l m n h =
-    ⊎-elim
-    (λ (yes : kind ≡ l). inl yes)
-    (λ other. inr (either-is kind m n (rw (ne-eqb kind l other) at h)))
-    (eq-or-ne kind l)
-
 pub neither-is : (kind m n : ℕ) → (eqb kind m || eqb kind n) ≡ false → (kind ≢ m) × (kind ≢ n)
 neither-is kind m n h = let b = both-false (eqb kind m) (eqb kind n) h in (eqb-false kind m (b .0), eqb-false kind n (b .1))
-
-pub none-of-three : (kind l m n : ℕ) → (eqb kind l || (eqb kind m || eqb kind n)) ≡ false → (kind ≢ l) × (kind ≢ m) × (kind ≢ n)
-none-of-three kind l m n h =
-    let b = both-false (eqb kind l) _ h in
-    let rest = neither-is kind m n (b .1) in
-    (eqb-false kind l (b .0), rest .0, rest .1)
 
 module _ (b : CodeBuffer) (kind : ℕ) (arguments code labels events uses refs constants asked relocs : List ℕ) where
   -- the recording that is lent
@@ -106,7 +93,7 @@ module _ (b : CodeBuffer) (kind : ℕ) (arguments code labels events uses refs c
   label-called k e =
       rw k (ap (λ (a : Made × List ℕ). (a .0 .refusal, recordingOf (a .0 .buffer) code (a .1) events uses refs constants asked relocs)) e)
 
-  pub bind-called : {r : Recorded} {labels' : List ℕ} {l : ℕ} → kind ≡ 3 → l ≡ word arguments 0 .value → (r, labels') ≡ bindLabel b labels l
+  pub bind-called : {r : Recorded} {labels' : List ℕ} {l : ℕ} → kind ≡ 3 → l ≡ word arguments 0 .value → (r, labels') ≡ bindLabel b labels events uses refs relocs l
       → Calls (r .refusal) (recordingOf (r .buffer) code labels' events uses refs constants asked relocs)
   unfolding pick callOf
   bind-called k g0 e =
@@ -134,14 +121,14 @@ module _ (b : CodeBuffer) (kind : ℕ) (arguments code labels events uses refs c
       let p = rw g0 at e in
       rw k (ap (λ (a : Made × (List ℕ × (List ℕ × List ℕ))). (a .0 .refusal, recordingOf (a .0 .buffer) code (a .1 .1 .1) events uses refs (a .1 .0) (a .1 .1 .0) relocs)) p)
 
-  pub use-called : {r : Recorded} {uses' : List ℕ} {o l c : ℕ} → kind ≡ 5 → o ≡ word arguments 0 .value → l ≡ word arguments 1 .value → c ≡ word arguments 2 .value → (r, uses') ≡ useLabel b uses o l c
+  pub use-called : {r : Recorded} {uses' : List ℕ} {o l c : ℕ} → kind ≡ 5 → o ≡ word arguments 0 .value → l ≡ word arguments 1 .value → c ≡ word arguments 2 .value → (r, uses') ≡ useLabel b labels uses o l c
       → Calls (r .refusal) (recordingOf (r .buffer) code labels events uses' refs constants asked relocs)
   unfolding pick callOf
   use-called k g0 g1 g2 e =
       let p = rw (g0, g1, g2) at e in
       rw k (ap (λ (a : Recorded × List ℕ). (a .0 .refusal, recordingOf (a .0 .buffer) code labels events (a .1) refs constants asked relocs)) p)
 
-  pub ref-called : {r : Recorded} {refs' : List ℕ} {o l c d : ℕ} → kind ≡ 6 → o ≡ word arguments 0 .value → l ≡ word arguments 1 .value → c ≡ word arguments 2 .value → d ≡ word arguments 3 .value → (r, refs') ≡ recordRef b refs o l c d
+  pub ref-called : {r : Recorded} {refs' : List ℕ} {o l c d : ℕ} → kind ≡ 6 → o ≡ word arguments 0 .value → l ≡ word arguments 1 .value → c ≡ word arguments 2 .value → d ≡ word arguments 3 .value → (r, refs') ≡ recordRef b labels refs o l c d
       → Calls (r .refusal) (recordingOf (r .buffer) code labels events uses refs' constants asked relocs)
   unfolding pick callOf
   ref-called k g0 g1 g2 g3 e =
@@ -152,7 +139,7 @@ module _ (b : CodeBuffer) (kind : ℕ) (arguments code labels events uses refs c
   pub relocation-called : {r : Recorded} {relocs' : List ℕ} {o q t d : ℕ}
       → (kind ≢ 1) × (kind ≢ 2) × (kind ≢ 3) × (kind ≢ 4) × (kind ≢ 7) × (kind ≢ 8) × (kind ≢ 9) → kind ≢ 5 → kind ≢ 6
       → o ≡ word arguments 0 .value → q ≡ word arguments 1 .value → t ≡ word arguments 2 .value → d ≡ signedWord arguments 3 .value
-      → (r, relocs') ≡ addReloc b relocs o q t d
+      → (r, relocs') ≡ addReloc b labels relocs o q t d
       → Calls (r .refusal) (recordingOf (r .buffer) code labels events uses refs constants asked relocs')
   unfolding callOf
   relocation-called k five six g0 g1 g2 g3 e =

@@ -8,7 +8,7 @@ use Prim.Native.Nat.{ℕ, zero, suc, _+_, _*_, _-_, _≤_, _<_}
 use native.Mathlib.Numerals.{add-one}
 use native.Mathlib.Omega.{arith}
 use lib.Dec.{eqb, leb}
-use lib.ListN.{length, getD, take, drop, drop-of-length-le, length-drop}
+use lib.ListN.{length, getD, take, drop, drop-of-length-le, length-take, length-drop}
 use lib.Seq.{drop-cons, drop-drop, take-all, getD-drop}
 use Rattle.seqs.specs.Every.{all}
 use Rattle.seqs.specs.Pick.{pick}
@@ -28,6 +28,11 @@ module _ (kinds arguments : List ℕ) (i : ℕ) where
   -- the bytes of argument i, as the program takes them
   pub argument-part : take (i * argumentSize + argumentSize - i * argumentSize) (drop (i * argumentSize) arguments) ≡ take argumentSize (drop (i * argumentSize) arguments)
   argument-part = let e : i * argumentSize + argumentSize - i * argumentSize ≡ argumentSize = omega arith in rw e
+
+  pub argument-length : i < length kinds → length arguments ≡ length kinds * argumentSize
+      → length (take (i * argumentSize + argumentSize - i * argumentSize) (drop (i * argumentSize) arguments)) ≡ argumentSize
+  argument-length h e =
+      omega (arith, length-take (i * argumentSize + argumentSize - i * argumentSize) (drop (i * argumentSize) arguments), length-drop (i * argumentSize) arguments, e)
 
   -- a call that has its form is passed
   pub broken-step : i < length kinds → isFormed (getD kinds i 0) (take argumentSize (drop (i * argumentSize) arguments)) ≡ true

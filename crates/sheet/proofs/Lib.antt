@@ -4,3 +4,4 @@ pub mod Calling
 pub mod Bounds
 pub mod Running
 pub mod Sheets
+pub mod Counting

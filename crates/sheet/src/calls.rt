@@ -59,7 +59,7 @@ fn call_code(
     b.try_align_to(code, events, words::word_at(arguments, 0))
 }
 
-// Labels and jumps. `nearest` is what a jump is told of the labels.
+// New labels and jumps. `nearest` is what a jump is told of the labels.
 fn call_labels(
     b: CodeBuffer,
     kind: u8,
@@ -68,14 +68,11 @@ fn call_labels(
     labels: &mut [u8],
     events: &mut [u8],
 ) -> Recorded
-    requires { ⌜ (length (now arguments) ≡ argumentSize) × ((kind ≡ newLabelCall) ⊎ (kind ≡ bindCall) ⊎ (kind ≡ jumpCall)) × Told (now labels) (b .labels) (b .code) nearest ⌝ }
+    requires { ⌜ (length (now arguments) ≡ argumentSize) × ((kind ≡ newLabelCall) ⊎ (kind ≡ jumpCall)) × Told (now labels) (b .labels) (b .code) nearest ⌝ }
     ensures { λ r. ⌜ ((code uses refs constants asked relocs : List ℕ) → (r .refusal, recordingOf (r .buffer) code (now (labels .exit)) (now (events .exit)) uses refs constants asked relocs) ≡ called (callOf kind (now (arguments .entry))) (recordingOf b code (now (labels .entry)) (now (events .entry)) uses refs constants asked relocs)) ⌝ }
 {
     if kind == kinds::NEW_LABEL {
         return recorded(b.get_label(labels));
-    }
-    if kind == kinds::BIND {
-        return b.try_bind_label(labels, words::word_at(arguments, 0));
     }
     b.record_jump(
         labels,
@@ -86,6 +83,23 @@ fn call_labels(
         words::word_at(arguments, 3),
         nearest,
     )
+}
+
+// Binds, which look at every table whose entries name labels.
+fn call_bind(
+    b: CodeBuffer,
+    arguments: &[u8],
+    labels: &mut [u8],
+    events: &[u8],
+    uses: &[u8],
+    refs: &[u8],
+    relocs: &[u8],
+) -> Recorded
+    requires { ⌜ length (now arguments) ≡ argumentSize ⌝ }
+    ensures { λ r. ⌜ ((code constants asked : List ℕ) → (r .refusal, recordingOf (r .buffer) code (now (labels .exit)) (now (events .entry)) (now (uses .entry)) (now (refs .entry)) constants asked (now (relocs .entry))) ≡ called (callOf bindCall (now (arguments .entry))) (recordingOf b code (now (labels .entry)) (now (events .entry)) (now (uses .entry)) (now (refs .entry)) constants asked (now (relocs .entry)))) ⌝ }
+{
+    let label = words::word_at(arguments, 0);
+    b.try_bind_label(labels, events, uses, refs, relocs, label)
 }
 
 // Constants and their labels.
@@ -112,24 +126,32 @@ fn call_fields(
     b: CodeBuffer,
     kind: u8,
     arguments: &[u8],
+    labels: &[u8],
     uses: &mut [u8],
     refs: &mut [u8],
     relocs: &mut [u8],
 ) -> Recorded
     requires { ⌜ (length (now arguments) ≡ argumentSize) × ((kind ≢ bytesCall) × (kind ≢ newLabelCall) × (kind ≢ bindCall) × (kind ≢ alignCall) × (kind ≢ jumpCall) × (kind ≢ constantCall) × (kind ≢ constantLabelCall)) ⌝ }
-    ensures { λ r. ⌜ ((code labels events constants asked : List ℕ) → (r .refusal, recordingOf (r .buffer) code labels events (now (uses .exit)) (now (refs .exit)) constants asked (now (relocs .exit))) ≡ called (callOf kind (now (arguments .entry))) (recordingOf b code labels events (now (uses .entry)) (now (refs .entry)) constants asked (now (relocs .entry)))) ⌝ }
+    ensures { λ r. ⌜ ((code events constants asked : List ℕ) → (r .refusal, recordingOf (r .buffer) code (now (labels .entry)) events (now (uses .exit)) (now (refs .exit)) constants asked (now (relocs .exit))) ≡ called (callOf kind (now (arguments .entry))) (recordingOf b code (now (labels .entry)) events (now (uses .entry)) (now (refs .entry)) constants asked (now (relocs .entry)))) ⌝ }
 {
     let first = words::word_at(arguments, 0);
     let second = words::word_at(arguments, 1);
     let third = words::word_at(arguments, 2);
     let addend = words::word_at(arguments, 3);
     if kind == kinds::USE {
-        return b.use_label_at_offset(uses, first, second, third);
+        return b.use_label_at_offset(labels, uses, first, second, third);
     }
     if kind == kinds::REF {
-        return b.record_label_ref(refs, first, second, third, addend);
+        return b.record_label_ref(labels, refs, first, second, third, addend);
     }
-    b.add_reloc_at_offset(relocs, first, second, third, fields::sign_extend_32(addend))
+    b.add_reloc_at_offset(
+        labels,
+        relocs,
+        first,
+        second,
+        third,
+        fields::sign_extend_32(addend),
+    )
 }
 
 fn is_code(kind: u8) -> bool
@@ -142,12 +164,9 @@ fn is_code(kind: u8) -> bool
 }
 
 fn is_label(kind: u8) -> bool
-    ensures { λ r. ⌜ r ≡ (eqb kind newLabelCall || (eqb kind bindCall || eqb kind jumpCall)) ⌝ }
+    ensures { λ r. ⌜ r ≡ (eqb kind newLabelCall || eqb kind jumpCall) ⌝ }
 {
     if kind == kinds::NEW_LABEL {
-        return true;
-    }
-    if kind == kinds::BIND {
         return true;
     }
     kind == kinds::JUMP
@@ -186,8 +205,11 @@ pub(crate) fn call(
     if is_label(kind) {
         return call_labels(b, kind, arguments, nearest, labels, events);
     }
+    if kind == kinds::BIND {
+        return call_bind(b, arguments, labels, events, uses, refs, relocs);
+    }
     if is_constant(kind) {
         return call_constants(b, kind, arguments, labels, constants, asked);
     }
-    call_fields(b, kind, arguments, uses, refs, relocs)
+    call_fields(b, kind, arguments, labels, uses, refs, relocs)
 }

@@ -1,10 +1,17 @@
 // A sheet of calls: a count n (word), n kind bytes, then n arguments of four words. Its form is checked as a whole before any of its calls is made.
 ghost use mathlib.Core.Path.{_≡_};
-ghost use Prim.Native.Nat.{_*_, _<_};
+ghost use Prim.Native.Nat.{_*_, _≤_, _<_};
 ghost use lib.ListN.{length};
+ghost use mathlib.Core.Bool.{true};
+ghost use Rattle.seqs.specs.Pick.{pick};
+ghost use Rattle.buffer.specs.State.{withOpen};
+ghost use Rattle.buffer.specs.Tables.{mostOpen, labelSize};
+ghost use Rattle.buffer.specs.steps.Count.{NamersFit, openCount};
+ghost use Rattle.recording.specs.steps.Righted.{Fitting};
 ghost use Rattle.checks.specs.Lent.{recordingOf};
 ghost use Rattle.sheet.specs.Run.{callsOf, runCalls, runSheet};
 ghost use Rattle.sheet.specs.Form.{argumentSize};
+ghost use Rattle.sheet.specs.steps.Meant.{meant, Going};
 use bound::Bound;
 use buffer::CodeBuffer;
 use buffer::NONE;
@@ -19,6 +26,9 @@ const ARGUMENT_SIZE: usize = 16;
 
 const MOST_BYTES: u32 = 12;
 
+// So many binds of a sheet look at the tables themselves; where there are more, the open entries are counted once, after its calls.
+const FEW_BINDS: usize = 4;
+
 // The recording after a sheet, 0 or the first refusal's number, and the index of the refused call, or the number of calls.
 pub struct Ran {
     pub buffer: CodeBuffer,
@@ -26,9 +36,63 @@ pub struct Ran {
     pub index: u32,
 }
 
-// Makes the calls of a sheet whose form is sound, up to the first that is refused.
+// 1 for a bind.
+fn one_bind(kind: u8) -> usize
+    ensures { λ r. ⌜ r ≤ 1 ⌝ }
+{
+    if kind == kinds::BIND {
+        return 1;
+    }
+    0
+}
+
+// Whether there are more than a few binds among the calls.
+fn has_many_binds(kinds: &[u8]) -> bool {
+    let mut found: usize = 0;
+    let mut i: usize = 0;
+    while i < kinds.len() {
+        found += one_bind(kinds[i]);
+        i += 1;
+    }
+    FEW_BINDS < found
+}
+
+// Whether the open entries may be counted once, after the sheet's calls: the number that is handed in is right. Kept from call to call, each bind would have
+// to look at the tables, which a sheet of few binds does.
+fn is_counted_after(
+    b: CodeBuffer,
+    kinds: &[u8],
+    labels: &[u8],
+    events: &[u8],
+    uses: &[u8],
+    refs: &[u8],
+    relocs: &[u8],
+) -> bool
+    requires { ⌜ NamersFit b (now events) (now uses) (now refs) (now relocs) ⌝ ∗ ⌜ b .labels * labelSize ≤ length (now labels) ⌝ }
+    ensures { λ r. ⌜ (r ≡ true → b .unresolved ≡ openCount b (now (labels .entry)) (now (events .entry)) (now (uses .entry)) (now (refs .entry)) (now (relocs .entry))) ⌝ }
+{
+    if !has_many_binds(kinds) {
+        return false;
+    }
+    b.count_open(labels, events, uses, refs, relocs) == b.unresolved
+}
+
+// The recording from which the next call goes on: where the number of open entries is not kept, it is 0, and a bind then looks at no table.
+fn going_on(mut b: CodeBuffer, kept: bool) -> CodeBuffer
+    ensures { λ r. ⌜ r ≡ pick kept b (withOpen b 0) ⌝ }
+{
+    if kept {
+        return b;
+    }
+    b.unresolved = 0;
+    b
+}
+
+// Makes the calls of a sheet whose form is sound, up to the first that is refused. Where the number of open entries is not kept, what is left stands for the
+// recording with the right one.
 fn run(
     b: CodeBuffer,
+    kept: bool,
     kinds: &[u8],
     arguments: &[u8],
     code: &mut [u8],
@@ -40,8 +104,9 @@ fn run(
     asked: &mut [u8],
     relocs: &mut [u8],
 ) -> Ran
-    requires { ⌜ (length (now arguments) ≡ length (now kinds) * argumentSize) × (length (now kinds) < 4294967296) ⌝ }
-    ensures { λ r. ⌜ ((r .refusal, r .index), recordingOf (r .buffer) (now (code .exit)) (now (labels .exit)) (now (events .exit)) (now (uses .exit)) (now (refs .exit)) (now (constants .exit)) (now (asked .exit)) (now (relocs .exit))) ≡ runCalls (callsOf (now (kinds .entry)) (now (arguments .entry))) 0 (recordingOf b (now (code .entry)) (now (labels .entry)) (now (events .entry)) (now (uses .entry)) (now (refs .entry)) (now (constants .entry)) (now (asked .entry)) (now (relocs .entry))) ⌝ }
+    requires { ⌜ (length (now arguments) ≡ length (now kinds) * argumentSize) × (length (now kinds) < 4294967296) ⌝ ∗ ⌜ Going kept (recordingOf b (now code) (now labels) (now events) (now uses) (now refs) (now constants) (now asked) (now relocs)) ⌝ }
+    ensures { λ r. ⌜ ((r .refusal, r .index), meant kept (recordingOf (r .buffer) (now (code .exit)) (now (labels .exit)) (now (events .exit)) (now (uses .exit)) (now (refs .exit)) (now (constants .exit)) (now (asked .exit)) (now (relocs .exit)))) ≡ runCalls (callsOf (now (kinds .entry)) (now (arguments .entry))) 0 (meant kept (recordingOf b (now (code .entry)) (now (labels .entry)) (now (events .entry)) (now (uses .entry)) (now (refs .entry)) (now (constants .entry)) (now (asked .entry)) (now (relocs .entry)))) ⌝ }
+    ensures { λ r. ⌜ Fitting (recordingOf (r .buffer) (now (code .exit)) (now (labels .exit)) (now (events .exit)) (now (uses .exit)) (now (refs .exit)) (now (constants .exit)) (now (asked .exit)) (now (relocs .exit))) ⌝ }
 {
     let mut last = b;
     let mut bound = Bound {
@@ -79,7 +144,7 @@ fn run(
             };
         }
         bound = bound.after_call(kind, last.code);
-        last = buffer;
+        last = going_on(buffer, kept);
         i += 1;
     }
     Ran {
@@ -87,6 +152,71 @@ fn run(
         refusal: 0,
         index: i as u32,
     }
+}
+
+// What a sheet leaves, with its open entries counted.
+fn counted(ran: Ran, labels: &[u8], events: &[u8], uses: &[u8], refs: &[u8], relocs: &[u8]) -> Ran
+    requires { ⌜ NamersFit (ran .buffer) (now events) (now uses) (now refs) (now relocs) ⌝ ∗ ⌜ ran .buffer .labels * labelSize ≤ length (now labels) ⌝ }
+    ensures { λ r. ⌜ r ≡ record { buffer = withOpen (ran .buffer) (openCount (ran .buffer) (now (labels .entry)) (now (events .entry)) (now (uses .entry)) (now (refs .entry)) (now (relocs .entry))); refusal = ran .refusal; index = ran .index } ⌝ }
+{
+    let mut buffer = ran.buffer;
+    let found = buffer.count_open(labels, events, uses, refs, relocs);
+    buffer.unresolved = found;
+    Ran {
+        buffer,
+        refusal: ran.refusal,
+        index: ran.index,
+    }
+}
+
+// Makes the calls of a sheet whose form is sound, on a recording whose counts fit, up to the first that is refused.
+fn make_calls(
+    b: CodeBuffer,
+    kinds: &[u8],
+    arguments: &[u8],
+    code: &mut [u8],
+    labels: &mut [u8],
+    events: &mut [u8],
+    uses: &mut [u8],
+    refs: &mut [u8],
+    constants: &mut [u8],
+    asked: &mut [u8],
+    relocs: &mut [u8],
+) -> Ran
+    requires { ⌜ (length (now arguments) ≡ length (now kinds) * argumentSize) × (length (now kinds) < 4294967296) ⌝ ∗ ⌜ Fitting (recordingOf b (now code) (now labels) (now events) (now uses) (now refs) (now constants) (now asked) (now relocs)) ⌝ ∗ ⌜ b .unresolved ≤ mostOpen ⌝ }
+    ensures { λ r. ⌜ ((r .refusal, r .index), recordingOf (r .buffer) (now (code .exit)) (now (labels .exit)) (now (events .exit)) (now (uses .exit)) (now (refs .exit)) (now (constants .exit)) (now (asked .exit)) (now (relocs .exit))) ≡ runCalls (callsOf (now (kinds .entry)) (now (arguments .entry))) 0 (recordingOf b (now (code .entry)) (now (labels .entry)) (now (events .entry)) (now (uses .entry)) (now (refs .entry)) (now (constants .entry)) (now (asked .entry)) (now (relocs .entry))) ⌝ }
+{
+    if !is_counted_after(b, kinds, labels, events, uses, refs, relocs) {
+        return run(
+            b,
+            true,
+            kinds,
+            arguments,
+            code,
+            labels,
+            events,
+            uses,
+            refs,
+            constants,
+            asked,
+            relocs,
+        );
+    }
+    let ran = run(
+        b,
+        false,
+        kinds,
+        arguments,
+        code,
+        labels,
+        events,
+        uses,
+        refs,
+        constants,
+        asked,
+        relocs,
+    );
+    counted(ran, labels, events, uses, refs, relocs)
 }
 
 // Makes the calls of a sheet up to the first that is refused. All tables of the recording are lent.
@@ -141,7 +271,7 @@ pub fn run_sheet(
             index: 0,
         };
     }
-    run(
+    make_calls(
         b,
         &sheet[4..middle],
         &sheet[middle..],

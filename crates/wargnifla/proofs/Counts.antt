@@ -14,7 +14,7 @@ use Rattle.wargnifla.specs.Boundary.{countsSize, countsAt, countsOf}
 -- Counts that are words are read as they were written.
 pub counts-read : (t : List ℕ) (b : CodeBuffer) → countsSize ≤ length t → Words b → countsAt (overWords t (countsOf b)) ≡ b
 counts-read t b room w =
-    let read : (i : ℕ) → i < 12 → getD (countsOf b) i 0 < 4294967296 → wordAt (overWords t (countsOf b)) i ≡ getD (countsOf b) i 0 =
+    let read : (i : ℕ) → i < 13 → getD (countsOf b) i 0 < 4294967296 → wordAt (overWords t (countsOf b)) i ≡ getD (countsOf b) i 0 =
     λ i h small. word-read t (countsOf b) i h room small in
     rw (
       read 0 (omega arith) (w .arch),
@@ -29,6 +29,7 @@ counts-read t b room w =
       read 9 (omega arith) (w .constants),
       read 10 (omega arith) (w .asked),
       read 11 (omega arith) (w .relocs),
+      read 12 (omega arith) (w .unresolved),
     )
 
 pub counts-stay : (counts : List ℕ) → ((n : ℕ) → getD counts n 0 < 256) → overWords counts (countsOf (countsAt counts)) ≡ counts
@@ -47,4 +48,5 @@ counts-stay counts small =
       setWord-same counts 9 small,
       setWord-same counts 10 small,
       setWord-same counts 11 small,
+      setWord-same counts 12 small,
     )

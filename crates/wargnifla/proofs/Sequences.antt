@@ -1,4 +1,4 @@
--- Recordings that C programs make are sound.
+-- Recordings that C programs make are sound, and keep the right number of open entries.
 use mathlib.Core.Path.{_≡_, sym, ap, _∙_, subst}
 use mathlib.Core.List.{List}
 use Prim.Native.Nat.{ℕ, _≤_}
@@ -7,12 +7,16 @@ use lib.ListN.{length}
 use Rattle.seqs.proofs.Picking.{no-lt}
 use Rattle.seqs.proofs.Overwrites.{length-over}
 use Rattle.words.specs.Words.{bytesOfAll, overWords}
+use Rattle.buffer.specs.declared.CodeBuffer.{CodeBuffer}
 use Rattle.buffer.specs.Calls as calls
 use Rattle.recording.specs.Calls.{Recording, Word, Word64, Call, after, afterAll, begun}
 use Rattle.recording.specs.Calls as call
 use Rattle.recording.specs.Sound.{Sound}
+use Rattle.recording.specs.View.{view}
+use Rattle.recording.specs.Open.{openOf}
 use Rattle.recording.proofs.LongerTables.{keeps-growth}
 use Rattle.recording.proofs.Recordings.{keeps-sound, calls-sound, begun-sound}
+use Rattle.recording.proofs.Open.{Right, call-right, calls-right, grown-right, begun-right}
 use Rattle.recording.proofs.Words.{Words, call-words, calls-words, start-words}
 use Rattle.sheet.specs.Run as sheets
 use Rattle.sheet.proofs.Sheets.{sheet-makes-calls}
@@ -20,26 +24,29 @@ use Rattle.wargnifla.specs.Boundary.{countsSize, countsAt, countsOf, Len
 use Rattle.wargnifla.specs.Sequences.{afterStart, afterBytes, afterConstant, afterReloc, Recorded, starts, sheet, bytes, constant, relocation, grows}
 use Rattle.wargnifla.proofs.Counts.{counts-read}
 
--- what holds of all that is lent: its counts have their bytes and are words, and the recording is sound
+-- what holds of all that is lent: its counts have their bytes and are words, the recording is sound, and its number of open entries is right
 pub record Good (l : Lent) : Type 0 where
   pub room : countsSize ≤ length (l .counts)
   pub words : Words (recordingIn l .buffer)
   pub sound : Sound (recordingIn l)
+  pub right : Right (recordingIn l)
 
 -- bytes with a recording in them hold that recording
-with-recording : (counts : List ℕ) (r : Recording) → countsSize ≤ length counts → Words (r .buffer) → Sound r → Good (lentWith counts r)
-with-recording counts r room w s =
+with-recording : (counts : List ℕ) (r : Recording) → countsSize ≤ length counts → Words (r .buffer) → Sound r → Right r → Good (lentWith counts r)
+with-recording counts r room w s right =
     let read : countsAt (overWords counts (countsOf (r .buffer))) ≡ r .buffer = counts-read counts (r .buffer) room w in
     record {
       room = omega (arith, length-over counts 0 (bytesOfAll (countsOf (r .buffer))));
       words = rw read w;
       sound = rw read s;
+      right = subst (λ (b : CodeBuffer). Right (call.withBuffer r b)) (sym read) right;
     }
 
 -- A call on what is lent leaves what is good.
 called : (c : Call) (l : Lent) → Good l → Good (lentWith (l .counts) (after c (recordingIn l)))
 called c l g =
     with-recording (l .counts) (after c (recordingIn l)) (g .room) (call-words c (recordingIn l) (g .words)) (keeps-sound c (recordingIn l) (g .sound))
+    (call-right c (recordingIn l) (g .words .code) (g .right))
 
 -- What each function leaves where counts are lent whole is the recording after the call.
 abbrev begunIn : Word → Word → Lent → Recording
@@ -81,13 +88,14 @@ pub recorded-good : (l : Lent) → Recorded l → Good l
 recorded-good l (starts arch symbols m room) =
     subst Good (sym (start-left arch symbols m room))
     (with-recording (m .counts) (begunIn arch symbols m) room (start-words (arch .small) (symbols .small))
-    (begun-sound (m .code) (m .labels) (m .events) (m .uses) (m .refs) (m .constants) (m .asked) (m .relocs) (arch .value) (symbols .value)))
+    (begun-sound (m .code) (m .labels) (m .events) (m .uses) (m .refs) (m .constants) (m .asked) (m .relocs) (arch .value) (symbols .value))
+    (begun-right (arch .value) (symbols .value) (m .code) (m .labels) (m .events) (m .uses) (m .refs) (m .constants) (m .asked) (m .relocs)))
 recorded-good l (sheet s m made) =
     let g = recorded-good m made in
     let calls = sheet-makes-calls s (recordingIn m) in
     subst Good (sym (sheet-left s m (g .room) ∙ ap (lentWith (m .counts)) (calls .1)))
     (with-recording (m .counts) (afterAll (calls .0) (recordingIn m)) (g .room) (calls-words (calls .0) (recordingIn m) (g .words))
-    (calls-sound (calls .0) (recordingIn m) (g .sound)))
+    (calls-sound (calls .0) (recordingIn m) (g .sound)) (calls-right (calls .0) (recordingIn m) (g .words) (g .right)))
 recorded-good l (bytes bs m made) = let g = recorded-good m made in subst Good (sym (bytes-left bs m (g .room))) (called (call.bytes bs) m g)
 recorded-good l (constant bs m made) = let g = recorded-good m made in subst Good (sym (constant-left bs m (g .room))) (called (call.constant bs) m g)
 recorded-good l (relocation o k t d m made) =
@@ -98,9 +106,14 @@ recorded-good l (grows m n made same growth) =
       room = rw same (g .room);
       words = rw same (g .words);
       sound = keeps-growth (recordingIn m) (recordingIn n) growth (g .sound);
+      right = grown-right (recordingIn m) (recordingIn n) growth (g .right);
     }
 
 -- From start on, whatever sheets and calls follow, refused ones too, and whenever tables grow between them, every entry is one that recordings write:
 -- finish never answers 1 for an entry.
 pub c-recordings-are-sound : (l : Lent) → Recorded l → Sound (recordingIn l)
 c-recordings-are-sound l made = recorded-good l made .sound
+
+-- and the number of open entries is the count over the tables: finish never answers 1 for it.
+pub c-recordings-keep-count : (l : Lent) → Recorded l → recordingIn l .buffer .unresolved ≡ openOf (view (recordingIn l))
+c-recordings-keep-count l made = recorded-good l made .right

@@ -18,9 +18,9 @@ use Rattle.finish.specs.Finish as finishing
 use Rattle.elf.specs.Elf as elf
 use Rattle.sheet.specs.Run as sheets
 
--- the bytes of counts, twelve words, and of a record, six
+-- the bytes of counts, thirteen words, and of a record, six
 abbrev pub countsSize : ℕ
-countsSize = 48
+countsSize = 52
 
 abbrev pub recordSize : ℕ
 recordSize = 24
@@ -41,11 +41,12 @@ countsAt counts =
       constants = wordAt counts 9;
       asked = wordAt counts 10;
       relocs = wordAt counts 11;
+      unresolved = wordAt counts 12;
     }
 
 abbrev pub countsOf : CodeBuffer → List ℕ
 countsOf b =
-    b .arch ∷ b .symbols ∷ b .finished ∷ b .refusal ∷ b .code ∷ b .labels ∷ b .events ∷ b .uses ∷ b .refs ∷ b .constants ∷ b .asked ∷ b .relocs ∷ []
+    b .arch ∷ b .symbols ∷ b .finished ∷ b .refusal ∷ b .code ∷ b .labels ∷ b .events ∷ b .uses ∷ b .refs ∷ b .constants ∷ b .asked ∷ b .relocs ∷ b .unresolved ∷ []
 
 -- the words of what finish reports, and the report that is lent as bytes
 abbrev pub recordOf : CodeBufferFinalized → List ℕ
@@ -87,9 +88,9 @@ addConstant counts constants bytes =
     (a .0 .refusal, (overWords counts (countsOf (a .0 .buffer)), (a .1, a .0 .number)))
 
 -- the answer, the counts and the relocations
-unfoldable pub addReloc : List ℕ → List ℕ → ℕ → ℕ → ℕ → ℕ → ℕ × (List ℕ × List ℕ)
-addReloc counts relocs offset kind target addend =
-    let a = calls.addReloc (countsAt counts) relocs offset kind target addend in
+unfoldable pub addReloc : List ℕ → List ℕ → List ℕ → ℕ → ℕ → ℕ → ℕ → ℕ × (List ℕ × List ℕ)
+addReloc counts labels relocs offset kind target addend =
+    let a = calls.addReloc (countsAt counts) labels relocs offset kind target addend in
     pick (tooShort counts) (refusals.malformed, (counts, relocs)) (a .0 .refusal, (overWords counts (countsOf (a .0 .buffer)), a .1))
 
 -- a recording that is lent: counts as bytes, and the tables

@@ -27,7 +27,7 @@ afterConstant bytes l =
 -- offset, kind, target, addend
 abbrev pub afterReloc : Word → Word → Word → Word64 → Lent → Lent
 afterReloc o k t d l =
-    let a = addReloc (l .counts) (l .relocs) (o .value) (k .value) (t .value) (d .value) in
+    let a = addReloc (l .counts) (l .labels) (l .relocs) (o .value) (k .value) (t .value) (d .value) in
     lentOf (a .1 .0) (l .code) (l .labels) (l .events) (l .uses) (l .refs) (l .constants) (l .asked) (a .1 .1)
 
 -- what may be lent once a recording is started in bytes that hold counts

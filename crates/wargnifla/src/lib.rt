@@ -1,5 +1,5 @@
 // The C functions, on numbers and byte slices, the table of segments alone a slice of structs: what a host in another language links.
-// include/wargnifla.h declares them and says what each table and number means. A recording's counts cross the boundary as 48 lent bytes, twelve words in
+// include/wargnifla.h declares them and says what each table and number means. A recording's counts cross the boundary as 52 lent bytes, thirteen words in
 // the order of `CodeBuffer`; what finish reports as 24, six words in the order of `CodeBufferFinalized`. Fewer bytes than that answer 1, and of all that is
 // lent only a record of zeros is written; bytes past them are not touched.
 ghost use mathlib.Core.Path.{_≡_};
@@ -14,7 +14,7 @@ use finish::CodeBufferFinalized;
 use relax::Segment;
 
 // The bytes of counts, and of a record.
-const COUNTS_SIZE: usize = 48;
+const COUNTS_SIZE: usize = 52;
 
 const RECORD_SIZE: usize = 24;
 
@@ -36,6 +36,7 @@ fn counts_at(counts: &[u8]) -> CodeBuffer
         constants: words::word_at(counts, 9),
         asked: words::word_at(counts, 10),
         relocs: words::word_at(counts, 11),
+        unresolved: words::word_at(counts, 12),
     }
 }
 
@@ -57,6 +58,7 @@ fn put_counts(counts: &mut [u8], b: CodeBuffer)
     put_four(counts, 0, b.arch, b.symbols, b.finished, b.refusal);
     put_four(counts, 4, b.code, b.labels, b.events, b.uses);
     put_four(counts, 8, b.refs, b.constants, b.asked, b.relocs);
+    words::put_word(counts, 12, b.unresolved);
 }
 
 fn put_record(finalized: &mut [u8], code: CodeBufferFinalized)
@@ -153,18 +155,20 @@ pub extern "C" fn wargnifla_add_constant(
 #[no_mangle]
 pub extern "C" fn wargnifla_add_reloc(
     counts: &mut [u8],
+    labels: &[u8],
     relocs: &mut [u8],
     offset: u32,
     kind: u32,
     target: u32,
     addend: u64,
 ) -> u32
-    ensures { λ r. ⌜ (r, (now (counts .exit), now (relocs .exit))) ≡ addReloc (now (counts .entry)) (now (relocs .entry)) offset kind target addend ⌝ }
+    ensures { λ r. ⌜ (r, (now (counts .exit), now (relocs .exit))) ≡ addReloc (now (counts .entry)) (now (labels .entry)) (now (relocs .entry)) offset kind target addend ⌝ }
 {
     if counts.len() < COUNTS_SIZE {
         return refusals::MALFORMED;
     }
-    let answer = counts_at(counts).add_reloc_at_offset(relocs, offset, kind, target, addend);
+    let b = counts_at(counts);
+    let answer = b.add_reloc_at_offset(labels, relocs, offset, kind, target, addend);
     let buffer = answer.buffer;
     put_counts(counts, buffer);
     answer.refusal

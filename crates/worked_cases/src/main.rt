@@ -44,8 +44,10 @@ fn new_label(recording: CodeBuffer, labels: &mut [u8; 8]) -> CodeBuffer {
     made.buffer
 }
 
-fn bind(recording: CodeBuffer, labels: &mut [u8; 8], label: u32) -> CodeBuffer {
-    let bound = recording.try_bind_label(labels, label);
+// None of these recordings has uses, refs or relocations.
+fn bind(recording: CodeBuffer, labels: &mut [u8; 8], events: &[u8; 40], label: u32) -> CodeBuffer {
+    let none = [0u8; 0];
+    let bound = recording.try_bind_label(labels, events, &none, &none, &none, label);
     bound.buffer
 }
 
@@ -59,7 +61,7 @@ fn record_forward(
     let labelled = new_label(start, labels);
     let jumped = put_jump(labelled, code, labels, events, 0);
     let put = put_zeros(jumped, code, zeros);
-    bind(put, labels, 0)
+    bind(put, labels, events, 0)
 }
 
 fn record_chain(
@@ -71,8 +73,8 @@ fn record_chain(
     let labelled = new_label(new_label(start, labels), labels);
     let first = put_jump(labelled, code, labels, events, 0);
     let second = put_jump(first, code, labels, events, 1);
-    let near = bind(put_zeros(second, code, 125), labels, 0);
-    bind(put_zeros(near, code, 3), labels, 1)
+    let near = bind(put_zeros(second, code, 125), labels, events, 0);
+    bind(put_zeros(near, code, 3), labels, events, 1)
 }
 
 fn record_aligned(
@@ -84,7 +86,7 @@ fn record_aligned(
     let labelled = new_label(start, labels);
     let jumped = put_jump(labelled, code, labels, events, 0);
     let aligned = jumped.try_align_to(code, events, 16);
-    bind(aligned.buffer, labels, 0)
+    bind(aligned.buffer, labels, events, 0)
 }
 
 fn record(

@@ -1,50 +1,18 @@
--- What finish checks of the labels that are named, and of fields, before it lays out: document 01's list of refusals, 15, 17 and 19 to 22. `labels` is the
--- table with the pool's labels bound, `len` the length of the pooled code.
-use mathlib.Core.Bool.{Bool, not, _&&_, _||_}
+-- What finish checks of fields before it lays out: document 01's list of refusals, 17 and 19 to 22. `labels` is the table with the pool's labels bound, `len`
+-- the length of the pooled code.
+use mathlib.Core.Bool.{Bool, _&&_, _||_}
 use mathlib.Core.List.{List}
-use Prim.Native.Nat.{ℕ, _+_, _-_, _*_}
-use lib.Dec.{eqb, leb, ltb}
+use Prim.Native.Nat.{ℕ, _+_, _*_}
+use lib.Dec.{leb, ltb}
 use Rattle.refusals.specs.Numbers as refusals
 use Rattle.seqs.specs.Pick.{pick, firstOf}
 use Rattle.words.specs.Words.{wordAt}
 use Rattle.fields.specs.Kinds.{decoded, sizeOf}
 use Rattle.fields.specs.Reach.{reachOf}
-use Rattle.relax.specs.Events.{eventWords, jumpKind}
-use Rattle.buffer.specs.State.{none, labelTarget}
-use Rattle.buffer.specs.Tables.{useWords, refWords, relocWords}
+use Rattle.buffer.specs.Tables.{useWords, refWords}
 use Rattle.recording.specs.Sound.{startAt, endAt}
 use Rattle.pool.specs.steps.Pool.{poolStart, poolOffset}
 use Rattle.seqs.specs.Every.{all}
-
--- `isBound` (finish/specs/Refusals), of the bytes of the table of labels
-unfoldable pub isBoundAt : List ℕ → ℕ → Bool
-isBoundAt labels label = not (eqb (wordAt labels label) none)
-
--- what an entry names is bound: of a use, of a ref; of an event where it is a jump; of a relocation where its target is a label's, from 2^31 on
-abbrev pub useBound : List ℕ → List ℕ → ℕ → Bool
-useBound uses labels i = isBoundAt labels (wordAt uses (i * useWords + 1))
-
-abbrev pub refBound : List ℕ → List ℕ → ℕ → Bool
-refBound refs labels i = isBoundAt labels (wordAt refs (i * refWords + 1))
-
-abbrev pub jumpBound : List ℕ → List ℕ → ℕ → Bool
-jumpBound events labels i = not (eqb (wordAt events (i * eventWords)) jumpKind) || isBoundAt labels (wordAt events (i * eventWords + 3))
-
-abbrev pub targetBound : List ℕ → List ℕ → ℕ → Bool
-targetBound relocs labels i = ltb (wordAt relocs (i * relocWords + 2)) labelTarget || isBoundAt labels (wordAt relocs (i * relocWords + 2) - labelTarget)
-
--- 15: "a use, label relocation, ref or jump names an unbound label"; each of these holds where none does
-unfoldable pub usesBound : List ℕ → ℕ → List ℕ → Bool
-usesBound uses n labels = all (useBound uses labels) n
-
-unfoldable pub refsBound : List ℕ → ℕ → List ℕ → Bool
-refsBound refs n labels = all (refBound refs labels) n
-
-unfoldable pub jumpsBound : List ℕ → ℕ → List ℕ → Bool
-jumpsBound events n labels = all (jumpBound events labels) n
-
-unfoldable pub relocsBound : List ℕ → ℕ → List ℕ → Bool
-relocsBound relocs n labels = all (targetBound relocs labels) n
 
 -- what lies from one offset to another "starts before an event's end and ends after that event's start" for none of the recorded events, nor of the
 -- alignments of the pool

@@ -7,10 +7,10 @@ use Prim.Native.Nat.{ℕ, _+_, _-_, _*_, _≤_, _<_}
 use lib.Dec.{eqb}
 use lib.ListN.{length, getD}
 use Rattle.words.specs.Words.{wordAt}
-use Rattle.relax.specs.Events.{eventWords, eventSize, jumpKind}
+use Rattle.relax.specs.Events.{eventSize}
 use Rattle.buffer.specs.declared.CodeBuffer.{CodeBuffer}
 use Rattle.buffer.specs.State.{none, labelTarget}
-use Rattle.buffer.specs.Tables.{mostEntries, labelSize, useWords, useSize, refWords, refSize, constantSize, askedSize, relocWords, relocSize}
+use Rattle.buffer.specs.Tables.{mostEntries, labelSize, useWords, useSize, refSize, constantSize, askedSize, relocWords, relocSize}
 use Rattle.recording.specs.Calls.{Recording}
 use Rattle.recording.specs.Sound.{labelOf}
 use Rattle.seqs.specs.Every.{all}
@@ -33,20 +33,13 @@ abbrev pub tables : CodeBuffer → List ℕ → List ℕ → List ℕ → List �
 tables b labels events uses refs constants asked relocs =
     record { buffer = b; code = []; labels = labels; events = events; uses = uses; refs = refs; constants = constants; asked = asked; relocs = relocs }
 
--- the label that a use names, and a ref
+-- the label that a use names
 abbrev pub useLabel : List ℕ → ℕ → ℕ
 useLabel uses i = wordAt uses (i * useWords + 1)
-
-abbrev pub refLabel : List ℕ → ℕ → ℕ
-refLabel refs i = wordAt refs (i * refWords + 1)
 
 -- the labels that the first n entries name lie in the table of labels
 pub record Named (label : ℕ → ℕ) (n : ℕ) (labels : List ℕ) : Type 0 where
   pub known : (i : ℕ) → i < n → label i * labelSize + labelSize ≤ length labels
-
--- those of the jumps among the first n events
-pub record JumpsNamed (events : List ℕ) (n : ℕ) (labels : List ℕ) : Type 0 where
-  pub known : (i : ℕ) → i < n → wordAt events (i * eventWords) ≡ jumpKind → wordAt events (i * eventWords + 3) * labelSize + labelSize ≤ length labels
 
 -- those of the targets among the first n relocations
 pub record TargetsNamed (relocs : List ℕ) (n : ℕ) (labels : List ℕ) : Type 0 where

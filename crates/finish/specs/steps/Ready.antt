@@ -16,6 +16,7 @@ use Rattle.relax.specs.declared.Segment.{Segment}
 use Rattle.relax.specs.Events.{eventAt, eventSize}
 use Rattle.buffer.specs.declared.CodeBuffer.{CodeBuffer}
 use Rattle.buffer.specs.Tables.{mostEntries, mostCode, labelSize, useWords, useSize, refSize}
+use Rattle.buffer.specs.steps.Count.{NamersFit, openCount}
 use Rattle.recording.specs.Calls.{Recording}
 use Rattle.recording.specs.View.{Use, entries, useAt, refAt, relocAt}
 use Rattle.fresh.specs.Pooled.{Pooled}
@@ -142,11 +143,12 @@ kept p output =
     let why = whyNotInPlace p (length output) in
     pick (eqb why 0) (record { refusal = 0; len = length (p .code); layouts = 0 }, over output 0 (inPlace p)) (refusedWith why, output)
 
--- what both are handed
+-- what both are handed; where nothing was open before the pool's labels were bound, nothing is
 pub record Placeable (b : CodeBuffer) (code labels events uses refs constants asked relocs output : List ℕ) (segments : ℕ) : Type 0 where
   pub ready : Ready code labels events constants asked (b .arch) (b .code) (b .labels) (b .events) (b .asked)
   pub entered : Entered labels events uses refs relocs (b .arch) (b .symbols) (b .code) (b .labels) (b .events) (b .uses) (b .refs) (b .relocs)
-  pub few : b .events ≤ mostEntries
+  pub namers : NamersFit b events uses refs relocs
+  pub settled : b .unresolved ≡ 0 → openCount b labels events uses refs relocs ≡ 0
   pub segments-limit : segments ≤ mostEntries
   pub output-limit : length output ≤ mostCode
 

@@ -8,7 +8,7 @@ returns : tie.Need-returns
 returns c =
     let start : tie.Start = search in
     let a = start .args in
-    reloc-short (a .offset) (a .kind) (a .target) (a .addend) (c .if1 .taken)
+    reloc-short (a .labels .now) (a .offset) (a .kind) (a .target) (a .addend) (c .if1 .taken)
 
 returns-2 : tie.Need-returns-2
 returns-2 c =

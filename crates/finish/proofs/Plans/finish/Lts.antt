@@ -84,7 +84,7 @@ abbrev pub y4· : Syntax.Ty
 y4· = Syntax.tyRef (Syntax.named 8) Syntax.mut (MEM·.pointee (ROW·.the-row .written))
 
 abbrev pub y5· : Syntax.Ty
-y5· = Syntax.tyStruct (98 ∷ 117 ∷ 102 ∷ 102 ∷ 101 ∷ 114 ∷ 58 ∷ 58 ∷ 67 ∷ 111 ∷ 100 ∷ 101 ∷ 66 ∷ 117 ∷ 102 ∷ 102 ∷ 101 ∷ 114 ∷ []) (Syntax.tcons y0· (Syntax.tcons y0· (Syntax.tcons y0· (Syntax.tcons y0· (Syntax.tcons y0· (Syntax.tcons y0· (Syntax.tcons y0· (Syntax.tcons y0· (Syntax.tcons y0· (Syntax.tcons y0· (Syntax.tcons y0· (Syntax.tcons y0· Syntax.tnil))))))))))))
+y5· = Syntax.tyStruct (98 ∷ 117 ∷ 102 ∷ 102 ∷ 101 ∷ 114 ∷ 58 ∷ 58 ∷ 67 ∷ 111 ∷ 100 ∷ 101 ∷ 66 ∷ 117 ∷ 102 ∷ 102 ∷ 101 ∷ 114 ∷ []) (Syntax.tcons y0· (Syntax.tcons y0· (Syntax.tcons y0· (Syntax.tcons y0· (Syntax.tcons y0· (Syntax.tcons y0· (Syntax.tcons y0· (Syntax.tcons y0· (Syntax.tcons y0· (Syntax.tcons y0· (Syntax.tcons y0· (Syntax.tcons y0· (Syntax.tcons y0· Syntax.tnil)))))))))))))
 
 abbrev pub y6· : Syntax.Ty
 y6· = Syntax.tyStruct (102 ∷ 105 ∷ 110 ∷ 105 ∷ 115 ∷ 104 ∷ 58 ∷ 58 ∷ 67 ∷ 111 ∷ 100 ∷ 101 ∷ 66 ∷ 117 ∷ 102 ∷ 102 ∷ 101 ∷ 114 ∷ 70 ∷ 105 ∷ 110 ∷ 97 ∷ 108 ∷ 105 ∷ 122 ∷ 101 ∷ 100 ∷ []) (Syntax.tcons y0· (Syntax.tcons y0· (Syntax.tcons y0· (Syntax.tcons y0· (Syntax.tcons y0· (Syntax.tcons y0· Syntax.tnil))))))

@@ -128,7 +128,7 @@ abbrev pub y20· : Syntax.Ty
 y20· = Syntax.tyRef (Syntax.named 8) Syntax.mut y3·
 
 abbrev pub y21· : Syntax.Ty
-y21· = Syntax.tyStruct (98 ∷ 117 ∷ 102 ∷ 102 ∷ 101 ∷ 114 ∷ 58 ∷ 58 ∷ 67 ∷ 111 ∷ 100 ∷ 101 ∷ 66 ∷ 117 ∷ 102 ∷ 102 ∷ 101 ∷ 114 ∷ []) (Syntax.tcons y2· (Syntax.tcons y2· (Syntax.tcons y2· (Syntax.tcons y2· (Syntax.tcons y2· (Syntax.tcons y2· (Syntax.tcons y2· (Syntax.tcons y2· (Syntax.tcons y2· (Syntax.tcons y2· (Syntax.tcons y2· (Syntax.tcons y2· Syntax.tnil))))))))))))
+y21· = Syntax.tyStruct (98 ∷ 117 ∷ 102 ∷ 102 ∷ 101 ∷ 114 ∷ 58 ∷ 58 ∷ 67 ∷ 111 ∷ 100 ∷ 101 ∷ 66 ∷ 117 ∷ 102 ∷ 102 ∷ 101 ∷ 114 ∷ []) (Syntax.tcons y2· (Syntax.tcons y2· (Syntax.tcons y2· (Syntax.tcons y2· (Syntax.tcons y2· (Syntax.tcons y2· (Syntax.tcons y2· (Syntax.tcons y2· (Syntax.tcons y2· (Syntax.tcons y2· (Syntax.tcons y2· (Syntax.tcons y2· (Syntax.tcons y2· Syntax.tnil)))))))))))))
 
 abbrev pub y22· : Syntax.Ty
 y22· = Syntax.tyStruct (38 ∷ 91 ∷ 93 ∷ []) (Syntax.tcons y8· (Syntax.tcons y0· Syntax.tnil))

@@ -150,7 +150,7 @@ abbrev pub y27· : Syntax.Ty
 y27· = Syntax.tyRef (Syntax.named 10) Syntax.mut y1·
 
 abbrev pub y28· : Syntax.Ty
-y28· = Syntax.tyStruct (98 ∷ 117 ∷ 102 ∷ 102 ∷ 101 ∷ 114 ∷ 58 ∷ 58 ∷ 67 ∷ 111 ∷ 100 ∷ 101 ∷ 66 ∷ 117 ∷ 102 ∷ 102 ∷ 101 ∷ 114 ∷ []) (Syntax.tcons y1· (Syntax.tcons y1· (Syntax.tcons y1· (Syntax.tcons y1· (Syntax.tcons y1· (Syntax.tcons y1· (Syntax.tcons y1· (Syntax.tcons y1· (Syntax.tcons y1· (Syntax.tcons y1· (Syntax.tcons y1· (Syntax.tcons y1· Syntax.tnil))))))))))))
+y28· = Syntax.tyStruct (98 ∷ 117 ∷ 102 ∷ 102 ∷ 101 ∷ 114 ∷ 58 ∷ 58 ∷ 67 ∷ 111 ∷ 100 ∷ 101 ∷ 66 ∷ 117 ∷ 102 ∷ 102 ∷ 101 ∷ 114 ∷ []) (Syntax.tcons y1· (Syntax.tcons y1· (Syntax.tcons y1· (Syntax.tcons y1· (Syntax.tcons y1· (Syntax.tcons y1· (Syntax.tcons y1· (Syntax.tcons y1· (Syntax.tcons y1· (Syntax.tcons y1· (Syntax.tcons y1· (Syntax.tcons y1· (Syntax.tcons y1· Syntax.tnil)))))))))))))
 
 abbrev pub y29· : Syntax.Ty
 y29· = Syntax.tyStruct (38 ∷ 91 ∷ 93 ∷ []) (Syntax.tcons y11· (Syntax.tcons y0· Syntax.tnil))

@@ -103,7 +103,7 @@ abbrev pub y15· : Syntax.Ty
 y15· = Syntax.tyRef (Syntax.named 8) Syntax.mut y1·
 
 abbrev pub y16· : Syntax.Ty
-y16· = Syntax.tyStruct (98 ∷ 117 ∷ 102 ∷ 102 ∷ 101 ∷ 114 ∷ 58 ∷ 58 ∷ 67 ∷ 111 ∷ 100 ∷ 101 ∷ 66 ∷ 117 ∷ 102 ∷ 102 ∷ 101 ∷ 114 ∷ []) (Syntax.tcons y3· (Syntax.tcons y3· (Syntax.tcons y3· (Syntax.tcons y3· (Syntax.tcons y3· (Syntax.tcons y3· (Syntax.tcons y3· (Syntax.tcons y3· (Syntax.tcons y3· (Syntax.tcons y3· (Syntax.tcons y3· (Syntax.tcons y3· Syntax.tnil))))))))))))
+y16· = Syntax.tyStruct (98 ∷ 117 ∷ 102 ∷ 102 ∷ 101 ∷ 114 ∷ 58 ∷ 58 ∷ 67 ∷ 111 ∷ 100 ∷ 101 ∷ 66 ∷ 117 ∷ 102 ∷ 102 ∷ 101 ∷ 114 ∷ []) (Syntax.tcons y3· (Syntax.tcons y3· (Syntax.tcons y3· (Syntax.tcons y3· (Syntax.tcons y3· (Syntax.tcons y3· (Syntax.tcons y3· (Syntax.tcons y3· (Syntax.tcons y3· (Syntax.tcons y3· (Syntax.tcons y3· (Syntax.tcons y3· (Syntax.tcons y3· Syntax.tnil)))))))))))))
 
 abbrev pub y17· : Syntax.Ty
 y17· = Syntax.tyStruct (38 ∷ 91 ∷ 93 ∷ []) (Syntax.tcons y5· (Syntax.tcons y0· Syntax.tnil))

@@ -101,7 +101,7 @@ abbrev pub y14· : Syntax.Ty
 y14· = Syntax.tyRef (Syntax.named 9) Syntax.imm y1·
 
 abbrev pub y15· : Syntax.Ty
-y15· = Syntax.tyStruct (98 ∷ 117 ∷ 102 ∷ 102 ∷ 101 ∷ 114 ∷ 58 ∷ 58 ∷ 67 ∷ 111 ∷ 100 ∷ 101 ∷ 66 ∷ 117 ∷ 102 ∷ 102 ∷ 101 ∷ 114 ∷ []) (Syntax.tcons y1· (Syntax.tcons y1· (Syntax.tcons y1· (Syntax.tcons y1· (Syntax.tcons y1· (Syntax.tcons y1· (Syntax.tcons y1· (Syntax.tcons y1· (Syntax.tcons y1· (Syntax.tcons y1· (Syntax.tcons y1· (Syntax.tcons y1· Syntax.tnil))))))))))))
+y15· = Syntax.tyStruct (98 ∷ 117 ∷ 102 ∷ 102 ∷ 101 ∷ 114 ∷ 58 ∷ 58 ∷ 67 ∷ 111 ∷ 100 ∷ 101 ∷ 66 ∷ 117 ∷ 102 ∷ 102 ∷ 101 ∷ 114 ∷ []) (Syntax.tcons y1· (Syntax.tcons y1· (Syntax.tcons y1· (Syntax.tcons y1· (Syntax.tcons y1· (Syntax.tcons y1· (Syntax.tcons y1· (Syntax.tcons y1· (Syntax.tcons y1· (Syntax.tcons y1· (Syntax.tcons y1· (Syntax.tcons y1· (Syntax.tcons y1· Syntax.tnil)))))))))))))
 
 abbrev pub y16· : Syntax.Ty
 y16· = Syntax.tyStruct (38 ∷ 91 ∷ 93 ∷ []) (Syntax.tcons y5· (Syntax.tcons y0· Syntax.tnil))

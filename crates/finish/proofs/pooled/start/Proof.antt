@@ -1,4 +1,4 @@
--- `start` meets its contract: each return is one case of proofs/Placing.
+-- `start` meets its contract: each return is one case of proofs/WithOrWithoutJump.
 use mathlib.Core.Path.{sym}
 use native.Mathlib.Omega.{arith}
 use borrow.Author.Needs.{needs}
@@ -21,7 +21,7 @@ bound c = search
 all-bound-requires : tie.Need-all-bound-requires
 all-bound-requires c κs =
     let s : tie.Start = search in
-    s .pre .entered
+    (s .pre .ready .room, (s .pre .namers, s .pre .settled))
 
 returns : tie.Need-returns
 returns c =
@@ -46,7 +46,7 @@ why-not-laid-requires : tie.Need-why-not-laid-requires
 why-not-laid-requires c κs =
     let moved : tie.After-moves = search in
     let x = entered (named moved) .pre in
-    clearing (x .ready) _ _ _ (omega (arith, x .entered .referred .room)) (x .few) (c .pool-end .ensures .0)
+    clearing (x .ready) _ _ _ (omega (arith, x .entered .referred .room)) (x .namers .events-few) (c .pool-end .ensures .0)
 
 returns-2 : tie.Need-returns-2
 returns-2 c =

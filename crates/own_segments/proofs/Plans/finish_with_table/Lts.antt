@@ -86,7 +86,7 @@ abbrev pub y8· : Syntax.Ty
 y8· = Syntax.tyStruct (38 ∷ 91 ∷ 93 ∷ []) (Syntax.tcons y4· (Syntax.tcons y2· Syntax.tnil))
 
 abbrev pub y9· : Syntax.Ty
-y9· = Syntax.tyStruct (98 ∷ 117 ∷ 102 ∷ 102 ∷ 101 ∷ 114 ∷ 58 ∷ 58 ∷ 67 ∷ 111 ∷ 100 ∷ 101 ∷ 66 ∷ 117 ∷ 102 ∷ 102 ∷ 101 ∷ 114 ∷ []) (Syntax.tcons y5· (Syntax.tcons y5· (Syntax.tcons y5· (Syntax.tcons y5· (Syntax.tcons y5· (Syntax.tcons y5· (Syntax.tcons y5· (Syntax.tcons y5· (Syntax.tcons y5· (Syntax.tcons y5· (Syntax.tcons y5· (Syntax.tcons y5· Syntax.tnil))))))))))))
+y9· = Syntax.tyStruct (98 ∷ 117 ∷ 102 ∷ 102 ∷ 101 ∷ 114 ∷ 58 ∷ 58 ∷ 67 ∷ 111 ∷ 100 ∷ 101 ∷ 66 ∷ 117 ∷ 102 ∷ 102 ∷ 101 ∷ 114 ∷ []) (Syntax.tcons y5· (Syntax.tcons y5· (Syntax.tcons y5· (Syntax.tcons y5· (Syntax.tcons y5· (Syntax.tcons y5· (Syntax.tcons y5· (Syntax.tcons y5· (Syntax.tcons y5· (Syntax.tcons y5· (Syntax.tcons y5· (Syntax.tcons y5· (Syntax.tcons y5· Syntax.tnil)))))))))))))
 
 abbrev pub y10· : Syntax.Ty
 y10· = Syntax.tyStruct (102 ∷ 105 ∷ 110 ∷ 105 ∷ 115 ∷ 104 ∷ 58 ∷ 58 ∷ 67 ∷ 111 ∷ 100 ∷ 101 ∷ 66 ∷ 117 ∷ 102 ∷ 102 ∷ 101 ∷ 114 ∷ 70 ∷ 105 ∷ 110 ∷ 97 ∷ 108 ∷ 105 ∷ 122 ∷ 101 ∷ 100 ∷ []) (Syntax.tcons y5· (Syntax.tcons y5· (Syntax.tcons y5· (Syntax.tcons y5· (Syntax.tcons y5· (Syntax.tcons y5· Syntax.tnil))))))

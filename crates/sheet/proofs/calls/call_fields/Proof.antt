@@ -14,7 +14,7 @@ returns c =
     let after-word-at : tie.After-word-at = search in
     let start : tie.Start = search in
     let a = start .args in
-    λ code labels events constants asked. use-called (a .b) (a .kind) (a .arguments .now) code labels events (a .uses .now) (a .refs .now) constants asked (a .relocs .now) (then1 .if1 .taken) (as-word (after-word-at .word-at .result) _ 0 (after-word-at .word-at .ensures) (omega arith)) (as-word (after-word-at2 .word-at2 .result) _ 1 (after-word-at2 .word-at2 .ensures) (omega arith)) (as-word (after-word-at3 .word-at3 .result) _ 2 (after-word-at3 .word-at3 .ensures) (omega arith)) (after-use-label-at-offset .use-label-at-offset .ensures)
+    λ code events constants asked. use-called (a .b) (a .kind) (a .arguments .now) code (a .labels .now) events (a .uses .now) (a .refs .now) constants asked (a .relocs .now) (then1 .if1 .taken) (as-word (after-word-at .word-at .result) _ 0 (after-word-at .word-at .ensures) (omega arith)) (as-word (after-word-at2 .word-at2 .result) _ 1 (after-word-at2 .word-at2 .ensures) (omega arith)) (as-word (after-word-at3 .word-at3 .result) _ 2 (after-word-at3 .word-at3 .ensures) (omega arith)) (after-use-label-at-offset .use-label-at-offset .ensures)
 
 returns-2 : tie.Need-returns-2
 returns-2 c =
@@ -26,7 +26,10 @@ returns-2 c =
     let after-word-at : tie.After-word-at = search in
     let start : tie.Start = search in
     let a = start .args in
-    λ code labels events constants asked. ref-called (a .b) (a .kind) (a .arguments .now) code labels events (a .uses .now) (a .refs .now) constants asked (a .relocs .now) (then2 .if2 .taken) (as-word (after-word-at .word-at .result) _ 0 (after-word-at .word-at .ensures) (omega arith)) (as-word (after-word-at2 .word-at2 .result) _ 1 (after-word-at2 .word-at2 .ensures) (omega arith)) (as-word (after-word-at3 .word-at3 .result) _ 2 (after-word-at3 .word-at3 .ensures) (omega arith)) (as-word (after-word-at4 .word-at4 .result) _ 3 (after-word-at4 .word-at4 .ensures) (omega arith)) (after-record-label-ref .record-label-ref .ensures)
+    λ code events constants asked. ref-called (a .b) (a .kind) (a .arguments .now) code (a .labels .now) events (a .uses .now) (a .refs .now) constants asked (a .relocs .now) (then2 .if2 .taken) (as-word (after-word-at .word-at .result) _ 0 (after-word-at .word-at .ensures) (omega arith)) (as-word (after-word-at2 .word-at2 .result) _ 1 (after-word-at2 .word-at2 .ensures) (omega arith)) (as-word (after-word-at3 .word-at3 .result) _ 2 (after-word-at3 .word-at3 .ensures) (omega arith)) (as-word (after-word-at4 .word-at4 .result) _ 3 (after-word-at4 .word-at4 .ensures) (omega arith)) (after-record-label-ref .record-label-ref .ensures)
+
+abbrev entered : tie.After-word-at → tie.Start
+entered c = search
 
 returns-3 : tie.Need-returns-3
 returns-3 c =
@@ -38,9 +41,9 @@ returns-3 c =
     let after-word-at3 : tie.After-word-at3 = search in
     let after-word-at2 : tie.After-word-at2 = search in
     let after-word-at : tie.After-word-at = search in
-    let start : tie.Start = search in
+    let start = entered after-word-at in
     let a = start .args in
-    λ code labels events constants asked. relocation-called (a .b) (a .kind) (a .arguments .now) code labels events (a .uses .now) (a .refs .now) constants asked (a .relocs .now) (start .pre .1) (else1 .if1 .left) (else2 .if2 .left) (as-word (after-word-at .word-at .result) _ 0 (after-word-at .word-at .ensures) (omega arith)) (as-word (after-word-at2 .word-at2 .result) _ 1 (after-word-at2 .word-at2 .ensures) (omega arith)) (as-word (after-word-at3 .word-at3 .result) _ 2 (after-word-at3 .word-at3 .ensures) (omega arith)) (as-signed (after-sign-extend-32 .sign-extend-32 .result) (after-word-at4 .word-at4 .result) _ 3 (after-sign-extend-32 .sign-extend-32 .ensures) (after-word-at4 .word-at4 .ensures) (omega arith)) (after-add-reloc-at-offset .add-reloc-at-offset .ensures)
+    λ code events constants asked. relocation-called (a .b) (a .kind) (a .arguments .now) code (a .labels .now) events (a .uses .now) (a .refs .now) constants asked (a .relocs .now) (start .pre .1) (else1 .if1 .left) (else2 .if2 .left) (as-word (after-word-at .word-at .result) _ 0 (after-word-at .word-at .ensures) (omega arith)) (as-word (after-word-at2 .word-at2 .result) _ 1 (after-word-at2 .word-at2 .ensures) (omega arith)) (as-word (after-word-at3 .word-at3 .result) _ 2 (after-word-at3 .word-at3 .ensures) (omega arith)) (as-signed (after-sign-extend-32 .sign-extend-32 .result) (after-word-at4 .word-at4 .result) _ 3 (after-sign-extend-32 .sign-extend-32 .ensures) (after-word-at4 .word-at4 .ensures) (omega arith)) (after-add-reloc-at-offset .add-reloc-at-offset .ensures)
 
 pub call-fields-spec : {M : Type 1} → statement M
 call-fields-spec =

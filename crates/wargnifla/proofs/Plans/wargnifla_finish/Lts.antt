@@ -85,7 +85,7 @@ abbrev pub y4· : Syntax.Ty
 y4· = Syntax.tyRef (Syntax.named 9) Syntax.mut (MEM·.pointee (ROW·.the-row .written))
 
 abbrev pub y5· : Syntax.Ty
-y5· = Syntax.tyStruct (98 ∷ 117 ∷ 102 ∷ 102 ∷ 101 ∷ 114 ∷ 58 ∷ 58 ∷ 67 ∷ 111 ∷ 100 ∷ 101 ∷ 66 ∷ 117 ∷ 102 ∷ 102 ∷ 101 ∷ 114 ∷ []) (Syntax.tcons y0· (Syntax.tcons y0· (Syntax.tcons y0· (Syntax.tcons y0· (Syntax.tcons y0· (Syntax.tcons y0· (Syntax.tcons y0· (Syntax.tcons y0· (Syntax.tcons y0· (Syntax.tcons y0· (Syntax.tcons y0· (Syntax.tcons y0· Syntax.tnil))))))))))))
+y5· = Syntax.tyStruct (98 ∷ 117 ∷ 102 ∷ 102 ∷ 101 ∷ 114 ∷ 58 ∷ 58 ∷ 67 ∷ 111 ∷ 100 ∷ 101 ∷ 66 ∷ 117 ∷ 102 ∷ 102 ∷ 101 ∷ 114 ∷ []) (Syntax.tcons y0· (Syntax.tcons y0· (Syntax.tcons y0· (Syntax.tcons y0· (Syntax.tcons y0· (Syntax.tcons y0· (Syntax.tcons y0· (Syntax.tcons y0· (Syntax.tcons y0· (Syntax.tcons y0· (Syntax.tcons y0· (Syntax.tcons y0· (Syntax.tcons y0· Syntax.tnil)))))))))))))
 
 abbrev pub y6· : Syntax.Ty
 y6· = Syntax.tyStruct (102 ∷ 105 ∷ 110 ∷ 105 ∷ 115 ∷ 104 ∷ 58 ∷ 58 ∷ 67 ∷ 111 ∷ 100 ∷ 101 ∷ 66 ∷ 117 ∷ 102 ∷ 102 ∷ 101 ∷ 114 ∷ 70 ∷ 105 ∷ 110 ∷ 97 ∷ 108 ∷ 105 ∷ 122 ∷ 101 ∷ 100 ∷ []) (Syntax.tcons y0· (Syntax.tcons y0· (Syntax.tcons y0· (Syntax.tcons y0· (Syntax.tcons y0· (Syntax.tcons y0· Syntax.tnil))))))
@@ -448,7 +448,7 @@ abbrev b7 : Syntax.Body
 b7 = Syntax.assign (Syntax.place 16 List.[]) (Syntax.rvOpd (Syntax.copy (Syntax.place 1 ((Syntax.field 1) ∷ []))))
 
 abbrev b8 : Syntax.Body
-b8 = Syntax.assign (Syntax.place 17 List.[]) (Syntax.op2 (Syntax.lt Syntax.unsigned) (Syntax.copy (Syntax.place 16 List.[])) (Syntax.int Syntax.w64 48))
+b8 = Syntax.assign (Syntax.place 17 List.[]) (Syntax.op2 (Syntax.lt Syntax.unsigned) (Syntax.copy (Syntax.place 16 List.[])) (Syntax.int Syntax.w64 52))
 
 abbrev b9 : Syntax.Body
 b9 = Syntax.assign (Syntax.place 19 List.[]) (Syntax.addrOf (Syntax.place 12 ((Syntax.field 0) ∷ (Syntax.deref y2·) ∷ [])))
@@ -1106,7 +1106,7 @@ module _ (claims· : Claims) where
   s17 = λ bs. Scalar.n-use T15 (Scalar.oFld 1 ((Syntax.field 1) ∷ []) y1· 8 Shared.lenV) 16 (Rows.sc-here (Row.sInt Syntax.w64)) (Row.sInt Syntax.w64 .of)
 
   abbrev s18 : (bs : List.List Nat.ℕ) → Typed.Asks T20 T21
-  s18 = λ bs. Scalar.k-op2 T20 (Syntax.lt Syntax.unsigned) (Scalar.oAt 16 y1· (Row.valS (Row.sInt Syntax.w64))) (Scalar.oInt Syntax.w64 48) 17 (Rows.sc-here Row.sBool) (Row.sBool .of)
+  s18 = λ bs. Scalar.k-op2 T20 (Syntax.lt Syntax.unsigned) (Scalar.oAt 16 y1· (Row.valS (Row.sInt Syntax.w64))) (Scalar.oInt Syntax.w64 52) 17 (Rows.sc-here Row.sBool) (Row.sBool .of)
 
   abbrev s19 : (bs : List.List Nat.ℕ) → Typed.Mo T21 → Typed.Mo T23
   s19 = λ bs. Scalar.n-room T21 16 y1·
@@ -1262,7 +1262,7 @@ module _ (claims· : Claims) where
   s92 = λ bs. Know.k-sl-known (Referent.fInt Syntax.w8) T95 12 11 y20· Row.off 0 λ x. x
 
   abbrev s94 : (bs : List.List Nat.ℕ) → Typed.Mo T96 → Typed.Mo T98
-  s94 = λ bs. Scalar.n-use T96 (Scalar.oFld 13 ((Syntax.field 1) ∷ []) y0· 48 (Reads.fieldV Finished.the-type Laws''.the-laws 1)) 0 (Rows.sc-here (Row.sInt Syntax.w32)) (Row.sInt Syntax.w32 .of)
+  s94 = λ bs. Scalar.n-use T96 (Scalar.oFld 13 ((Syntax.field 1) ∷ []) y0· 52 (Reads.fieldV Finished.the-type Laws''.the-laws 1)) 0 (Rows.sc-here (Row.sInt Syntax.w32)) (Row.sInt Syntax.w32 .of)
 
   abbrev s95 : (bs : List.List Nat.ℕ) → Typed.Mo T98 → Typed.Mo T99
   s95 = λ bs. Scalar.n-room T98 13 y21·
@@ -2204,7 +2204,7 @@ module _ (claims· : Claims) where
           d27 = Typed.g-pre 𝓤 H A W 𝓣 E G98 G99 b43 Δ0 (Typed.pass T98 T99 (s95 bs)) (at26 bs) (Scalar.g-room 𝓤 H A W E G98 13 y21· (Local.room-whole 𝓤 H A W (Declared.row Finished.the-type) y21· Path'.refl)) d26
 
           d28 : Typed.Typed 𝓤 H A 𝓣 E G97 b44 Δ0 (at28 bs)
-          d28 = Typed.s-seq 𝓤 H A W 𝓣 E G97 G98 b42 b43 Δ0 (Typed.pass T96 T98 (s94 bs)) (at27 bs) (Scalar.t-use 𝓤 H A W E 𝓣 G97 (Scalar.oFld 13 ((Syntax.field 1) ∷ []) y0· 48 (Reads.fieldV Finished.the-type Laws''.the-laws 1)) 0 (Rows.sc-here (Row.sInt Syntax.w32)) y0· (Row.valS (Row.sInt Syntax.w32)) (Row.sInt Syntax.w32 .of) (Reads.reads-field 𝓤 H A W Finished.the-type Laws''.the-laws 1 y0· 48 Path'.refl, Path'.refl) (Reads'.room-gone 𝓤 H A y0·) (Scalar.holds-sc 𝓤 H A W (Row.sInt Syntax.w32)) Path'.refl (λ u. Path'.refl) λ u. tt) d27
+          d28 = Typed.s-seq 𝓤 H A W 𝓣 E G97 G98 b42 b43 Δ0 (Typed.pass T96 T98 (s94 bs)) (at27 bs) (Scalar.t-use 𝓤 H A W E 𝓣 G97 (Scalar.oFld 13 ((Syntax.field 1) ∷ []) y0· 52 (Reads.fieldV Finished.the-type Laws''.the-laws 1)) 0 (Rows.sc-here (Row.sInt Syntax.w32)) y0· (Row.valS (Row.sInt Syntax.w32)) (Row.sInt Syntax.w32 .of) (Reads.reads-field 𝓤 H A W Finished.the-type Laws''.the-laws 1 y0· 52 Path'.refl, Path'.refl) (Reads'.room-gone 𝓤 H A y0·) (Scalar.holds-sc 𝓤 H A W (Row.sInt Syntax.w32)) Path'.refl (λ u. Path'.refl) λ u. tt) d27
 
           d29 : Typed.Typed 𝓤 H A 𝓣 E G96 b44 Δ0 (at29 bs)
           d29 = Typed.g-pre 𝓤 H A W 𝓣 E G96 G97 b44 Δ0 (λ Ψ. Ψ) (at28 bs) (Lifetime.g-forget 𝓤 H A W E G96 19 Row.dead Path'.refl) d28
@@ -2237,7 +2237,7 @@ module _ (claims· : Claims) where
           d38 = Typed.g-pre 𝓤 H A W 𝓣 E G87 G88 b47 Δ0 (λ Ψ. Ψ) (at37 bs) (Lifetime.g-begin 𝓤 H A W E G87 19 (tt, (tt, (tt, (tt, (tt, (tt, (tt, (tt, (tt, (tt, (tt, (tt, (tt, (tt, (tt, (tt, (tt, (tt, (tt, (tt, (tt, (tt, (tt, (tt, (tt, (tt, (tt, (tt, (tt, (tt, (tt, (tt, (tt, (tt, (tt, (tt, (tt, (tt, tt))))))))))))))))))))))))))))))))))))))) d37
 
           d39 : Typed.Typed 𝓤 H A 𝓣 E G86 b48 Δ0 (at39 bs)
-          d39 = Typed.s-seq 𝓤 H A W 𝓣 E G86 G87 b38 b47 Δ0 (Typed.both (s83 bs)) (at38 bs) (WayStmt.t-way-copy-out 𝓤 H A W E 𝓣 (Declared.row CodeBufferFinalized.the-type) Path'.refl (Copies.cStruct CodeBufferFinalized.the-type Laws'.the-laws Laws'.the-copy .copy 𝓤 H A W) (λ ρ. Unit) G86 (Row.out 13 (G86 .locals)) (λ u. Row.drop 13 (G86 .locals) u) (G86 .slots) 13 (λ t. ((Syntax.field 2) ∷ t)) y6· y6· 15 (Rows.whole (Declared.row CodeBufferFinalized.the-type)) (λ x. x) (λ u. At.getAt (Finished.the-type .parts) 2 (Finished.struct .as-values (u .1 .1 .1 .1 .1 .1 .1 .1 .1 .1 .1 .1 .1 .0))) (λ u. (Row.hd 0 (Row.tl (Row.tl (Row.tl (Row.tl (Row.tl (Row.tl (Row.tl (Row.tl (Row.tl (Row.tl (Row.tl (Row.tl (Row.tl bs))))))))))))), Nat._+_ 0 52)) (λ T′. record { locals = Row.setRow 13 r64· T′; slots = G86 .slots }) (λ u T′ m′. Row.set 13 r64· (u .1 .1 .1 .1 .1 .1 .1 .1 .1 .1 .1 .1 .1 .0) T′ m′) (λ u. Unit) (λ x. Unit) (Own.told-none 𝓤 H A (G86 .slots)) (DerefMove.learns-nothing 𝓤 H A (Declared.row CodeBufferFinalized.the-type)) (λ ρ told u asked. Way'.w-partˢ 𝓤 H A W E (Declared.row Finished.the-type) (Declared.row CodeBufferFinalized.the-type) y21· y6· 2 52 (u .1 .1 .1 .1 .1 .1 .1 .1 .1 .1 .1 .1 .1 .0) (At.getAt (Finished.the-type .parts) 2 (Finished.struct .as-values (u .1 .1 .1 .1 .1 .1 .1 .1 .1 .1 .1 .1 .1 .0))) (Row.hd 0 (Row.tl (Row.tl (Row.tl (Row.tl (Row.tl (Row.tl (Row.tl (Row.tl (Row.tl (Row.tl (Row.tl (Row.tl (Row.tl bs))))))))))))), 0) (Way.w-look 𝓤 H A W E (Way.w-local 𝓤 H A W E G86 ρ u (G86 .slots) 13 (Declared.row Finished.the-type) (Rows.whole (Declared.row Finished.the-type)) (λ x. x) (λ x. x) (u .1 .1 .1 .1 .1 .1 .1 .1 .1 .1 .1 .1 .1 .0) (Local.mem-whole 𝓤 H A W (Declared.row Finished.the-type) ρ (u .1 .1 .1 .1 .1 .1 .1 .1 .1 .1 .1 .1 .1 .0) (Row.hd 0 (Row.tl (Row.tl (Row.tl (Row.tl (Row.tl (Row.tl (Row.tl (Row.tl (Row.tl (Row.tl (Row.tl (Row.tl (Row.tl bs))))))))))))))) (Local.whole-mem 𝓤 H A W (Declared.row Finished.the-type) ρ (u .1 .1 .1 .1 .1 .1 .1 .1 .1 .1 .1 .1 .1 .0) (Row.hd 0 (Row.tl (Row.tl (Row.tl (Row.tl (Row.tl (Row.tl (Row.tl (Row.tl (Row.tl (Row.tl (Row.tl (Row.tl (Row.tl bs))))))))))))))))) Path'.refl λ q. Inner.cut-record 𝓤 H A q (Declared.row Finished.the-type) CodeBufferFinalized.the-type 52 (u .1 .1 .1 .1 .1 .1 .1 .1 .1 .1 .1 .1 .1 .0) (u .1 .1 .1 .1 .1 .1 .1 .1 .1 .1 .1 .1 .1 .0) (At.getAt (Finished.the-type .parts) 2 (Finished.struct .as-values (u .1 .1 .1 .1 .1 .1 .1 .1 .1 .1 .1 .1 .1 .0))) (At.getAt (Finished.the-type .parts) 2 (Finished.struct .as-values (u .1 .1 .1 .1 .1 .1 .1 .1 .1 .1 .1 .1 .1 .0))) (Row.hd 0 (Row.tl (Row.tl (Row.tl (Row.tl (Row.tl (Row.tl (Row.tl (Row.tl (Row.tl (Row.tl (Row.tl (Row.tl (Row.tl bs))))))))))))), 0) (Behind.look-at 𝓤 H A W q Finished.the-type Laws''.the-laws 2 52 Path'.refl Path'.refl (Row.hd 0 (Row.tl (Row.tl (Row.tl (Row.tl (Row.tl (Row.tl (Row.tl (Row.tl (Row.tl (Row.tl (Row.tl (Row.tl (Row.tl bs))))))))))))), 0) (u .1 .1 .1 .1 .1 .1 .1 .1 .1 .1 .1 .1 .1 .0) (Finished.struct .as-values (u .1 .1 .1 .1 .1 .1 .1 .1 .1 .1 .1 .1 .1 .0)) Path'.refl)) (Reads'.room-gone 𝓤 H A y6·) (Yields.makes-mem 𝓤 H A W (λ ρ. Unit) (Declared.row CodeBufferFinalized.the-type) Path'.refl (Rows.whole (Declared.row CodeBufferFinalized.the-type)) (λ x. x) λ ρ told. Local.whole-mem 𝓤 H A W (Declared.row CodeBufferFinalized.the-type) ρ) Path'.refl Path'.refl Path'.refl) d38
+          d39 = Typed.s-seq 𝓤 H A W 𝓣 E G86 G87 b38 b47 Δ0 (Typed.both (s83 bs)) (at38 bs) (WayStmt.t-way-copy-out 𝓤 H A W E 𝓣 (Declared.row CodeBufferFinalized.the-type) Path'.refl (Copies.cStruct CodeBufferFinalized.the-type Laws'.the-laws Laws'.the-copy .copy 𝓤 H A W) (λ ρ. Unit) G86 (Row.out 13 (G86 .locals)) (λ u. Row.drop 13 (G86 .locals) u) (G86 .slots) 13 (λ t. ((Syntax.field 2) ∷ t)) y6· y6· 15 (Rows.whole (Declared.row CodeBufferFinalized.the-type)) (λ x. x) (λ u. At.getAt (Finished.the-type .parts) 2 (Finished.struct .as-values (u .1 .1 .1 .1 .1 .1 .1 .1 .1 .1 .1 .1 .1 .0))) (λ u. (Row.hd 0 (Row.tl (Row.tl (Row.tl (Row.tl (Row.tl (Row.tl (Row.tl (Row.tl (Row.tl (Row.tl (Row.tl (Row.tl (Row.tl bs))))))))))))), Nat._+_ 0 56)) (λ T′. record { locals = Row.setRow 13 r64· T′; slots = G86 .slots }) (λ u T′ m′. Row.set 13 r64· (u .1 .1 .1 .1 .1 .1 .1 .1 .1 .1 .1 .1 .1 .0) T′ m′) (λ u. Unit) (λ x. Unit) (Own.told-none 𝓤 H A (G86 .slots)) (DerefMove.learns-nothing 𝓤 H A (Declared.row CodeBufferFinalized.the-type)) (λ ρ told u asked. Way'.w-partˢ 𝓤 H A W E (Declared.row Finished.the-type) (Declared.row CodeBufferFinalized.the-type) y21· y6· 2 56 (u .1 .1 .1 .1 .1 .1 .1 .1 .1 .1 .1 .1 .1 .0) (At.getAt (Finished.the-type .parts) 2 (Finished.struct .as-values (u .1 .1 .1 .1 .1 .1 .1 .1 .1 .1 .1 .1 .1 .0))) (Row.hd 0 (Row.tl (Row.tl (Row.tl (Row.tl (Row.tl (Row.tl (Row.tl (Row.tl (Row.tl (Row.tl (Row.tl (Row.tl (Row.tl bs))))))))))))), 0) (Way.w-look 𝓤 H A W E (Way.w-local 𝓤 H A W E G86 ρ u (G86 .slots) 13 (Declared.row Finished.the-type) (Rows.whole (Declared.row Finished.the-type)) (λ x. x) (λ x. x) (u .1 .1 .1 .1 .1 .1 .1 .1 .1 .1 .1 .1 .1 .0) (Local.mem-whole 𝓤 H A W (Declared.row Finished.the-type) ρ (u .1 .1 .1 .1 .1 .1 .1 .1 .1 .1 .1 .1 .1 .0) (Row.hd 0 (Row.tl (Row.tl (Row.tl (Row.tl (Row.tl (Row.tl (Row.tl (Row.tl (Row.tl (Row.tl (Row.tl (Row.tl (Row.tl bs))))))))))))))) (Local.whole-mem 𝓤 H A W (Declared.row Finished.the-type) ρ (u .1 .1 .1 .1 .1 .1 .1 .1 .1 .1 .1 .1 .1 .0) (Row.hd 0 (Row.tl (Row.tl (Row.tl (Row.tl (Row.tl (Row.tl (Row.tl (Row.tl (Row.tl (Row.tl (Row.tl (Row.tl (Row.tl bs))))))))))))))))) Path'.refl λ q. Inner.cut-record 𝓤 H A q (Declared.row Finished.the-type) CodeBufferFinalized.the-type 56 (u .1 .1 .1 .1 .1 .1 .1 .1 .1 .1 .1 .1 .1 .0) (u .1 .1 .1 .1 .1 .1 .1 .1 .1 .1 .1 .1 .1 .0) (At.getAt (Finished.the-type .parts) 2 (Finished.struct .as-values (u .1 .1 .1 .1 .1 .1 .1 .1 .1 .1 .1 .1 .1 .0))) (At.getAt (Finished.the-type .parts) 2 (Finished.struct .as-values (u .1 .1 .1 .1 .1 .1 .1 .1 .1 .1 .1 .1 .1 .0))) (Row.hd 0 (Row.tl (Row.tl (Row.tl (Row.tl (Row.tl (Row.tl (Row.tl (Row.tl (Row.tl (Row.tl (Row.tl (Row.tl (Row.tl bs))))))))))))), 0) (Behind.look-at 𝓤 H A W q Finished.the-type Laws''.the-laws 2 56 Path'.refl Path'.refl (Row.hd 0 (Row.tl (Row.tl (Row.tl (Row.tl (Row.tl (Row.tl (Row.tl (Row.tl (Row.tl (Row.tl (Row.tl (Row.tl (Row.tl bs))))))))))))), 0) (u .1 .1 .1 .1 .1 .1 .1 .1 .1 .1 .1 .1 .1 .0) (Finished.struct .as-values (u .1 .1 .1 .1 .1 .1 .1 .1 .1 .1 .1 .1 .1 .0)) Path'.refl)) (Reads'.room-gone 𝓤 H A y6·) (Yields.makes-mem 𝓤 H A W (λ ρ. Unit) (Declared.row CodeBufferFinalized.the-type) Path'.refl (Rows.whole (Declared.row CodeBufferFinalized.the-type)) (λ x. x) λ ρ told. Local.whole-mem 𝓤 H A W (Declared.row CodeBufferFinalized.the-type) ρ) Path'.refl Path'.refl Path'.refl) d38
 
           d40 : Typed.Typed 𝓤 H A 𝓣 E G85 b48 Δ0 (at40 bs)
           d40 = Typed.g-pre 𝓤 H A W 𝓣 E G85 G86 b48 Δ0 (λ Ψ. Ψ) (at39 bs) (Lifetime.g-forget 𝓤 H A W E G85 18 Row.dead Path'.refl) d39
@@ -2387,7 +2387,7 @@ module _ (claims· : Claims) where
           d88 = Typed.t-seq 𝓤 H A W 𝓣 E G21 G22 b21 b64 Δ0 (at25 bs) (at87 bs) d25 d87
 
           d89 : Typed.Typed 𝓤 H A 𝓣 E G20 b66 Δ0 (at89 bs)
-          d89 = Typed.s-seq 𝓤 H A W 𝓣 E G20 G21 b8 b65 Δ0 (Typed.ask (s18 bs)) (at88 bs) (Scalar.t-op2 𝓤 H A W E 𝓣 G20 (Syntax.lt Syntax.unsigned) (Scalar.oAt 16 y1· (Row.valS (Row.sInt Syntax.w64))) (Scalar.oInt Syntax.w64 48) 17 (Rows.sc-here Row.sBool) Syntax.tyBool (Row.valS Row.sBool) (Row.sBool .of) (Scalar.reads-sc 𝓤 H A W (Row.sInt Syntax.w64), Path'.refl) tt (Reads'.room-gone 𝓤 H A Syntax.tyBool) (Scalar.holds-sc 𝓤 H A W Row.sBool) Path'.refl (λ u. Path'.refl) λ u. tt) d88
+          d89 = Typed.s-seq 𝓤 H A W 𝓣 E G20 G21 b8 b65 Δ0 (Typed.ask (s18 bs)) (at88 bs) (Scalar.t-op2 𝓤 H A W E 𝓣 G20 (Syntax.lt Syntax.unsigned) (Scalar.oAt 16 y1· (Row.valS (Row.sInt Syntax.w64))) (Scalar.oInt Syntax.w64 52) 17 (Rows.sc-here Row.sBool) Syntax.tyBool (Row.valS Row.sBool) (Row.sBool .of) (Scalar.reads-sc 𝓤 H A W (Row.sInt Syntax.w64), Path'.refl) tt (Reads'.room-gone 𝓤 H A Syntax.tyBool) (Scalar.holds-sc 𝓤 H A W Row.sBool) Path'.refl (λ u. Path'.refl) λ u. tt) d88
 
           d90 : Typed.Typed 𝓤 H A 𝓣 E G15 b67 Δ0 (at90 bs)
           d90 = Typed.s-seq 𝓤 H A W 𝓣 E G15 G20 b7 b66 Δ0 (Typed.pass T15 T20 (s17 bs)) (at89 bs) (Scalar.t-use 𝓤 H A W E 𝓣 G15 (Scalar.oFld 1 ((Syntax.field 1) ∷ []) y1· 8 Shared.lenV) 16 (Rows.sc-here (Row.sInt Syntax.w64)) y1· (Row.valS (Row.sInt Syntax.w64)) (Row.sInt Syntax.w64 .of) (Mut.reads-mslice-len 𝓤 H A W e0· y10· 0 8 Path'.refl, Path'.refl) (Reads'.room-gone 𝓤 H A y1·) (Scalar.holds-sc 𝓤 H A W (Row.sInt Syntax.w64)) Path'.refl (λ u. Path'.refl) λ u. tt) d89
@@ -2643,7 +2643,7 @@ module _ (claims· : Claims) where
 
       module _ (before· : Else1) where
         pub record Then2·own : Type 0 where
-          pub taken : Nat._<_ (Row.get 16 (T20 .locals) (m18 (before· .before))) 48
+          pub taken : Nat._<_ (Row.get 16 (T20 .locals) (m18 (before· .before))) 52
 
       pub record Then2 : Type 0 where
         pub before : Else1
@@ -2728,7 +2728,7 @@ module _ (claims· : Claims) where
 
       module _ (before· : Else1) where
         pub record Else2·own : Type 0 where
-          pub left : Nat._≤_ 48 (Row.get 16 (T20 .locals) (m18 (before· .before)))
+          pub left : Nat._≤_ 52 (Row.get 16 (T20 .locals) (m18 (before· .before)))
 
       pub record Else2 : Type 0 where
         pub before : Else1
@@ -3120,7 +3120,7 @@ module _ (claims· : Claims) where
         lay4 = λ c. λ g. (Path'.refl, (put-record-requires record { before = record { before = c .before; if2 = c .if2 }; put-record-arg = record { given = g } }, λ g'. lay5 record { before = record { before = record { before = c .before; if2 = c .if2 }; put-record-arg = record { given = g } }; put-record = Called.called ps·0 r·0 (claims· .1) T29 (record { pos = 20; ty = Syntax.tyRef Syntax.erased Syntax.mut y2·; ref = λ x. x }, (record { pos = 21; st = List.[]; d = 0; at = λ x. x }, tt)) (m25 record { before = c .before; if2 = c .if2 } g) g' }))
 
         lay3 : (c : Else1) → at90 (c .before .before .before .before .before .before .before .before .before .before .before .before .blocks) (W0 (c .before .before .before .before .before .before .before .before .before .before .before .before .κs) (c .before .before .before .before .before .before .before .before .before .before .before .before .args) (c .before .before .before .before .before .before .before .before .before .before .before .before .blocks)) (m17 (c .before))
-        lay3 = λ c. (tt, (λ taken. lay4 record { before = record { before = c .before; if1 = c .if1 }; if2 = record { taken = Tests.ltb-true (Row.get 16 (T20 .locals) (m18 (c .before))) 48 taken } }, λ left. lay6 record { before = record { before = c .before; if1 = c .if1 }; if2 = record { left = Tests.ltb-false (Row.get 16 (T20 .locals) (m18 (c .before))) 48 left } }))
+        lay3 = λ c. (tt, (λ taken. lay4 record { before = record { before = c .before; if1 = c .if1 }; if2 = record { taken = Tests.ltb-true (Row.get 16 (T20 .locals) (m18 (c .before))) 52 taken } }, λ left. lay6 record { before = record { before = c .before; if1 = c .if1 }; if2 = record { left = Tests.ltb-false (Row.get 16 (T20 .locals) (m18 (c .before))) 52 left } }))
 
         lay2 : (c : Else1) → at4 (c .before .before .before .before .before .before .before .before .before .before .before .before .blocks) (W1 (c .before .before) (c .before .slice-known5 .given)) (m14 (c .before .before) (c .before .slice-known5 .given))
         lay2 = λ c. lay3 record { before = c .before; if1 = c .if1 }
