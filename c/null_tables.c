@@ -52,7 +52,7 @@ static void lend_nothing(void) {
     print_answer("start", wargnifla_start(WARGNIFLA_X64, 0, NULL, 0));
     print_answer("put_bytes", wargnifla_put_bytes(NULL, 0, NULL, 0, NULL, 0));
     print_answer("add_constant", wargnifla_add_constant(NULL, 0, NULL, 0, NULL, 0, &out));
-    print_answer("add_reloc", wargnifla_add_reloc(NULL, 0, NULL, 0, 0, 0, 0, 0));
+    print_answer("add_reloc", wargnifla_add_reloc(NULL, 0, NULL, 0, NULL, 0, 0, 0, 0, 0));
     print_answer("run_sheet", wargnifla_run_sheet(NULL, 0, &out, NULL, 0, NULL, 0, NULL, 0, NULL, 0, NULL, 0, NULL, 0, NULL, 0, NULL, 0, NULL, 0));
     print_answer("finish",
                  wargnifla_finish(NULL, 0, NULL, 0, NULL, 0, NULL, 0, NULL, 0, NULL, 0, NULL, 0, NULL, 0, NULL, 0, NULL, 0, NULL, 0, NULL, 0));

@@ -37,14 +37,16 @@ enum wargnifla_arch {
 };
 
 /* Refusals: what every function returns. Numbers 6, 7, 8, 10, 11 and 12 end a recording, but for 8 at a bind: it then answers every call, finish too,
- * with the first of them and changes nothing else. All others leave it as it was. Where several apply, 1 comes first (but for a table entry that
- * finish finds, which comes after 4), then the recorded one, then the lowest number; 19 to 22 are tried together, use by use. The functions for ELF
- * entries touch no recording and answer in the order that their comments give; 24 to 26 are of wargnifla_write_relas alone. */
+ * with the first of them and changes nothing else. All others leave it as it was. Where several apply, 1 comes first (but for what finish finds by
+ * going through the tables, an unfit entry or a wrong open number, which comes after 4), then the recorded one, then the lowest number; 19 to 22 are
+ * tried together, use by use. The functions for ELF entries touch no recording and answer in the order that their comments give; 24 to 26 are of
+ * wargnifla_write_relas alone. */
 enum wargnifla_refusal {
     WARGNIFLA_ACCEPTED = 0,
     WARGNIFLA_MALFORMED = 1,            /* a sheet's form, a field code above 16 and a relocation kind above 27 too; a count that passes what is lent;
-                                           an architecture or refusal in the counts that can't occur; counts or a record lent too short; at finish, a
-                                           table entry that no recording writes; a finished record, or ELF entries, that break their form */
+                                           an architecture or refusal in the counts that can't occur; an open number above WARGNIFLA_MOST_OPEN; counts
+                                           or a record lent too short; at finish, a table entry that no recording writes, or an open number that the
+                                           tables do not come to; a finished record, or ELF entries, that break their form */
     WARGNIFLA_UNKNOWN_ARCH = 2,         /* start names an architecture other than 1, 2, 6 */
     WARGNIFLA_PAST_LIMIT = 3,           /* a call is lent more than a limit */
     WARGNIFLA_ALREADY_FINISHED = 4,     /* the recording has finished */
@@ -183,9 +185,18 @@ enum wargnifla_elf_type {
 #define WARGNIFLA_MOST_ENTRIES 65536 /* entries of each table, and segments */
 #define WARGNIFLA_MOST_CONSTANT 64   /* bytes of a constant; more answer 10 */
 
-/* The counts of a recording, 12 words. The caller keeps them between calls and lends them to each; a call answers 1 to fewer bytes, before anything
- * else (a finish after a record that is too short), and leaves bytes past them alone. */
-#define WARGNIFLA_COUNTS_BYTES 48
+/* The counts of a recording, 13 words. The caller keeps them between calls and lends them to each; a call answers 1 to fewer bytes, before anything
+ * else (a finish after a record that is too short), and leaves bytes past them alone.
+ *
+ * The last word is the open number: how many uses, refs, jumps and relocations against labels name a label that is not bound. An unknown label, which
+ * a table made by hand can name, counts as not bound; of events those of kind WARGNIFLA_EVENT_JUMP count, on every architecture. What X86 and AArch64
+ * accept unread is not kept and not counted. Every call that is handed the right number hands back the right one, refused calls too: a new entry adds
+ * 1 where its label is not bound, a bind takes away as many as name its label. Another number changes by as much, though never below 0. Any call
+ * answers 1 to one above WARGNIFLA_MOST_OPEN, amid a sheet the call after the one that passed it, and finish to any that the tables do not come to
+ * (wargnifla_count_open). The labels of pooled constants are not bound before finish, so what names them is open until then. A finish that
+ * succeeds leaves 0. */
+#define WARGNIFLA_COUNTS_BYTES 52
+#define WARGNIFLA_MOST_OPEN 262144 /* the entries of four full tables */
 enum wargnifla_count {
     WARGNIFLA_COUNT_ARCH = 0,
     WARGNIFLA_COUNT_SYMBOLS = 1,
@@ -198,7 +209,8 @@ enum wargnifla_count {
     WARGNIFLA_COUNT_REFS = 8,
     WARGNIFLA_COUNT_CONSTANTS = 9,
     WARGNIFLA_COUNT_ASKED = 10,
-    WARGNIFLA_COUNT_RELOCS = 11
+    WARGNIFLA_COUNT_RELOCS = 11,
+    WARGNIFLA_COUNT_OPEN = 12 /* entries that name a label that is not bound */
 };
 
 /* What finish reports, 6 words; it answers 1 to fewer bytes, and then writes nothing.
@@ -268,8 +280,8 @@ uint32_t wargnifla_run_sheet(const uint8_t *sheet, size_t sheet_len, uint32_t *i
                              size_t asked_len, uint8_t *relocs, size_t relocs_len);
 
 /* Finishes a recording: pools its constants behind the code, in the order of asking, and writes the finished code to output and what it reports to
- * record. On success labels and relocations hold final offsets and the counts say finished; output past the finished length is untouched. A refused
- * finish changes neither recording nor output and writes a record of zeros, and another may follow, with more room.
+ * record. On success labels and relocations hold final offsets, and the counts say finished and nothing open; output past the finished length is
+ * untouched. A refused finish changes neither recording nor output and writes a record of zeros, and another may follow, with more room.
  *
  * With a jump, which X64 alone keeps, the code is laid out anew: refs are patched in order, then jumps; uses are not patched. Without one, nothing
  * moves: uses are patched in order; refs are not. So a recorder for X64 that does not know whether a jump will stand records a use and a ref of each
@@ -299,9 +311,9 @@ uint32_t wargnifla_put_bytes(uint8_t *counts, size_t counts_len, uint8_t *code, 
 uint32_t wargnifla_add_constant(uint8_t *counts, size_t counts_len, uint8_t *constants, size_t constants_len, const uint8_t *bytes,
                                 size_t bytes_len, uint32_t *number);
 
-/* A relocation with an addend of 64 bits, two's complement: relocations by 1. Labels are counted, not lent. */
-uint32_t wargnifla_add_reloc(uint8_t *counts, size_t counts_len, uint8_t *relocs, size_t relocs_len, uint32_t offset, uint32_t kind,
-                             uint32_t target, uint64_t addend);
+/* A relocation with an addend of 64 bits, two's complement: relocations by 1. Labels are only read: whether the target is bound. */
+uint32_t wargnifla_add_reloc(uint8_t *counts, size_t counts_len, const uint8_t *labels, size_t labels_len, uint8_t *relocs, size_t relocs_len,
+                             uint32_t offset, uint32_t kind, uint32_t target, uint64_t addend);
 
 /* Relocations for the system linker. */
 
@@ -483,8 +495,8 @@ static inline uint32_t wargnifla_tables_add_constant(wargnifla_tables *tables, c
 }
 
 static inline uint32_t wargnifla_tables_add_reloc(wargnifla_tables *tables, uint32_t offset, uint32_t kind, uint32_t target, int64_t addend) {
-    return wargnifla_add_reloc(tables->counts, sizeof tables->counts, tables->relocs.bytes, tables->relocs.len, offset, kind, target,
-                               (uint64_t)addend);
+    return wargnifla_add_reloc(tables->counts, sizeof tables->counts, tables->labels.bytes, tables->labels.len, tables->relocs.bytes,
+                               tables->relocs.len, offset, kind, target, (uint64_t)addend);
 }
 
 /* Makes one call that takes words. */
@@ -537,6 +549,33 @@ static inline uint32_t wargnifla_tables_constant_label(wargnifla_tables *tables,
 static inline size_t wargnifla_entries(const wargnifla_tables *tables, const wargnifla_table *table, int which, size_t entry_bytes) {
     size_t counted = wargnifla_count_of(tables, which);
     return counted < table->len / entry_bytes ? counted : table->len / entry_bytes;
+}
+
+/* How many entries of a table name, by a word of theirs, a label that is not bound. */
+static inline uint32_t wargnifla_open_entries(const wargnifla_tables *tables, const wargnifla_table *table, int which, size_t entry_bytes, int word) {
+    size_t entries = wargnifla_entries(tables, table, which, entry_bytes), i;
+    uint32_t open = 0;
+    for (i = 0; i < entries; i++) {
+        const uint8_t *entry = table->bytes + entry_bytes * i;
+        uint32_t label = wargnifla_word(entry + 4 * word);
+        int names = 1;
+        if (which == WARGNIFLA_COUNT_EVENTS)
+            names = wargnifla_word(entry) == WARGNIFLA_EVENT_JUMP;
+        if (which == WARGNIFLA_COUNT_RELOCS) {
+            names = label >= WARGNIFLA_LABEL_TARGET;
+            label -= WARGNIFLA_LABEL_TARGET;
+        }
+        open += names && wargnifla_label_offset(tables, label) == WARGNIFLA_NONE;
+    }
+    return open;
+}
+
+/* The open number counted afresh. A recording keeps it in its counts (WARGNIFLA_COUNT_OPEN); tables made by hand are to be given it. */
+static inline uint32_t wargnifla_count_open(const wargnifla_tables *tables) {
+    return wargnifla_open_entries(tables, &tables->uses, WARGNIFLA_COUNT_USES, WARGNIFLA_USE_BYTES, 1) +
+           wargnifla_open_entries(tables, &tables->refs, WARGNIFLA_COUNT_REFS, WARGNIFLA_REF_BYTES, 1) +
+           wargnifla_open_entries(tables, &tables->events, WARGNIFLA_COUNT_EVENTS, WARGNIFLA_EVENT_BYTES, 3) +
+           wargnifla_open_entries(tables, &tables->relocs, WARGNIFLA_COUNT_RELOCS, WARGNIFLA_RELOC_BYTES, 2);
 }
 
 /* By how much an event can be longer than recorded, modulo 2^64: a jump becomes at most 5 bytes long without a condition and 6 with one, an alignment
