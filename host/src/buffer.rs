@@ -139,6 +139,35 @@ impl CodeBuffer {
         self.tables.recording()
     }
 
+    /// How many label uses, refs, jumps and relocations against labels name a label that is not bound. It is kept by the recording, call by call, and
+    /// costs nothing to ask for; after finish it is 0. What X86 and AArch64 accept unread is not kept and not counted.
+    ///
+    /// The label of a constant is bound by finish, so what names it is open until then:
+    ///
+    /// ```
+    /// use wargnifla::{Arch, CodeBuffer, LabelUse};
+    ///
+    /// # fn main() -> Result<(), wargnifla::Error> {
+    /// let mut buffer = CodeBuffer::new(Arch::X64);
+    /// let end = buffer.get_label()?;
+    /// let one = buffer.add_constant(&1f64.to_le_bytes())?;
+    /// let one = buffer.get_label_for_constant(one)?;
+    /// buffer.put_bytes(&[0; 8])?;
+    /// buffer.use_label_at_offset(0, end, LabelUse::X86JmpRel32)?;
+    /// buffer.use_label_at_offset(4, one, LabelUse::X86JmpRel32)?;
+    /// assert_eq!(buffer.open(), 2);
+    /// buffer.try_bind_label(end)?;
+    /// assert_eq!(buffer.open(), 1);
+    /// buffer.finish()?;
+    /// assert_eq!(buffer.open(), 0);
+    /// # Ok(())
+    /// # }
+    /// ```
+    #[must_use]
+    pub fn open(&self) -> u32 {
+        self.tables.counts.open()
+    }
+
     /// Appends a byte.
     ///
     /// # Errors
@@ -546,7 +575,7 @@ impl CodeBuffer {
         }
         let (number, index) = verified::run_sheet(&mut self.tables, sheet);
         if let Ok(sheet) = &read {
-            // A broken form, number 1, is found before any call is made.
+            // A broken form, number 1, is found before any call is made. The other 1 of a sheet is of a wrong number of open entries, and here it is right.
             let made = if number == 1 { 0 } else { index as usize };
             for call in sheet.calls().take(made) {
                 self.note_unread(&call);

@@ -4,6 +4,7 @@ mod calls;
 mod excerpt;
 mod files;
 mod input;
+mod open;
 mod options;
 mod report;
 mod rounds;
@@ -74,14 +75,12 @@ fn run(options: &Options) -> Result<(), Failure> {
     for (symbol, name) in (0..).zip(&input.symbol_names) {
         buffer.name_symbol(Sym::from_id(symbol), name);
     }
-    input.record(&mut buffer)?;
-    let mut recording = buffer.recording();
-    let finished = buffer
-        .finish()
-        .map_err(|error| input.refused_finish(&error, &recording))?;
-    recording.note_alignments(&input.calls);
+    let (recording, finished) = assembled(&input, &mut buffer).or_else(|failure| {
+        show_open(options, &input)?;
+        Err(failure)
+    })?;
     let rounds = reckoned(options, &recording, &finished)?;
-    let text = shown(options, &input, &recording, &finished, &rounds);
+    let text = shown(options, &input, &buffer, &recording, &finished, &rounds);
     let picture = Picture {
         title: &options.title(),
         recording: &recording,
@@ -97,6 +96,29 @@ fn run(options: &Options) -> Result<(), Failure> {
     }
     eprint!("{}", unpatched::notes(&input, &finished));
     Ok(())
+}
+
+/// What was recorded, and what it finishes to.
+fn assembled(
+    input: &Input,
+    buffer: &mut CodeBuffer,
+) -> Result<(Recording, CodeBufferFinalized), Failure> {
+    input.record(buffer)?;
+    let mut recording = buffer.recording();
+    let finished = buffer
+        .finish()
+        .map_err(|error| input.refused_finish(&error, &recording))?;
+    recording.note_alignments(&input.calls);
+    Ok((recording, finished))
+}
+
+/// What was open after each call of a recording that is refused, where that is to be shown.
+fn show_open(options: &Options, input: &Input) -> Result<(), Failure> {
+    if !options.open || options.writes_standard_output() {
+        return Ok(());
+    }
+    let text = open::after_each_call(input, None, options.style().extent);
+    print_text(text.trim_start())
 }
 
 /// The rounds, where they are to be shown.
@@ -118,6 +140,7 @@ fn reckoned(
 fn shown(
     options: &Options,
     input: &Input,
+    buffer: &CodeBuffer,
     recording: &Recording,
     finished: &CodeBufferFinalized,
     rounds: &Rounds,
@@ -126,6 +149,9 @@ fn shown(
     let mut text = listing(recording, finished, style);
     text += &report::labels(recording, finished, style);
     text += &report::relocations(recording, finished, style);
+    if options.open {
+        text += &open::after_each_call(input, Some(buffer.open()), style.extent);
+    }
     if options.rounds {
         text += &RoundsReport::new(input, recording, style).text(rounds.rounds());
     }

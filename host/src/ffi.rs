@@ -87,6 +87,8 @@ unsafe extern "C" {
     pub fn wargnifla_add_reloc(
         counts: *mut u8,
         counts_len: usize,
+        labels: *const u8,
+        labels_len: usize,
         relocs: *mut u8,
         relocs_len: usize,
         offset: u32,

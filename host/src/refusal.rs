@@ -10,7 +10,8 @@ use std::fmt;
 #[derive(Clone, Copy, Debug, PartialEq, Eq, PartialOrd, Ord, Hash)]
 #[non_exhaustive]
 pub enum Refusal {
-    /// A sheet, code or kind breaks its form, as may ELF entries, or finish meets a table entry that no recording writes.
+    /// A sheet, code or kind breaks its form, as may ELF entries; finish meets a table entry that no recording writes; the number of open entries that
+    /// is handed in is wrong, at finish by any amount, else above 262,144.
     Malformed = 1,
     /// Start names an architecture other than 1, 2, 6.
     UnknownArch,

@@ -7,8 +7,11 @@ use crate::recording::{
 };
 use crate::{Arch, Condition, LabelUse, MOST_CODE, MOST_ENTRIES, Reloc};
 
-/// The counts of a recording: 12 words.
-pub(crate) struct Counts(pub [u8; 48]);
+/// The bytes of the counts: 13 words.
+pub(crate) const COUNTS_BYTES: usize = 52;
+
+/// The counts of a recording.
+pub(crate) struct Counts(pub [u8; COUNTS_BYTES]);
 
 impl Counts {
     fn word(&self, index: usize) -> u32 {
@@ -35,6 +38,11 @@ impl Counts {
     /// How many entries of a table the recording counts as its own.
     fn of(&self, table: TableName) -> usize {
         self.word(4 + table as usize) as usize
+    }
+
+    /// How many entries name a label that is not bound.
+    pub fn open(&self) -> u32 {
+        self.word(4 + TableName::COUNT)
     }
 }
 

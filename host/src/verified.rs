@@ -7,7 +7,7 @@
 
 use crate::MOST_ENTRIES;
 use crate::ffi::{self, Segment};
-use crate::tables::{Counts, RELOC_BYTES, Tables};
+use crate::tables::{COUNTS_BYTES, Counts, RELOC_BYTES, Tables};
 
 /// The bytes of an `Elf64_Rela` entry.
 pub(crate) const RELA_BYTES: usize = 24;
@@ -41,7 +41,7 @@ impl Record {
 
 /// Starts a recording; the number of a refusal otherwise.
 pub(crate) fn start(arch: u32, symbols: u32) -> Result<Counts, u32> {
-    let mut counts = [0; 48];
+    let mut counts = [0; COUNTS_BYTES];
     // SAFETY: `counts` is a live array of the length that is passed, borrowed for this call alone.
     let number = unsafe { ffi::wargnifla_start(arch, symbols, counts.as_mut_ptr(), counts.len()) };
     match number {
@@ -176,11 +176,14 @@ pub(crate) fn add_reloc(
     target: u32,
     addend: i64,
 ) -> u32 {
-    // SAFETY: every pointer and length are those of one slice; counts and relocations are distinct places, borrowed mutably.
+    // SAFETY: every pointer and length are those of one slice; counts and relocations are distinct places, borrowed mutably, and the labels, which
+    // are only read, overlap neither.
     unsafe {
         ffi::wargnifla_add_reloc(
             tables.counts.0.as_mut_ptr(),
             tables.counts.0.len(),
+            tables.labels.bytes.as_ptr(),
+            tables.labels.bytes.len(),
             tables.relocs.bytes.as_mut_ptr(),
             tables.relocs.bytes.len(),
             offset,

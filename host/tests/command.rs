@@ -117,7 +117,7 @@ fn symbols_are_shown_by_name() {
     fails(&output, 1, sentence);
     let output = run(&["-"], b"symbols puts\nz 8; o 0 Abs8 put\n");
     let sentence = "standard input:2: finish: number 15, UnboundLabel: \
-                    label put is not bound, and the relocation at 0 names it
+                    label put is not bound, and the relocation at 0 names it, the only entry that is open
     z 8; o 0 Abs8 put
                   ^^^
 note: did you mean 'puts'?";
@@ -278,7 +278,7 @@ fn a_refused_call_names_its_line_and_leaves_no_file() {
 fn a_refused_finish_names_the_line_that_it_goes_back_to() {
     let output = run(&["-"], b"n\nn; l 0\nz 5\nj 0 5 1 # never bound\n");
     let sentence = "standard input:4: finish: number 15, UnboundLabel: \
-                    label 1 is not bound, and the jump at 0 names it
+                    label 1 is not bound, and the jump at 0 names it, the only entry that is open
     j 0 5 1 # never bound
           ^
 standard input:2: note: label 1 is made here, and nothing binds it
@@ -299,7 +299,7 @@ fn a_refused_call_of_a_binary_sheet_names_its_index() {
     let calls = read_text("n; z 13; u 0 0 0").unwrap().calls;
     let output = run(&["-"], &write_sheet(&calls).unwrap());
     let sentence = "standard input: call 3: finish: number 15, UnboundLabel: \
-                    label 0 is not bound, and the use at 0 names it
+                    label 0 is not bound, and the use at 0 names it, the only entry that is open
 standard input: call 0: note: label 0 is made here, and nothing binds it";
     fails(&output, 1, sentence);
 }
@@ -648,7 +648,7 @@ fn refusals_show_the_second_place_that_they_speak_of() {
     );
     note(
         "jmp ende\nend:",
-        "names it\n    jmp ende\n        ^^^^\nnote: did you mean 'end'?",
+        "the only entry that is open\n    jmp ende\n        ^^^^\nnote: did you mean 'end'?",
     );
 }
 
@@ -727,6 +727,98 @@ fn many_rounds_are_cut_unless_all_are_asked_for() {
     assert_eq!(rounds(&brief), 16, "{}", out(&brief));
     assert!(out(&brief).contains("          ... 24 more rounds\n      41  "));
     assert!(out(&brief).contains("settled"), "{}", out(&brief));
+}
+
+#[test]
+fn open_entries_are_counted_after_each_call() {
+    let text =
+        "jmp end\nconstant 07; constant-label 0 seven\nuse 0 seven 0\n2 ( ref 0 end 1 )\nend:\n";
+    let output = run(&["--open", "-"], text.as_bytes());
+    let expected = "
+open
+    line  call              open  statement
+       1  label                0  end
+       1  bytes                0  jmp end
+       1  jump                 1  jmp end
+       2  constant             1  constant 07
+       2  constant-label       1  constant-label 0 seven
+       3  use                  2  use 0 seven 0
+       4  ref                  3  ref 0 end 1
+       4  ref                  4  ref 0 end 1
+       5  bind                 1  end:
+          finish               0
+";
+    assert_eq!(output.status.code(), Some(1), "a ref touches the jump");
+    let expected = expected
+        .trim_start()
+        .trim_end_matches("          finish               0\n");
+    assert_eq!(out(&output), expected);
+    assert!(err(&output).contains("number 17"), "{}", err(&output));
+
+    let text = text.replace("ref 0 end 1", "relocation 0 0 end");
+    let output = run(&["--open", "-"], text.as_bytes());
+    assert_eq!(output.status.code(), Some(0), "{}", err(&output));
+    let shown = out(&output);
+    assert!(
+        shown.contains("       4  relocation           4  relocation 0 0 end\n"),
+        "{shown}"
+    );
+    let ending = "       5  bind                 1  end:\n          finish               0\n\nfinished for X64: ";
+    assert!(shown.contains(ending), "{shown}");
+    let plain = run(&["-"], text.as_bytes());
+    assert!(!out(&plain).contains("open"), "{}", out(&plain));
+}
+
+#[test]
+fn open_entries_are_shown_up_to_a_refusal() {
+    let output = run(&["--open", "-"], b"n; u 0 0 0\nu 4 1 0\nl 0\n");
+    let expected = "open
+    line  call              open  statement
+       1  label                0  n
+       1  use                  1  u 0 0 0
+";
+    assert_eq!(out(&output), expected);
+    assert!(
+        err(&output).contains(":2: use: number 8"),
+        "{}",
+        err(&output)
+    );
+    assert_eq!(output.status.code(), Some(1));
+    let output = run(&["--open", "--write-sheet", "-", "-"], b"n; u 0 0 0");
+    assert_eq!(out(&output), "");
+    assert!(err(&output).contains("number 15"), "{}", err(&output));
+}
+
+#[test]
+fn open_entries_of_a_binary_sheet_are_shown_by_call() {
+    let calls = read_text("n; u 0 0 1; l 0; b 90").unwrap().calls;
+    let mut sheet = write_sheet(&calls).unwrap();
+    let output = run(&["--open", "-"], &sheet);
+    let expected = "open
+    call  name              open
+       0  label                0
+       1  use                  1
+       2  bind                 0
+       3  bytes                0
+          finish               0
+";
+    assert!(out(&output).contains(expected), "{}", out(&output));
+    sheet[4 + 4 + 3 * 16] = 13;
+    let output = run(&["--binary", "--open", "-"], &sheet);
+    assert_eq!(out(&output), "", "no call of it is made");
+    assert!(err(&output).contains("number 1"), "{}", err(&output));
+}
+
+#[test]
+fn many_open_entries_are_cut_unless_all_are_asked_for() {
+    let text = b"n; 100 ( u 0 0 1 ); l 0; b 90";
+    let brief = run(&["--open", "-"], text);
+    let expected = "          ... 86 more\n       1  bytes                0  b 90\n";
+    assert!(out(&brief).contains(expected), "{}", out(&brief));
+    let full = run(&["--open", "--full", "-"], text);
+    let expected =
+        "       1  use                100  u 0 0 1\n       1  bind                 0  l 0\n";
+    assert!(out(&full).contains(expected), "{}", out(&full));
 }
 
 #[test]

@@ -9,13 +9,17 @@ fn stdout(output: &Output) -> String {
     String::from_utf8(output.stdout.clone()).unwrap()
 }
 
-/// What the command prints of a sheet.
+/// What the command prints of a sheet, its rounds too.
 fn shown(sheet: &str) -> String {
+    shown_with("--rounds", sheet)
+}
+
+fn shown_with(option: &str, sheet: &str) -> String {
     let path = Path::new(env!("CARGO_MANIFEST_DIR"))
         .join("../sheets")
         .join(sheet);
     let output = Command::new(env!("CARGO_BIN_EXE_wargnifla"))
-        .arg("--rounds")
+        .arg(option)
         .arg(path)
         .output()
         .unwrap();
@@ -138,6 +142,47 @@ fn a_sheet_with_names() {
             "       1        17        10  end",
         ],
     );
+}
+
+/// What is open after each call of a sheet.
+fn shown_open(sheet: &str) -> String {
+    let text = shown_with("--open", sheet);
+    let (_, after) = text.split_once("\nopen\n").expect("the table's title");
+    let (table, _) = after.split_once("\n\n").expect("the table's end");
+    table.to_owned()
+}
+
+#[test]
+fn a_sheet_of_what_is_still_open() {
+    shows(
+        "still-open.txt",
+        "X64: 40 bytes, alignment 32, layouts 1, long jumps 0 of 1",
+        &["       6  16 00 00 00                 X86JmpRel32: label factor at 32, distance 22"],
+    );
+    let sheet = include_str!("../../sheets/still-open.txt");
+    let table = shown_open("still-open.txt");
+    // Where the sheet's comments have a number, the line's last call leaves it.
+    let commented = (1..).zip(sheet.lines()).filter_map(|(line, text)| {
+        let (_, comment) = text.split_once("# ")?;
+        let digits = comment.split(':').next()?;
+        Some((line, digits.parse::<u32>().ok()?))
+    });
+    let mut found = 0;
+    for (line, number) in commented {
+        let start = format!("{line:>8}  ");
+        let row = table.lines().rfind(|row| row.starts_with(&start)).unwrap();
+        assert_eq!(row[26..32].trim().parse(), Ok(number), "{row}");
+        found += 1;
+    }
+    assert_eq!(found, 5);
+}
+
+#[test]
+fn the_readme_shows_what_is_open() {
+    let start = "    $ wargnifla --open sheets/still-open.txt\n";
+    let expected = readme_between(start, "\nFiles are written");
+    let (_, expected) = expected.split_once("open\n").unwrap();
+    assert_eq!(shown_open("still-open.txt").trim_end(), expected.trim_end());
 }
 
 /// The text between two lines of the README, without what its blocks are indented by.

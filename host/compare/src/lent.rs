@@ -65,7 +65,7 @@ impl Part {
             Self::Refs | Self::Segments => 16,
             Self::Events => 20,
             Self::Relocations | Self::Record | Self::Relas | Self::Entries => 24,
-            Self::Counts => 48,
+            Self::Counts => 52,
             Self::Constants => 72,
         }
     }

@@ -9,7 +9,7 @@ pub mod random;
 
 pub use boundary::{Boundary, Reply};
 pub use lent::{Lent, Part};
-pub use model::{Model, Rules, add_word, code_alignment};
+pub use model::{Model, Rules, add_word, code_alignment, open};
 pub use ours::{Lending, Ours};
 pub use random::Random;
 

@@ -159,12 +159,15 @@ impl Boundary for Ours {
 
     fn add_reloc(&mut self, offset: u32, kind: u32, target: u32, addend: i64) -> Reply {
         let (counts, counts_len) = self.pointer(Part::Counts);
+        let (labels, labels_len) = self.pointer(Part::Labels);
         let (relocs, relocs_len) = self.pointer(Part::Relocations);
         // SAFETY: see `Ours`.
         let refusal = unsafe {
             ffi::wargnifla_add_reloc(
                 counts,
                 counts_len,
+                labels,
+                labels_len,
                 relocs,
                 relocs_len,
                 offset,

@@ -270,6 +270,28 @@ impl Input {
         }
     }
 
+    pub fn is_text(&self) -> bool {
+        matches!(self.source, Source::Text(_))
+    }
+
+    /// Whether the calls are all that the file has: not those of a binary sheet that breaks its form, of which none is made.
+    pub fn is_whole(&self) -> bool {
+        match &self.source {
+            Source::Text(_) => true,
+            Source::Binary(bytes) => {
+                Sheet::read(bytes).is_ok_and(|sheet| sheet.len() == self.calls.len())
+            }
+        }
+    }
+
+    /// The line of each call and the statement there that makes it; of a binary sheet its index alone.
+    pub fn places(&self) -> Vec<(usize, Option<&str>)> {
+        match &self.source {
+            Source::Text(source) => source.lines_and_statements(),
+            Source::Binary(_) => (0..self.calls.len()).map(|call| (call, None)).collect(),
+        }
+    }
+
     /// `line 6`, or `call 3` of a binary sheet.
     pub fn where_is(&self, call: usize) -> String {
         self.where_are(&[call])

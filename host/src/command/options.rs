@@ -18,6 +18,7 @@ Records a sheet of calls, finishes it, and shows the code. FILE is a sheet in te
   --arch x86|x64|aarch64   the architecture, whatever the sheet says (x64 if neither says)
   --symbols N              how many symbols there are, whatever the sheet says (as many as it names if neither says)
   --rounds                 show what each round of relaxation lengthened, and why
+  --open                   show how many entries name a label that is not bound, after each call; where one is refused, too
   --full                   show long runs of bytes, long tables and all rounds whole
   --hex                    show offsets in hexadecimal
   --text, --binary         take FILE for text, or for a binary sheet
@@ -53,6 +54,7 @@ pub struct Options {
     pub arch: Option<Arch>,
     pub symbols: Option<u32>,
     pub rounds: bool,
+    pub open: bool,
     pub full: bool,
     pub hex: bool,
     pub form: Option<Form>,
@@ -145,6 +147,7 @@ pub fn parse(arguments: impl IntoIterator<Item = OsString>) -> Result<Request, S
                 options.symbols = Some(symbols(&value("--symbols", arguments.next())?)?);
             }
             "--rounds" => options.rounds = true,
+            "--open" => options.open = true,
             "--full" => options.full = true,
             "--hex" => options.hex = true,
             "--text" => options.form = Some(Form::Text),
@@ -198,7 +201,7 @@ mod tests {
 
     #[test]
     fn reads_every_option() {
-        let all = "--arch X86 --symbols 3 --rounds --full --hex --text -o out --object object --write-sheet sheet --picture page in";
+        let all = "--arch X86 --symbols 3 --rounds --open --full --hex --text -o out --object object --write-sheet sheet --picture page in";
         let expected = Options {
             file: "in".into(),
             output: Some("out".into()),
@@ -208,6 +211,7 @@ mod tests {
             arch: Some(Arch::X86),
             symbols: Some(3),
             rounds: true,
+            open: true,
             full: true,
             hex: true,
             form: Some(Form::Text),

@@ -32,6 +32,18 @@ impl TextSource {
         line.map_or(Vec::new(), |line| words_in(line, statement))
     }
 
+    /// The line of each call, and the statement there that makes it.
+    pub fn lines_and_statements(&self) -> Vec<(usize, Option<&str>)> {
+        let lines: Vec<&str> = self.text.lines().collect();
+        let calls = (0..self.sources.len()).map(|call| {
+            let place = self.statement(call);
+            let line = lines.get(place.line as usize - 1);
+            let statement = line.and_then(|line| line.get(place.columns()));
+            (place.line as usize, Some(statement.unwrap_or_default()))
+        });
+        calls.collect()
+    }
+
     pub fn word(&self, place: Span) -> &str {
         let line = self.text.lines().nth(place.line as usize - 1);
         let word = line.and_then(|line| line.get(place.columns()));

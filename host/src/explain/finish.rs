@@ -55,10 +55,15 @@ fn too_large_pool(pooled: &Pooled) -> String {
 }
 
 fn unbound_label(recording: &Recording, pooled: &Pooled) -> Found {
-    let (label, what, offset, entry) = naming_labels(recording)
-        .find(|(label, ..)| pooled.labels[label.id() as usize] == UNBOUND)?;
+    let mut open = naming_labels(recording)
+        .filter(|(label, ..)| pooled.labels[label.id() as usize] == UNBOUND);
+    let (label, what, offset, entry) = open.next()?;
+    let others = match open.count() {
+        0 => "the only entry that is open".into(),
+        others => format!("one of {} entries that are open", 1 + others),
+    };
     let sentence = format!(
-        "{} is not bound, and the {what} at {offset} names it",
+        "{} is not bound, and the {what} at {offset} names it, {others}",
         recording.names.text(label)
     );
     Some((sentence, Some(entry)))

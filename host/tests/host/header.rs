@@ -171,6 +171,15 @@ fn limits_and_the_stack_of_finish() {
 }
 
 #[test]
+fn counts() {
+    let number = |name: &str| defined(name).parse::<usize>().expect("a number");
+    let counts = enumerators("wargnifla_count", "WARGNIFLA_COUNT_");
+    assert_eq!(number("WARGNIFLA_COUNTS_BYTES"), 4 * counts.len());
+    assert_eq!(counts.last(), Some(&("OPEN".to_owned(), 12)));
+    assert_eq!(number("WARGNIFLA_MOST_OPEN"), 4 * wargnifla::MOST_ENTRIES);
+}
+
+#[test]
 fn version() {
     let version = env!("CARGO_PKG_VERSION");
     assert_eq!(defined("WARGNIFLA_VERSION"), format!("\"{version}\""));

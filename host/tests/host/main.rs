@@ -7,6 +7,7 @@ mod elf_types;
 mod header;
 mod limits;
 mod listings;
+mod open;
 mod pools;
 mod random;
 mod refusals;

@@ -64,7 +64,7 @@ fn number_1_is_not_hidden_by_a_recorded_refusal() {
 
 #[test]
 fn number_1_counts_lent_too_short() {
-    let mut counts = [0; 47];
+    let mut counts = [0; 51];
     // SAFETY: `counts` is a live array of the length that is passed.
     let number = unsafe { ffi::wargnifla_start(2, 0, counts.as_mut_ptr(), counts.len()) };
     assert_eq!(number, 1);
@@ -82,10 +82,10 @@ fn number_2_an_unknown_architecture() {
 
 #[test]
 fn number_3_code_beyond_the_limit() {
-    let mut counts = [0; 48];
+    let mut counts = [0; 52];
     let mut code = vec![0; wargnifla::MOST_CODE + 1];
     // SAFETY: every pointer and length are those of one slice, and none overlaps another.
-    let put = |counts: &mut [u8; 48], code: &mut [u8]| unsafe {
+    let put = |counts: &mut [u8; 52], code: &mut [u8]| unsafe {
         ffi::wargnifla_put_bytes(
             counts.as_mut_ptr(),
             counts.len(),
@@ -303,6 +303,16 @@ fn number_15_an_unbound_label() {
         Entry::Reloc(1),
     );
     unbound("n; r 8 0 0", "the ref at 8 names it", Entry::Ref(0));
+    unbound(
+        "n; n; u 4 0 0",
+        "the use at 4 names it, the only entry that is open",
+        Entry::Use(0),
+    );
+    unbound(
+        "n; n; l 1; c 07; k 0; u 0 2 0; u 1 1 0; u 4 0 0; r 4 0 0; o 0 0 l0",
+        "the use at 4 names it, one of 3 entries that are open",
+        Entry::Use(2),
+    );
     unbound(
         "n; a 4; z 5; j 0 5 0",
         "the jump at 0 names it",

@@ -1,6 +1,7 @@
 //! The recording calls.
 
 use super::counts::{Counts, is_recorded};
+use super::open::{Change, MOST_OPEN, OpenRules};
 use super::{Refusal, fields};
 use crate::{AARCH64, LABEL_TARGET, Lent, MOST_CODE, NONE, Part, X64};
 
@@ -15,20 +16,37 @@ pub const ALIGNMENT: u32 = 2;
 /// One call on a recording.
 pub type Call<'a> = wargnifla::Call<&'a [u8]>;
 
+/// Entries up to which a recording counts what is open after every call.
+const FEW: usize = 4096;
+
 /// A recording that calls are made on, once 1 to 4 are past.
 pub struct Recording<'a> {
     lent: &'a mut Lent,
     counts: Counts,
+    rules: OpenRules,
+    /// How many entries were open when they were last counted.
+    counted: u32,
+    /// How many calls were made since.
+    waiting: u32,
 }
 
 impl<'a> Recording<'a> {
-    pub fn new(lent: &'a mut Lent, counts: Counts) -> Self {
-        Self { lent, counts }
+    pub fn new(lent: &'a mut Lent, counts: Counts, rules: OpenRules) -> Self {
+        Self {
+            counted: counts.counted(lent, rules),
+            lent,
+            counts,
+            rules,
+            waiting: 0,
+        }
     }
 
     /// Makes a call: its value (0 where it has none), or its refusal, which
     /// is recorded unless document 01 excepts it.
     pub fn make(&mut self, call: &Call<'_>) -> Result<u32, Refusal> {
+        if !(self.rules.stands)(self.counts.open, self.counted) {
+            return Err(1);
+        }
         let result = self.answer(call);
         if let Err(refusal) = result
             && is_recorded(refusal)
@@ -36,8 +54,47 @@ impl<'a> Recording<'a> {
         {
             self.counts.refusal = refusal;
         }
+        self.waiting += 1;
+        let binds = matches!(call, Call::Bind(_)) && result.is_ok();
+        let is_kept = self.counts.arch == X64;
+        let is_unread = !is_kept && matches!(call, Call::Jump { .. } | Call::Ref { .. });
+        if binds || self.counts_each_call() {
+            self.recount(binds, is_unread);
+        }
         self.counts.write(self.lent);
         result
+    }
+
+    /// Counting after every call takes time by the square of a sheet. Only a
+    /// bind makes the count fall, so that the calls of a long recording can
+    /// wait for the next one, or for the last call, unless the number may have
+    /// passed the most.
+    fn counts_each_call(&self) -> bool {
+        let tables = [Part::Uses, Part::Refs, Part::Events, Part::Relocations];
+        let entries: usize = tables.iter().map(|table| self.counts.of(*table)).sum();
+        entries <= FEW || self.counts.open.saturating_add(self.waiting) > MOST_OPEN
+    }
+
+    /// Counts afresh what is open, and changes the number by as much.
+    fn recount(&mut self, binds: bool, is_unread: bool) {
+        let after = self.counts.counted(self.lent, self.rules);
+        self.counts.open = (self.rules.changed)(&Change {
+            open: self.counts.open,
+            before: self.counted,
+            after,
+            binds,
+            is_unread,
+        });
+        self.counted = after;
+        self.waiting = 0;
+    }
+
+    /// After the last call.
+    pub fn end(mut self) {
+        if self.waiting > 0 {
+            self.recount(false, false);
+            self.counts.write(self.lent);
+        }
     }
 
     fn answer(&mut self, call: &Call<'_>) -> Result<u32, Refusal> {

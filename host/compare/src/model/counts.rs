@@ -1,6 +1,7 @@
 //! A recording's counts, and what every call looks at first.
 
 use super::Refusal;
+use super::open::{OpenRules, Tables};
 use crate::{AARCH64, Lent, MOST_CODE, MOST_ENTRIES, Part, X64, X86};
 
 /// The architectures that occur.
@@ -13,7 +14,7 @@ pub fn is_recorded(refusal: Refusal) -> bool {
     [6, 7, 8, 10, 11, 12].contains(&refusal)
 }
 
-/// The twelve words of the counts.
+/// The thirteen words of the counts.
 #[derive(Clone, Copy, Default)]
 pub struct Counts {
     pub arch: u32,
@@ -22,6 +23,8 @@ pub struct Counts {
     pub refusal: u32,
     /// Entries of each table, in the order of [`Part::TABLES`].
     tables: [u32; 8],
+    /// Entries that name a label that is not bound.
+    pub open: u32,
 }
 
 impl Counts {
@@ -38,19 +41,22 @@ impl Counts {
         if lent.room(Part::Counts) == 0 {
             return None;
         }
-        let [arch, symbols, finished, refusal, tables @ ..] = lent.words::<12>(Part::Counts, 0);
+        let [arch, symbols, finished, refusal, tables @ .., open] =
+            lent.words::<13>(Part::Counts, 0);
         Some(Self {
             arch,
             symbols,
             finished,
             refusal,
             tables,
+            open,
         })
     }
 
     pub fn write(&self, lent: &mut Lent) {
         let first = [self.arch, self.symbols, self.finished, self.refusal];
-        lent.set_words(Part::Counts, 0, &[&first[..], &self.tables].concat());
+        let words = [&first[..], &self.tables, &[self.open]].concat();
+        lent.set_words(Part::Counts, 0, &words);
     }
 
     /// The entries of a table.
@@ -70,12 +76,18 @@ impl Counts {
     /// 1, the recorded refusal, 3 or 4: what every call answers before its
     /// own refusals. `tables` are those that it is lent; `within` says that
     /// nothing else lent passes a limit.
-    pub fn standing(&self, lent: &Lent, tables: &[Part], within: bool) -> Result<(), Refusal> {
+    pub fn standing(
+        &self,
+        lent: &Lent,
+        tables: &[Part],
+        within: bool,
+        rules: OpenRules,
+    ) -> Result<(), Refusal> {
         let fit = tables
             .iter()
             .all(|table| self.of(*table) <= lent.room(*table));
         let refusal_occurs = self.refusal == 0 || is_recorded(self.refusal);
-        if !is_arch(self.arch) || !refusal_occurs || !fit {
+        if !is_arch(self.arch) || !refusal_occurs || !fit || !self.open_stands(lent, rules) {
             return Err(1);
         }
         if self.refusal != 0 {
@@ -88,6 +100,15 @@ impl Counts {
             return Err(4);
         }
         Ok(())
+    }
+
+    fn open_stands(&self, lent: &Lent, rules: OpenRules) -> bool {
+        (rules.stands)(self.open, self.counted(lent, rules))
+    }
+
+    /// How many entries of what is lent are open.
+    pub fn counted(&self, lent: &Lent, rules: OpenRules) -> u32 {
+        (rules.counted)(&Tables { lent, counts: self })
     }
 }
 

@@ -2,6 +2,7 @@
 
 use super::assembly::{self, Placed};
 use super::counts::{Counts, passes_limit};
+use super::open::Asked;
 use super::pool::{Event, Field, Pooled};
 use super::{Refusal, Rules, entries, fields};
 use crate::{Lent, NONE, Part};
@@ -29,14 +30,23 @@ struct Finished {
 
 fn attempt(lent: &mut Lent, rules: Rules) -> Result<(), Refusal> {
     let mut counts = Counts::read(lent).ok_or(1u32)?;
+    let counted = counts.counted(lent, rules.open);
+    let is_right = (rules.open.is_right)(counts.open, counted);
+    let ask = |here| match rules.open.asked == here && !is_right {
+        true => Err(1u32),
+        false => Ok(()),
+    };
+    ask(Asked::First)?;
     let within = [Part::Segments, Part::Output];
     let within = !within.iter().any(|part| passes_limit(lent, *part));
-    counts.standing(lent, &Part::TABLES, within)?;
+    counts.standing(lent, &Part::TABLES, within, rules.open)?;
     if !entries::fit(lent, &counts) {
         return Err(1);
     }
+    ask(Asked::AfterEntries)?;
     let pooled = Pooled::new(lent, &counts, rules)?;
-    if !pooled.all_bound() {
+    ask(Asked::AfterPool)?;
+    if (rules.open.remains)(counts.open, pooled.open()) {
         return Err(15);
     }
     let alignment = alignment(lent, &counts, &pooled, rules);
@@ -46,6 +56,7 @@ fn attempt(lent: &mut Lent, rules: Rules) -> Result<(), Refusal> {
         patch_uses(lent, pooled, rules)?
     };
     counts.finished = 1;
+    counts.open = (rules.open.finished)(counts.open);
     counts.write(lent);
     write(lent, &counts, &finished, alignment);
     Ok(())

@@ -11,6 +11,7 @@ mod counts;
 mod entries;
 mod fields;
 mod finish;
+pub mod open;
 mod pool;
 pub mod relas;
 mod rules;
@@ -42,13 +43,16 @@ impl Model {
     fn make_all(&mut self, bytes: &[u8]) -> Result<u32, (Refusal, u32)> {
         let counts = self.counts().map_err(|refusal| (refusal, 0))?;
         let calls = sheet::read(bytes).map_err(|index| (1, index))?;
-        let standing = counts.standing(&self.lent, &Part::TABLES, true);
+        let rules = self.rules.open;
+        let standing = counts.standing(&self.lent, &Part::TABLES, true, rules);
         standing.map_err(|refusal| (refusal, 0))?;
-        let mut recording = Recording::new(&mut self.lent, counts);
-        for (index, call) in (0..).zip(&calls) {
-            recording.make(call).map_err(|refusal| (refusal, index))?;
-        }
-        Ok(calls.len() as u32)
+        let mut recording = Recording::new(&mut self.lent, counts, rules);
+        let made = (0..).zip(&calls).try_for_each(|(index, call)| {
+            let made = recording.make(call);
+            made.map(drop).map_err(|refusal| (refusal, index))
+        });
+        recording.end();
+        made.map(|()| calls.len() as u32)
     }
 
     /// Makes a direct call that is lent the tables named.
@@ -57,8 +61,12 @@ impl Model {
         if !is_well_formed(call) {
             return Err(1);
         }
-        counts.standing(&self.lent, tables, true)?;
-        Recording::new(&mut self.lent, counts).make(call)
+        let rules = self.rules.open;
+        counts.standing(&self.lent, tables, true, rules)?;
+        let mut recording = Recording::new(&mut self.lent, counts, rules);
+        let made = recording.make(call);
+        recording.end();
+        made
     }
 }
 
@@ -111,7 +119,7 @@ impl Boundary for Model {
             target,
             addend,
         };
-        without_value(self.direct(&[Part::Relocations], &call))
+        without_value(self.direct(&[Part::Labels, Part::Relocations], &call))
     }
 
     fn finish(&mut self) -> Reply {

@@ -159,8 +159,8 @@ impl Pooled {
         self.events.iter().any(is_jump)
     }
 
-    /// Every label that is named is bound.
-    pub fn all_bound(&self) -> bool {
+    /// How many entries name a label that is not bound.
+    pub fn open(&self) -> u32 {
         let uses_and_refs = self.uses.iter().chain(&self.refs);
         let targets = self.relocations.iter().map(|relocation| relocation.target);
         let jumps = self.events.iter().filter_map(|event| match event {
@@ -171,7 +171,8 @@ impl Pooled {
             .map(|field| field.label)
             .chain(targets.filter_map(|target| target.checked_sub(LABEL_TARGET)))
             .chain(jumps)
-            .all(|label| self.labels[label as usize] != NONE)
+            .filter(|label| self.labels[*label as usize] == NONE)
+            .count() as u32
     }
 }
 

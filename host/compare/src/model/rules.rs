@@ -2,14 +2,15 @@
 //! a self-test can put wrong rules in the place of these.
 
 use super::fields;
+use super::open::OpenRules;
 use super::relas::{self, Finished, ReaderCheck, Relocation, WriterCheck};
 
 /// The least alignment that a finish reports.
 const LEAST_ALIGNMENT: u32 = 32;
 
 /// Request One, constants for the widest registers; Request Two, relocations
-/// for the system linker; Request Four, ADD fields that already hold something.
-/// Request Three changed no answer.
+/// for the system linker; Request Four, ADD fields that already hold something;
+/// Request Five, what is still open. Request Three changed no answer.
 #[derive(Clone, Copy)]
 pub struct Rules {
     /// The multiple that a constant of a size stands on.
@@ -28,6 +29,8 @@ pub struct Rules {
     /// The word that a use of code 16 leaves, by the word that was there and
     /// the low 12 bits of the target.
     pub add_word: fn(held: u32, low: u32) -> u32,
+    /// How many entries are open, and what follows from the number.
+    pub open: OpenRules,
 }
 
 impl Default for Rules {
@@ -40,6 +43,7 @@ impl Default for Rules {
             reader_checks: &relas::READER_CHECKS,
             taken_back: relas::taken_back,
             add_word,
+            open: OpenRules::default(),
         }
     }
 }

@@ -346,6 +346,26 @@ pub fn chain(jumps: u32) -> Vec<Step> {
     vec![draft.sheet()]
 }
 
+/// 65,536 uses of so many labels, which are then bound.
+pub fn uses_and_binds(count: u32) -> Vec<Step> {
+    let mut random = Random::new(5);
+    let mut draft = Draft::default();
+    for _ in 0..count {
+        draft.label();
+    }
+    for number in 0..MOST_ENTRIES as u32 {
+        draft.calls.push(Call::Use {
+            offset: number * 4,
+            label: random.below(count),
+            code: 0,
+        });
+    }
+    for label in 0..count {
+        draft.bind(label);
+    }
+    vec![draft.sheet()]
+}
+
 /// As many labels as jumps, all of which each jump's recording looks at.
 pub fn labels_and_jumps(count: u32) -> Vec<Step> {
     let mut draft = Draft::default();

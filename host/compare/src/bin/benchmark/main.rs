@@ -1,6 +1,7 @@
 //! Ours against the Rust, in one process and on the same inputs. See
 //! host/compare/README.md for what is timed.
 
+mod editor;
 mod inputs;
 mod library;
 mod measure;

@@ -27,6 +27,9 @@ pub enum Sides {
     Copy,
     /// The C functions for ELF entries, and plain loops.
     Relas(Task),
+    /// The C functions for the calls of an editor, which shows the number of
+    /// open entries that they keep, or counts afresh.
+    Editor,
 }
 
 /// Where the steps of a recording come from.
@@ -114,7 +117,7 @@ impl Row {
 const OWNED: Sides = Sides::Verified(HandOut::Owned);
 const WRAPPER: Sides = Sides::Wrapper(HandOut::Copies);
 
-pub const ROWS: [Row; 40] = [
+pub const ROWS: [Row; 43] = [
     row("jumps-1", "finish: 1 jump", || inputs::small(1)).batched(16),
     row("jumps-10", "finish: 10 jumps", || inputs::small(10)).batched(16),
     row("jumps-20", "finish: 20 jumps", || inputs::small(20)).batched(16),
@@ -257,6 +260,24 @@ pub const ROWS: [Row; 40] = [
         || inputs::labels_and_jumps(8_192),
     )
     .recording(),
+    row(
+        "record-binds",
+        "record: 65,536 uses and 8,192 binds in one sheet",
+        || inputs::uses_and_binds(8_192),
+    )
+    .recording(),
+    row(
+        "editor-typical",
+        "editor: 80 calls, the typical rule; in the Rust's place a loop counts",
+        inputs::typical,
+    )
+    .beside(Sides::Editor),
+    row(
+        "editor-calls",
+        "editor: 80 calls after 65,536; in the Rust's place a loop counts",
+        inputs::calls,
+    )
+    .beside(Sides::Editor),
     row(
         "wrapper-1",
         "wrapper, a rule of 1 jump recorded, finished, dropped",

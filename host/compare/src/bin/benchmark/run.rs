@@ -2,6 +2,7 @@
 
 use std::time::Duration;
 
+use crate::editor::{Editor, Number};
 use crate::inputs::Step;
 use crate::library::{Library, library};
 use crate::measure::{Clock, Effort, Measured, take_turns};
@@ -17,6 +18,7 @@ pub fn measure(row: &Row, effort: Effort) -> Result<(Measured, Option<String>), 
     let mut verified = Verified::new(row.arch, &mut memory);
     let rust = |hand_out| Rust::new(row.arch, row.recordings(), hand_out);
     let measured = match row.sides {
+        Sides::Editor => return Ok((editors(row, effort, &steps), None)),
         Sides::Verified(hand_out) => compare(row, effort, &steps, &mut verified, rust(hand_out)),
         Sides::Wrapper(hand_out) => {
             let mut wrapper = Wrapper::default();
@@ -35,6 +37,15 @@ pub fn measure(row: &Row, effort: Effort) -> Result<(Measured, Option<String>), 
         _ => None,
     };
     Ok((measured, note))
+}
+
+/// Measures two editors, one of which counts afresh what is open.
+fn editors(row: &Row, effort: Effort, steps: &[Step]) -> Measured {
+    let mut memories = [memory(1), memory(1)];
+    let [kept, afresh] = memories.each_mut();
+    let mut kept = Editor::new(Verified::new(row.arch, kept), Number::Kept);
+    let afresh = Editor::new(Verified::new(row.arch, afresh), Number::Afresh);
+    compare(row, effort, steps, &mut kept, afresh)
 }
 
 /// Measures two sides, and sees that they finish to the same code.

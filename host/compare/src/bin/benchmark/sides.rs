@@ -70,6 +70,12 @@ impl<'a> Verified<'a> {
         self.lendings[0].content(part)
     }
 
+    pub fn run_sheet(&mut self, sheet: &[u8]) {
+        for lending in &mut self.lendings {
+            accepted(lending.run_sheet(sheet));
+        }
+    }
+
     pub fn write_relas(&mut self, section: u32) {
         for lending in &mut self.lendings {
             accepted(lending.write_relas(section));

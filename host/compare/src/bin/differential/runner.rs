@@ -8,7 +8,7 @@ use reference::{DEPARTURES, Departure};
 use crate::again;
 use crate::fault::Fault;
 use crate::rust::Rust;
-use crate::scenario::{Scenario, Step};
+use crate::scenario::{Open, Scenario, Step};
 
 /// Where two of the three part.
 #[derive(Debug)]
@@ -118,8 +118,12 @@ impl Runner {
 
     fn step(&mut self, step: &Step, fault: Option<Fault>) -> Result<Reply, String> {
         if let Step::Write { part, at, bytes } = step {
-            write(&mut self.model.lent[*part], *at, bytes);
-            write(self.ours.part_mut(*part).content_mut(), *at, bytes);
+            self.write_by_hand(*part, *at, bytes);
+            return Ok(Reply::default());
+        }
+        if let Step::Open(open) = step {
+            let number = open.number(&self.model.lent);
+            self.write_by_hand(Part::Counts, Open::AT, &number.to_le_bytes());
             return Ok(Reply::default());
         }
         let bytes = step.bytes();
@@ -138,6 +142,12 @@ impl Runner {
             Step::WriteAgain if model.refusal == 0 => self.write_again(),
             _ => Ok(model),
         }
+    }
+
+    /// Writes bytes into what is lent, as far as it reaches.
+    fn write_by_hand(&mut self, part: Part, at: usize, bytes: &[u8]) {
+        write(&mut self.model.lent[part], at, bytes);
+        write(self.ours.part_mut(part).content_mut(), at, bytes);
     }
 
     /// Writes the ELF entries that were read: where they can be relocations,

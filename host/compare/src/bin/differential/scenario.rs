@@ -3,7 +3,7 @@
 use std::borrow::Cow;
 use std::fmt;
 
-use compare::{Boundary, Lent, Part, Random, Reply};
+use compare::{Boundary, Lent, Part, Random, Reply, open};
 use reference::{Call, write_sheet, write_text};
 
 /// The most bytes that a pooled constant takes, with its padding.
@@ -35,6 +35,32 @@ pub enum Step {
         at: usize,
         bytes: Vec<u8>,
     },
+    /// The number of open entries written by hand.
+    Open(Open),
+}
+
+/// A number of open entries that is handed in.
+#[derive(Clone, Copy, Debug)]
+pub enum Open {
+    /// What the tables come to, and so much more, modulo 2^32.
+    Right(u32),
+    Number(u32),
+}
+
+impl Open {
+    /// Where it stands in the counts.
+    pub const AT: usize = 48;
+
+    /// The number, for what is lent.
+    pub fn number(self, lent: &Lent) -> u32 {
+        match self {
+            Self::Right(more) => {
+                let right = open::right_number(lent).unwrap_or_default();
+                right.wrapping_add(more)
+            }
+            Self::Number(number) => number,
+        }
+    }
 }
 
 impl Step {
@@ -53,7 +79,8 @@ impl Step {
             | Self::WriteRelas(_)
             | Self::ReadRelas
             | Self::WriteAgain
-            | Self::Write { .. } => None,
+            | Self::Write { .. }
+            | Self::Open(_) => None,
         }
     }
 
@@ -73,7 +100,7 @@ impl Step {
             Self::Finish => boundary.finish(),
             Self::WriteRelas(section) => boundary.write_relas(*section),
             Self::ReadRelas | Self::WriteAgain => boundary.read_relas(),
-            Self::Write { .. } => Reply::default(),
+            Self::Write { .. } | Self::Open(_) => Reply::default(),
         }
     }
 
@@ -100,13 +127,14 @@ impl Step {
             | Self::WriteRelas(_)
             | Self::ReadRelas
             | Self::WriteAgain
-            | Self::Write { .. } => Cow::Borrowed(&[]),
+            | Self::Write { .. }
+            | Self::Open(_) => Cow::Borrowed(&[]),
         }
     }
 
     /// Whether lent memory is written by hand.
     pub fn is_by_hand(&self) -> bool {
-        matches!(self, Self::Write { .. } | Self::WriteAgain)
+        matches!(self, Self::Write { .. } | Self::WriteAgain | Self::Open(_))
     }
 }
 
@@ -243,6 +271,12 @@ impl fmt::Display for Step {
             Self::Write { part, at, bytes } => {
                 write!(f, "write to {part:?} at byte {at}: {bytes:02X?}")
             }
+            Self::Open(Open::Right(0)) => write!(f, "write the right number of open entries"),
+            Self::Open(Open::Right(more)) => {
+                let more = more.cast_signed();
+                write!(f, "write a number of open entries that is wrong by {more}")
+            }
+            Self::Open(Open::Number(number)) => write!(f, "write {number} open entries"),
             direct => write!(f, "direct: {}", write_text(&direct.calls())),
         }
     }

@@ -2,6 +2,7 @@
 //! against the model even where a departure leaves the Rust aside.
 
 mod elf;
+mod open;
 mod requests;
 
 use compare::{Lent, Part, Reply, Rules};
@@ -59,6 +60,7 @@ pub fn run() -> Findings {
     requests::wrong_pools_are_found(&mut findings);
     requests::wrong_adds_are_found(&mut findings);
     elf::wrong_entries_are_found(&mut findings);
+    open::wrong_numbers_are_found(&mut findings);
     findings
 }
 
@@ -107,7 +109,7 @@ fn against_model(family: &Family, runner: &mut Runner, findings: &mut Findings) 
 /// Something is there that the fault changes.
 fn has_effect(fault: Fault, scenario: &Scenario, step: usize) -> bool {
     match (fault, &scenario.steps[step]) {
-        (_, Step::Write { .. }) => false,
+        (_, Step::Write { .. } | Step::Open(_)) => false,
         (Fault::Content(part), _) => scenario.room.bytes(part) > 0,
         (Fault::Read, step) => step.bytes().is_some(),
         _ => true,

@@ -40,7 +40,7 @@ fn relocation(random: &mut Random) -> Step {
     }
 }
 
-fn direct(random: &mut Random) -> Step {
+pub fn direct(random: &mut Random) -> Step {
     match random.below(4) {
         0 => {
             let count = random.pick(&[0, 1, 13, 100, 127, 128, 300]);

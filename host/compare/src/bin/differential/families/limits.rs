@@ -1,16 +1,19 @@
 //! Lent memory at the limits of document 01, and above them.
 
-use compare::{AARCH64, MOST_CODE, MOST_ENTRIES, Part, Random, X64};
+use compare::{AARCH64, LABEL_TARGET, MOST_CODE, MOST_ENTRIES, Part, Random, X64};
 use reference::Call;
 
+use super::open;
 use crate::scenario::{Scenario, Step};
 
 pub fn scenario(random: &mut Random) -> Scenario {
-    match random.below(8) {
+    match random.below(10) {
         0 => full_code(random),
         1 => full_table(random),
         2 => many_events(random),
         3 => grown_code(random),
+        4 => most_open(random),
+        5 => many_binds(random),
         _ => lent_to_the_limit(random),
     }
 }
@@ -135,6 +138,91 @@ fn full_table(random: &mut Random) -> Scenario {
         scenario.room.set_bytes(part, bytes);
     }
     scenario
+}
+
+/// Four full tables whose entries are all open, or all but one or two: as many
+/// as can be. Then the bind of what most of them name, or one more.
+fn most_open(random: &mut Random) -> Scenario {
+    let (label, code, kind) = (0, 0, 0);
+    let mut calls = vec![Call::NewLabel, Call::NewLabel];
+    for start in (0..).step_by(2).take(MOST_ENTRIES) {
+        let offset = start;
+        calls.push(Call::Bytes((&[0; 2]).into()));
+        calls.push(Call::Jump {
+            start,
+            length: 2,
+            label,
+            condition: 16,
+        });
+        calls.push(Call::Use {
+            offset,
+            label,
+            code,
+        });
+        calls.push(Call::Ref {
+            offset,
+            label,
+            code,
+            addend: 0,
+        });
+        calls.push(Call::Relocation {
+            offset,
+            kind,
+            target: LABEL_TARGET + u32::from(start == 0),
+            addend: 0,
+        });
+    }
+    let fewer = random.below(3) as usize;
+    calls.truncate(calls.len() - fewer);
+    let then = random.pick(&[Some(0), Some(1), None]);
+    let then = then.map_or(Call::NewLabel, Call::Bind);
+    let steps = vec![
+        Step::Sheet(calls),
+        Step::Open(open::number(random)),
+        Step::Sheet(vec![then, Call::NewLabel]),
+        Step::Finish,
+    ];
+    Scenario::new(X64, 0, random.number(), steps)
+}
+
+/// As many uses as there may be, of labels that one sheet binds in any order,
+/// some of them before they are used.
+fn many_binds(random: &mut Random) -> Scenario {
+    const LABELS: u32 = 512;
+    let mut calls = vec![Call::NewLabel; LABELS as usize];
+    for offset in 0..MOST_ENTRIES as u32 {
+        if random.chance(1) {
+            calls.push(Call::Bind(random.below(LABELS)));
+        }
+        calls.push(Call::Use {
+            offset,
+            label: random.below(LABELS),
+            code: 1,
+        });
+    }
+    // Each label once, and a bind that is refused only by chance.
+    let mut bound = [false; LABELS as usize];
+    calls.retain(|call| match call {
+        Call::Bind(label) => !std::mem::replace(&mut bound[*label as usize], true),
+        _ => true,
+    });
+    calls.extend(
+        (0..LABELS)
+            .filter(|label| !bound[*label as usize])
+            .map(Call::Bind),
+    );
+    if random.chance(30) {
+        calls.push(Call::Bind(0));
+    }
+    let middle = random.below(calls.len() as u32) as usize;
+    let after = calls.split_off(middle);
+    let steps = vec![
+        Step::Sheet(calls),
+        Step::Open(open::number(random)),
+        Step::Sheet(after),
+        Step::Finish,
+    ];
+    Scenario::new(X64, 0, random.number(), steps)
 }
 
 /// As many events as the table of segments may have, with a pooled constant

@@ -7,6 +7,7 @@ mod direct;
 mod draft;
 mod limits;
 mod mixed;
+mod open;
 mod parts;
 mod pools;
 mod reaches;
@@ -185,6 +186,13 @@ pub fn all() -> Vec<Family> {
             150_000,
             false,
             tables::scenario,
+        ),
+        Family::random(
+            "open",
+            "wrong numbers of open entries, and entries made by hand",
+            100_000,
+            false,
+            open::scenario,
         ),
         Family::random(
             "odd",

@@ -27,7 +27,7 @@ pub fn scenario(random: &mut Random) -> Scenario {
     Scenario::new(draft.arch, draft.symbols, random.number(), steps)
 }
 
-fn after_finish(random: &mut Random) -> Step {
+pub fn after_finish(random: &mut Random) -> Step {
     match random.below(5) {
         0 => Step::Sheet(Vec::new()),
         1 => Step::Sheet(vec![Call::NewLabel, Call::Bind(0)]),

@@ -4,7 +4,7 @@ use compare::{LABEL_TARGET, NONE, Part, Random};
 use reference::Call;
 
 use super::mixed;
-use crate::scenario::{Room, Scenario, Step};
+use crate::scenario::{Open, Room, Scenario, Step};
 
 /// A recording, words changed in its counts and tables, calls or none, and a
 /// finish.
@@ -15,6 +15,10 @@ pub fn scenario(random: &mut Random) -> Scenario {
     let mut steps = vec![calls];
     for _ in 0..random.pick(&[1, 1, 1, 2, 3]) {
         steps.push(write(random, &filled));
+    }
+    // Else most finishes would get no further than the number.
+    if random.chance(90) {
+        steps.push(Step::Open(Open::Right(0)));
     }
     if random.chance(20) {
         steps.push(Step::Sheet(vec![later_call(random)]));
@@ -40,7 +44,7 @@ fn write(random: &mut Random, filled: &Room) -> Step {
     let entries = filled.bytes(part) / part.entry_bytes();
     let entry = random.below(entries as u32 + 1) as usize;
     let at = match part {
-        Part::Counts => random.below(12) as usize * 4,
+        Part::Counts => random.below(13) as usize * 4,
         Part::Code => entry,
         Part::Constants => entry * 72 + random.below(3) as usize * 4,
         _ => entry * part.entry_bytes() + random.below(part.entry_bytes() as u32) as usize / 4 * 4,
