@@ -52,9 +52,12 @@ fn has_many_binds(kinds: &[u8]) -> bool {
     let mut i: usize = 0;
     while i < kinds.len() {
         found += one_bind(kinds[i]);
+        if FEW_BINDS < found {
+            return true;
+        }
         i += 1;
     }
-    FEW_BINDS < found
+    false
 }
 
 // Whether the open entries may be counted once, after the sheet's calls: the number that is handed in is right. Kept from call to call, each bind would have
