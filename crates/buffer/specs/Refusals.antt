@@ -26,7 +26,8 @@ abbrev pub refusalOccurs : ℕ → Bool
 refusalOccurs n = eqb n 0 || leb refusals.firstRecorded n && leb n refusals.codeFull && not (eqb n refusals.alreadyBound)
 
 -- What every call looks at first. 1: a count handed in passes what is lent, an argument breaks its form (either makes `fit` false), its
--- architecture or refusal can't occur, or "any call answers 1 to one above 262,144" of the entries that are open; the recorded refusal; 3: the call is lent more than a limit (`within` is false); 4: it has finished.
+-- architecture or refusal can't occur, or more than 262,144 entries are said to be open (document 02, Request Five: "any call answers 1 to one above
+-- 262,144"); the recorded refusal; 3: the call is lent more than a limit (`within` is false); 4: it has finished.
 unfoldable pub standing : CodeBuffer → Bool → Bool → ℕ
 standing b fit within =
     first (
