@@ -105,8 +105,13 @@ pub fn record(recording: &Recording, finished: &CodeBufferFinalized) -> String {
         .filter(|(_, event)| matches!(event, LayoutEvent::Jump(_)))
         .filter(|(segment, _)| segment.new_end - segment.new_start > RelaxableJump::SHORT_LEN)
         .count();
+    // Finish leaves nothing open: what was is settled by the labels of pooled constants.
+    let open = match recording.open {
+        0 => String::new(),
+        open => format!(", open until pooled {open}"),
+    };
     format!(
-        "finished for {}: {}, alignment {}, layouts {}, long jumps {long} of {}",
+        "finished for {}: {}, alignment {}, layouts {}, long jumps {long} of {}{open}",
         finished.arch(),
         counted(finished.total_size(), "byte"),
         finished.alignment(),

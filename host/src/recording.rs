@@ -327,6 +327,8 @@ pub struct Recording {
     pub asked: Vec<Constant>,
     /// Relocations.
     pub relocs: Vec<AsmReloc>,
+    /// How many uses, refs, jumps and relocations name a label that is not bound.
+    pub open: u32,
     /// The labels and symbols that have names.
     pub names: Names,
 }
@@ -501,6 +503,7 @@ mod tests {
             constants: vec![constant(4, 1), constant(33, 2), constant(9, 0)],
             asked: [2, 0, 1].map(Constant::from_id).into(),
             relocs: Vec::new(),
+            open: 0,
             names: Names::default(),
         };
         let pooled = recording.pooled();

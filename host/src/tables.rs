@@ -202,6 +202,7 @@ impl Tables {
             constants: self.constants().collect(),
             asked: self.asked().map(Constant::from_id).collect(),
             relocs: self.relocs().collect(),
+            open: self.counts.open(),
             names: self.names.clone(),
         }
     }

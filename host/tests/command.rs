@@ -765,8 +765,11 @@ open
     );
     let ending = "       5  bind                 1  end:\n          finish               0\n\nfinished for X64: ";
     assert!(shown.contains(ending), "{shown}");
+    // Without the option the last line says what pooled constants settled.
     let plain = run(&["-"], text.as_bytes());
-    assert!(!out(&plain).contains("open"), "{}", out(&plain));
+    assert_eq!(out(&plain).matches("open").count(), 1, "{}", out(&plain));
+    let last = "long jumps 0 of 1, open until pooled 1\n";
+    assert!(out(&plain).ends_with(last), "{}", out(&plain));
 }
 
 #[test]

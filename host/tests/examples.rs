@@ -88,7 +88,7 @@ fn sheets_of_fields_and_constants() {
     );
     shows(
         "pooled-constant.txt",
-        "X64: 32 bytes, alignment 32, layouts 1, long jumps 0 of 1",
+        "X64: 32 bytes, alignment 32, layouts 1, long jumps 0 of 1, open until pooled 2",
         &[
             "je short to label 0 at 18",
             "9  0B 00 00 00",
@@ -98,7 +98,7 @@ fn sheets_of_fields_and_constants() {
     );
     shows(
         "wide-constant.txt",
-        "X64: 136 bytes, alignment 64, layouts 1, long jumps 0 of 2",
+        "X64: 136 bytes, alignment 64, layouts 1, long jumps 0 of 2, open until pooled 2",
         &[
             "11  31 00 00 00                 X86JmpRel32: label weights at 64, distance 49",
             "21  67 00 00 00                 X86JmpRel32: label bias at 128, distance 103",
@@ -113,7 +113,7 @@ fn sheets_of_fields_and_constants() {
 fn sheets_for_the_linker() {
     shows(
         "hello.txt",
-        "X64: 46 bytes, alignment 32, layouts 0, long jumps 0 of 0",
+        "X64: 46 bytes, alignment 32, layouts 0, long jumps 0 of 0, open until pooled 1",
         &[
             "       7  X86PCRel4 (R_X86_64_PC32): label .hello, addend -4",
             "      12  X86CallPLTRel4 (R_X86_64_PLT32): symbol puts, addend -4",
@@ -122,7 +122,7 @@ fn sheets_for_the_linker() {
     );
     shows(
         "hello-aarch64.txt",
-        "AArch64: 46 bytes, alignment 32, layouts 0, long jumps 0 of 0",
+        "AArch64: 46 bytes, alignment 32, layouts 0, long jumps 0 of 0, open until pooled 2",
         &[
             "Aarch64AdrPrelPgHi21 (R_AARCH64_ADR_PREL_PG_HI21): label .hello",
             "Aarch64AddAbsLo12Nc (R_AARCH64_ADD_ABS_LO12_NC): label .hello",
@@ -156,7 +156,7 @@ fn shown_open(sheet: &str) -> String {
 fn a_sheet_of_what_is_still_open() {
     shows(
         "still-open.txt",
-        "X64: 40 bytes, alignment 32, layouts 1, long jumps 0 of 1",
+        "X64: 40 bytes, alignment 32, layouts 1, long jumps 0 of 1, open until pooled 1",
         &["       6  16 00 00 00                 X86JmpRel32: label factor at 32, distance 22"],
     );
     let sheet = include_str!("../../sheets/still-open.txt");
