@@ -41,7 +41,7 @@ use Rattle.buffer.specs.Refusals.{
   jumpMalformed,
   jumpUnfit,
 }
-use Rattle.buffer.proofs.Standing.{stands, count-fits}
+use Rattle.buffer.proofs.Standing.{stands}
 use Rattle.buffer.specs.Tables.{mostEntries, mostCode, lastOffset, mostConstant, lastReloc, mostOpen, labelSize, useSize, refSize, relocSize}
 use Rattle.buffer.specs.steps.Count.{NamersFit}
 use Rattle.buffer.specs.State.{none, labelTarget, keepsEvents}
@@ -148,7 +148,6 @@ bind-accepted {b} {labels} {events} {uses} {refs} {relocs} {label} h =
 -- what is lent of the labels beside a table of entries that name them, and of that table
 pub record BesideLabels (b : CodeBuffer) (known room : ℕ) (form : Bool) : Type 0 where
   pub labels : b .labels ≤ known
-  pub labels-few : known ≤ mostEntries
   pub few : room ≤ mostEntries
   pub formed : form ≡ true
   pub few-open : b .unresolved ≤ mostOpen
@@ -161,7 +160,6 @@ beside-labels b known room count form h =
     let limits = both-true (leb known mostEntries) (leb room mostEntries) (s .limited) in
     record {
       labels = leb-true (b .labels) known (fits .0);
-      labels-few = leb-true known mostEntries (limits .0);
       few = leb-true room mostEntries (limits .1);
       formed = both-true (leb count room) form (fits .1) .1;
       few-open = s .few-open;

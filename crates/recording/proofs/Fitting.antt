@@ -19,7 +19,7 @@ use Rattle.buffer.specs.declared.Recorded.{Recorded}
 use Rattle.buffer.specs.declared.Made.{Made}
 use Rattle.buffer.specs.State.{none, withRefusal, withCode, withLabels, withEvents, withUses, withRefs, withAsked, withRelocs, withOpen, refusing, noneMade}
 use Rattle.buffer.specs.Tables.{mostEntries, mostOpen, labelSize, useWords, useSize, refWords, refSize, askedSize, relocWords, relocSize}
-use Rattle.buffer.specs.Refusals.{whyLabel, whyBind, whyAlign, whyUse, whyRef, whyJump, noRoomToAsk, whyReloc}
+use Rattle.buffer.specs.Refusals.{whyLabel, whyAlign, whyUse, whyRef, whyJump, noRoomToAsk, whyReloc}
 use Rattle.buffer.specs.Calls.{padding, putBytes, getLabel, bindLabel, alignedEvents, alignTo, useLabel, recordRef, recordJump, addConstant, askedFirst, constantLabel, addReloc}
 use Rattle.buffer.specs.steps.Count.{NamersFit}
 use Rattle.buffer.proofs.Accepted.{label-accepted, align-accepted, use-accepted, ref-accepted, jump-accepted, reloc-accepted}

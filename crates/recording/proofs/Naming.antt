@@ -5,22 +5,21 @@ use mathlib.Core.Bool.{Bool, true, false, _&&_}
 use mathlib.Core.List.{List, [], _∷_, _++_}
 use Prim.Native.Nat.{ℕ, zero, suc, _+_, _-_, _*_, _≤_, _<_}
 use native.Mathlib.Omega.{arith}
-use borrow.Author.Tests.{eqb-true, eq-eqb, ne-eqb, le-leb, lt-leb}
+use borrow.Author.Tests.{eq-eqb, ne-eqb, le-leb, lt-leb}
 use lib.Dec.{eqb, leb}
-use lib.ListN.{length, getD, set, length-set}
+use lib.ListN.{length, getD, set, List·getD-eq-default}
 use lib.Seq.{getD-set-same, getD-set-other}
 use Rattle.seqs.specs.Pick.{pick}
-use Rattle.seqs.specs.Counting.{one, count, howMany}
+use Rattle.seqs.specs.Counting.{one}
 use Rattle.seqs.proofs.Numbers.{lt-or-ge, eq-or-ne}
-use Rattle.seqs.proofs.Picking.{yes-eq, no-eq, yes-lt, no-lt}
-use Rattle.seqs.proofs.Counting.{count-more, count-le, count-same, count-sum, howMany-same}
+use Rattle.seqs.proofs.Picking.{yes-lt, no-lt}
+use Rattle.seqs.proofs.Counting.{count-more, count-le, count-same, count-sum}
 use Rattle.words.specs.Words.{wordAt}
 use Rattle.relax.specs.declared.LayoutEvent.{LayoutEvent}
 use Rattle.relax.specs.declared.LayoutEvent.the-variants.{Jump, Align}
 use Rattle.relax.specs.Events.{eventOf, eventAt, eventWords, jumpKind, alignmentKind}
 use Rattle.naming.specs.Naming as tables
 use Rattle.naming.specs.steps.Open.{isOpenAt, opensAt, openEntries, openJumps}
-use Rattle.buffer.specs.declared.CodeBuffer.{CodeBuffer}
 use Rattle.buffer.specs.State.{none, labelTarget}
 use Rattle.buffer.specs.Tables.{useWords, refWords, relocWords}
 use Rattle.buffer.specs.Open.{opened, targetOpened, named}
@@ -139,19 +138,13 @@ named-is r label =
       count-entries (jumpNames f) (eventAt (r .events)) (tables.jumpNames (r .events) label) (r .buffer .events) (λ i h. jump-names-at f (r .events) i),
     )
 
--- past the end there is the default
-getD-past : {A : Type 0} (xs : List A) (i : ℕ) (d : A) → length xs ≤ i → getD xs i d ≡ d
-getD-past [] i d h = refl
-getD-past (x ∷ xs) zero d h = absurd (omega arith)
-getD-past (x ∷ xs) (suc i) d h = getD-past xs i d (omega arith)
-
 -- a label is open in the list as in the table
 pub open-at : (labels : List ℕ) (n l : ℕ) → isOpen (entries (wordAt labels) n) l ≡ isOpenAt labels n l
 unfolding isOpenAt
 open-at labels n l =
     ⊎-elim
     (λ lt. rw (getD-entries (wordAt labels) n l none lt, lt-leb n l lt))
-    (λ ge. rw (getD-past (entries (wordAt labels) n) l none (omega (arith, length-entries (wordAt labels) n)), le-leb n l ge))
+    (λ ge. rw (List·getD-eq-default (entries (wordAt labels) n) none {n = l} (omega (arith, length-entries (wordAt labels) n)), le-leb n l ge))
     (lt-or-ge l n)
 
 -- The count over the tables, as the scans make it.

@@ -1,8 +1,8 @@
 -- The number of open entries that a recording keeps: every call changes it by what the tables say.
 use mathlib.Core.Path.{_≡_, refl, sym, ap, _∙_, subst}
-use mathlib.Core.Logic.{_≢_, ⊎-elim}
+use mathlib.Core.Logic.{⊎-elim}
 use mathlib.Core.List.{List, [], _∷_}
-use Prim.Native.Nat.{ℕ, _+_, _-_, _*_, _/_, _<_}
+use Prim.Native.Nat.{ℕ, _+_, _-_, _/_, _<_}
 use native.Mathlib.Omega.{arith}
 use borrow.Author.Tests.{leb-false}
 use lib.Dec.{eqb, leb, ltb}
@@ -18,9 +18,9 @@ use Rattle.relax.specs.Events.{eventOf, eventSize, jumpKind, alignmentKind}
 use Rattle.buffer.specs.declared.CodeBuffer.{CodeBuffer}
 use Rattle.buffer.specs.declared.Recorded.{Recorded}
 use Rattle.buffer.specs.declared.Made.{Made}
-use Rattle.buffer.specs.State.{none, withOpen, withRefusal, refusing}
-use Rattle.buffer.specs.Tables.{labelSize, useSize, refSize, constantSize, askedSize, relocSize}
-use Rattle.buffer.specs.Refusals.{whyBytes, whyLabel, whyBind, whyAlign, whyUse, whyRef, whyJump, noRoomToAsk, whyReloc}
+use Rattle.buffer.specs.State.{none, withRefusal, refusing}
+use Rattle.buffer.specs.Tables.{labelSize, useSize, refSize, askedSize, relocSize}
+use Rattle.buffer.specs.Refusals.{whyLabel, whyBind, whyAlign, whyUse, whyRef, whyJump, noRoomToAsk, whyReloc}
 use Rattle.buffer.specs.Open.{opened, targetOpened, settled}
 use Rattle.buffer.specs.Calls.{started, putBytes, getLabel, bindLabel, alignedEvents, alignTo, useLabel, recordRef, recordJump, addConstant, askedFirst, constantLabel, addReloc}
 use Rattle.buffer.proofs.Accepted.{label-accepted, bind-accepted, use-accepted, ref-accepted, jump-accepted, reloc-accepted, target-label}

@@ -3,7 +3,6 @@ use mathlib.Core.Path.{_≡_, refl, sym, ap, _∙_, subst}
 use mathlib.Core.Bool.{Bool, true, false, _&&_}
 use mathlib.Core.List.{List}
 use Prim.Native.Nat.{ℕ, _+_, _-_, _*_, _/_, _≤_, _<_}
-use native.Mathlib.Omega.{arith}
 use borrow.Author.Tests.{le-leb}
 use lib.Dec.{eqb, leb, ltb}
 use lib.ListN.{length}
@@ -16,7 +15,7 @@ use Rattle.relax.specs.Events.{eventSize}
 use Rattle.buffer.specs.declared.CodeBuffer.{CodeBuffer}
 use Rattle.buffer.specs.declared.Recorded.{Recorded}
 use Rattle.buffer.specs.declared.Made.{Made}
-use Rattle.buffer.specs.State.{keepsEvents, withCode, withOpen, withRefusal, refusing, turnedDown, noneMade, made, none}
+use Rattle.buffer.specs.State.{keepsEvents, withCode, withOpen, refusing, turnedDown, noneMade, made, none}
 use Rattle.buffer.specs.Tables.{mostEntries, mostCode, mostOpen, lastReloc, labelSize, useSize, refSize, constantWords, constantSize, askedSize, relocSize}
 use Rattle.buffer.specs.Refusals.{standing, namersFit, namersWithin, jumpUnfit, targetKnown, whyBytes, whyLabel, whyBind, whyAlign, whyUse, whyRef, whyJump, whyConstant, whyConstantLabel, noRoomToAsk, whyReloc}
 use Rattle.buffer.specs.Calls.{padding, putBytes, getLabel, bindLabel, alignedEvents, alignTo, useLabel, recordRef, recordJump, addConstant, askedFirst, constantLabel, addReloc}

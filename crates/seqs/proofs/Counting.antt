@@ -1,8 +1,8 @@
 -- Laws of `howMany` and `count`.
-use mathlib.Core.Path.{_≡_, refl, sym, ap, _∙_}
+use mathlib.Core.Path.{_≡_, refl}
 use mathlib.Core.Bool.{Bool, true, false, not, _&&_}
 use mathlib.Core.List.{List, [], _∷_, _++_}
-use Prim.Native.Nat.{ℕ, zero, suc, _+_, _≤_, _<_}
+use Prim.Native.Nat.{ℕ, zero, suc, _+_, _≤_}
 use native.Mathlib.Numerals.{add-one}
 use native.Mathlib.Omega.{arith}
 use borrow.Author.Tests.{ne-eqb}
@@ -29,11 +29,6 @@ pub howMany-le : (f : ℕ → Bool) (n : ℕ) → howMany f n ≤ n
 unfolding howMany
 howMany-le f zero = omega arith
 howMany-le f (suc n) = omega (arith, howMany-le f n, one-le (f n))
-
-pub howMany-same : (f g : ℕ → Bool) (n : ℕ) → ((i : ℕ) → i < n → f i ≡ g i) → howMany f n ≡ howMany g n
-unfolding howMany
-howMany-same f g zero h = refl
-howMany-same f g (suc n) h = rw (howMany-same f g n (λ i l. h i (omega arith)), h n (omega arith))
 
 module _ {A : Type 0} where
   pub count-append : (f : A → Bool) (xs ys : List A) → count f (xs ++ ys) ≡ count f xs + count f ys

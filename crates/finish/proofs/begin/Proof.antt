@@ -1,4 +1,4 @@
--- `begin` meets its contract: each return is one case of proofs/Finishing.
+-- `begin` meets its contract: each return is one case of proofs/WholeFinish.
 use mathlib.Core.Path.{sym, _∙_}
 use native.Mathlib.Omega.{arith}
 use borrow.Author.Needs.{needs}

@@ -1,7 +1,6 @@
 -- `going_on` meets its contract.
 use mathlib.Core.Path.{sym}
 use Rattle.seqs.proofs.Picking.{pick-yes, pick-no}
-use borrow.Author.Needs.{needs}
 use Rattle.sheet.proofs.going_on.Statement.{statement}
 use Rattle.sheet.proofs.going_on.Tie as tie
 

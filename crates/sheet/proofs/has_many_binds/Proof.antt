@@ -1,6 +1,5 @@
 -- `has_many_binds` ends, and reads no byte past the kinds.
 use Prim.Native.Nat.{_-_, _≤_}
-use native.Mathlib.Omega.{arith}
 use lib.ListN.{length}
 use borrow.Author.Needs.{needs}
 use Rattle.sheet.proofs.has_many_binds.Statement.{statement}

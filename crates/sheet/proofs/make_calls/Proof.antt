@@ -1,7 +1,5 @@
 -- `make_calls` meets its contract: where the number that was handed in is right, it may be counted at the end.
-use mathlib.Core.Path.{sym, ap, _∙_}
-use mathlib.Core.List.{List}
-use Prim.Native.Nat.{ℕ}
+use mathlib.Core.Path.{ap, _∙_}
 use borrow.Author.Tests.{not-false}
 use Rattle.seqs.specs.Pick.{pick}
 use Rattle.recording.specs.Calls.{Recording}

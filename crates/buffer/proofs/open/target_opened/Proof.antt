@@ -2,7 +2,6 @@
 use native.Mathlib.Omega.{arith}
 use mathlib.Core.Path.{_∙_, sym}
 use Rattle.seqs.proofs.Picking.{yes-lt, no-lt}
-use borrow.Author.Needs.{needs}
 use Rattle.buffer.proofs.open.target_opened.Statement.{statement}
 use Rattle.buffer.proofs.open.target_opened.Tie as tie
 
