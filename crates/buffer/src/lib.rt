@@ -115,7 +115,7 @@ pub fn either(a: bool, b: bool) -> bool
     b
 }
 
-fn arch_occurs(arch: u32) -> bool
+pub fn arch_occurs(arch: u32) -> bool
     ensures { λ r. ⌜ r ≡ archOccurs arch ⌝ }
 {
     if arch == fields::X86 {

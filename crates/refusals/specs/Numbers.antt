@@ -65,11 +65,11 @@ unboundLabel = 15
 abbrev pub tooFewSegments : ℕ
 tooFewSegments = 16
 
--- with a jump, a ref's field passes the pooled code's end, or overlaps an event
+-- with a jump, a ref's field passes the pooled code's end, or overlaps an event; joining, a field that is filled passes its piece's end
 abbrev pub refOverlaps : ℕ
 refOverlaps = 17
 
--- with a jump, a ref can't reach its label plus addend
+-- with a jump, a ref can't reach its label plus addend; joining, a field can't reach its symbol plus addend
 abbrev pub refOutOfReach : ℕ
 refOutOfReach = 18
 
@@ -89,7 +89,7 @@ labelTooFarAhead = 21
 abbrev pub labelTooFarBack : ℕ
 labelTooFarBack = 22
 
--- the finished code exceeds the lent output
+-- the finished code exceeds the lent output; joining, the whole does, or an offset in it exceeds 32 bits
 abbrev pub outputTooSmall : ℕ
 outputTooSmall = 23
 
@@ -104,6 +104,18 @@ addendOverflow = 25
 -- the entries of ELF exceed the lent output
 abbrev pub elfOutputTooSmall : ℕ
 elfOutputTooSmall = 26
+
+-- pieces that are to be joined have different architectures
+abbrev pub architecturesDiffer : ℕ
+architecturesDiffer = 27
+
+-- two definitions have one symbol
+abbrev pub symbolDefinedTwice : ℕ
+symbolDefinedTwice = 28
+
+-- a field is to be filled with a symbol that nothing defines, or an unknown or unbound label
+abbrev pub symbolUndefined : ℕ
+symbolUndefined = 29
 
 -- of what recording calls refuse by, the numbers from here on are recorded, but for a bind's
 abbrev pub firstRecorded : ℕ

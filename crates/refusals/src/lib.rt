@@ -49,10 +49,10 @@ pub const UNBOUND_LABEL: u32 = 15;
 // With a jump, the segment table is short.
 pub const TOO_FEW_SEGMENTS: u32 = 16;
 
-// With a jump, a ref's field passes the pooled code's end, or overlaps an event.
+// With a jump, a ref's field passes the pooled code's end, or overlaps an event; joining, a field that is filled passes its piece's end.
 pub const REF_OVERLAPS: u32 = 17;
 
-// With a jump, a ref can't reach its label plus addend.
+// With a jump, a ref can't reach its label plus addend; joining, a field can't reach its symbol plus addend.
 pub const REF_OUT_OF_REACH: u32 = 18;
 
 // Without a jump, a use's field passes the pooled code's end.
@@ -67,7 +67,7 @@ pub const LABEL_TOO_FAR_AHEAD: u32 = 21;
 // Another use can't reach a label before it.
 pub const LABEL_TOO_FAR_BACK: u32 = 22;
 
-// The finished code exceeds the lent output.
+// The finished code exceeds the lent output; joining, the whole does, or an offset in it exceeds 32 bits.
 pub const OUTPUT_TOO_SMALL: u32 = 23;
 
 // ELF has no type here for a relocation's kind, or none for the architecture.
@@ -78,6 +78,15 @@ pub const ADDEND_OVERFLOW: u32 = 25;
 
 // The entries of ELF exceed the lent output.
 pub const ELF_OUTPUT_TOO_SMALL: u32 = 26;
+
+// Pieces that are to be joined have different architectures.
+pub const ARCHITECTURES_DIFFER: u32 = 27;
+
+// Two definitions have one symbol.
+pub const SYMBOL_DEFINED_TWICE: u32 = 28;
+
+// A field is to be filled with a symbol that nothing defines, or an unknown or unbound label.
+pub const SYMBOL_UNDEFINED: u32 = 29;
 
 // Of what recording calls refuse by, the numbers from here on are recorded, but for a bind's.
 pub const FIRST_RECORDED: u32 = UNSUPPORTED_USE;

@@ -1,0 +1,7 @@
+pub mod Cursors
+pub mod Turns
+pub mod Tables
+pub mod Writing
+pub mod Fits
+pub mod Putting
+pub mod Answers

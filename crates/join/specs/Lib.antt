@@ -1,0 +1,4 @@
+pub mod Pieces
+pub mod Symbols
+pub mod Join
+pub mod steps

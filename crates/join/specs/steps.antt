@@ -1,0 +1,3 @@
+pub mod Within
+pub mod Tables
+pub mod Writes
