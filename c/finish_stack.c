@@ -1,12 +1,12 @@
-/* Measures the stack that finish takes, that recording takes, and that relocations take when they are written and read as ELF: runs them on a stack of
- * their own that was painted before, and looks how far down the paint is gone. The numbers go to standard error. */
+/* Measures the stack that finish takes, that join takes, that recording takes, and that relocations take when they are written and read as ELF: runs
+ * them on a stack of their own that was painted before, and looks how far down the paint is gone. The numbers go to standard error. */
 #define _XOPEN_SOURCE 700
 #include <string.h>
 #include <ucontext.h>
 
 #include "small_tables.h"
 
-enum { STACK = 512 * 1024, PAINT = 0xA5, OTHER_STACK = 8192 };
+enum { STACK = 1024 * 1024, PAINT = 0xA5, OTHER_STACK = 8192, DEFINITIONS = 1024 };
 
 static uint8_t stack[STACK];
 static wargnifla_tables tables;
@@ -41,6 +41,37 @@ static void write_and_read_relas(void) {
     accept("read", wargnifla_read_relas(relas, wargnifla_relas_len(&record), entries, sizeof entries));
 }
 
+/* The recording twice: each calls a symbol that the other defines, and the second defines many more, of small and great numbers. */
+static void join_all(void) {
+    static uint8_t piece[2 * WARGNIFLA_PIECE_BYTES], code[2 * CODE_ROOM], labels[2 * ENTRY_ROOM * WARGNIFLA_LABEL_BYTES];
+    static uint8_t relocs[4 * WARGNIFLA_RELOC_BYTES], definitions[DEFINITIONS * WARGNIFLA_DEFINITION_BYTES];
+    static uint8_t whole[2 * CODE_ROOM], joined_labels[sizeof labels], joined_relocs[sizeof relocs];
+    wargnifla_record finished = record, joined;
+    wargnifla_pieces pieces;
+    uint32_t i;
+    finished.relocs = 2;
+    for (i = 0; i < DEFINITIONS; i++)
+        wargnifla_put_definition(definitions + WARGNIFLA_DEFINITION_BYTES * i, i, 0);
+    wargnifla_put_word(definitions + WARGNIFLA_DEFINITION_BYTES * 2, WARGNIFLA_MOST_ENTRIES - 1);
+    wargnifla_put_word(definitions + WARGNIFLA_DEFINITION_BYTES * 3, WARGNIFLA_LABEL_TARGET - 1);
+    for (i = 0; i < 2; i++) {
+        uint8_t *call = relocs + WARGNIFLA_RELOC_BYTES * (2 * i + 1);
+        wargnifla_put_piece(piece + WARGNIFLA_PIECE_BYTES * i, &finished, i == 0 ? 1 : DEFINITIONS - 1);
+        memcpy(code + finished.length * i, output, finished.length);
+        memcpy(labels + WARGNIFLA_LABEL_BYTES * finished.labels * i, tables.labels.bytes, WARGNIFLA_LABEL_BYTES * finished.labels);
+        memcpy(call - WARGNIFLA_RELOC_BYTES, tables.relocs.bytes, WARGNIFLA_RELOC_BYTES);
+        wargnifla_put_word(call + 4, WARGNIFLA_RELOC_X86CallPLTRel4);
+        wargnifla_put_word(call + 8, 1 - i);
+    }
+    pieces.pieces = lent(piece, sizeof piece);
+    pieces.code = lent(code, sizeof code);
+    pieces.labels = lent(labels, sizeof labels);
+    pieces.relocs = lent(relocs, sizeof relocs);
+    pieces.definitions = lent(definitions, sizeof definitions);
+    accept("join",
+           wargnifla_pieces_join(&pieces, whole, sizeof whole, joined_labels, sizeof joined_labels, joined_relocs, sizeof joined_relocs, &joined));
+}
+
 /* How many bytes of stack a function takes, what it takes in libraries included. */
 static size_t stack_of(void (*function)(void)) {
     size_t untouched = 0;
@@ -57,15 +88,17 @@ static size_t stack_of(void (*function)(void)) {
 }
 
 int main(void) {
-    size_t recording, finish, relas;
+    size_t recording, finish, join, relas;
     tables = small_tables(WARGNIFLA_X64, 0);
     recording = stack_of(record_all);
     finish = stack_of(finish_all);
+    join = stack_of(join_all);
     relas = stack_of(write_and_read_relas);
-    fprintf(stderr, "finish_stack: recording took %u bytes of stack, finish %u, relocations as ELF %u\n", (unsigned)recording, (unsigned)finish,
-            (unsigned)relas);
+    fprintf(stderr, "finish_stack: recording took %u bytes of stack, finish %u, join %u, relocations as ELF %u\n", (unsigned)recording,
+            (unsigned)finish, (unsigned)join, (unsigned)relas);
     puts(recording < OTHER_STACK ? "recording stays below 8 KiB" : "recording takes 8 KiB or more");
     puts(relas < OTHER_STACK ? "relocations as ELF stay below 8 KiB" : "relocations as ELF take 8 KiB or more");
     puts(finish <= WARGNIFLA_FINISH_STACK ? "finish stays within WARGNIFLA_FINISH_STACK" : "finish takes more than WARGNIFLA_FINISH_STACK");
+    puts(join <= WARGNIFLA_JOIN_STACK ? "join stays within WARGNIFLA_JOIN_STACK" : "join takes more than WARGNIFLA_JOIN_STACK");
     return 0;
 }

@@ -1,5 +1,5 @@
-/* Where a length is 0 the pointer may be NULL: tables that nothing is recorded in, bytes, a sheet, segments, an output, ELF entries, and even counts
- * and record, which then are too short. */
+/* Where a length is 0 the pointer may be NULL: tables that nothing is recorded in, bytes, a sheet, segments, an output, ELF entries, what is joined,
+ * and even counts and record, which then are too short. */
 #include <string.h>
 
 #include "small_tables.h"
@@ -47,6 +47,21 @@ static void pool_nothing(void) {
     print_answer("finish with a constant of no bytes", wargnifla_tables_finish(&tables, NULL, 0, NULL, 0, &record));
 }
 
+/* A finished recording of nothing is joined like any other. */
+static void join_nothing(void) {
+    uint8_t piece[WARGNIFLA_PIECE_BYTES];
+    wargnifla_tables tables = no_tables();
+    wargnifla_pieces pieces;
+    wargnifla_record record;
+    memset(&pieces, 0, sizeof pieces);
+    print_answer("join of none", wargnifla_pieces_join(&pieces, NULL, 0, NULL, 0, NULL, 0, &record));
+    accept("finish", wargnifla_tables_finish(&tables, NULL, 0, NULL, 0, &record));
+    wargnifla_put_piece(piece, &record, 0);
+    pieces.pieces = lent(piece, sizeof piece);
+    print_answer("join of a recording of nothing", wargnifla_pieces_join(&pieces, NULL, 0, NULL, 0, NULL, 0, &record));
+    printf("%u bytes\n", (unsigned)record.length);
+}
+
 static void lend_nothing(void) {
     uint32_t out;
     print_answer("start", wargnifla_start(WARGNIFLA_X64, 0, NULL, 0));
@@ -57,12 +72,14 @@ static void lend_nothing(void) {
     print_answer("finish",
                  wargnifla_finish(NULL, 0, NULL, 0, NULL, 0, NULL, 0, NULL, 0, NULL, 0, NULL, 0, NULL, 0, NULL, 0, NULL, 0, NULL, 0, NULL, 0));
     print_answer("write_relas", wargnifla_write_relas(NULL, 0, NULL, 0, NULL, 0, 0, NULL, 0));
+    print_answer("join", wargnifla_join(NULL, 0, NULL, 0, NULL, 0, NULL, 0, NULL, 0, NULL, 0, NULL, 0, NULL, 0, NULL, 0));
 }
 
 int main(void) {
     record_nothing();
     find_no_room();
     pool_nothing();
+    join_nothing();
     lend_nothing();
     return 0;
 }

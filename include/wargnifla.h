@@ -2,8 +2,8 @@
  *
  * A recording is made call by call: bytes, labels, alignments, fields that name labels, jumps, constants, relocations. Finishing it pools its
  * constants, takes every jump for short and lengthens those that then can't reach, round by round, and writes the code. Its relocations can then be
- * written as ELF has them, for the system linker. The eight functions are proved to do what crates/wargnifla/specs/ says; the inline functions at the
- * end of this file are tested.
+ * written as ELF has them, for the system linker. Finished recordings can be joined into one, which fills the calls from one to another. The nine
+ * functions are proved to do what crates/wargnifla/specs/ says; the inline functions at the end of this file are tested.
  *
  * Every function accepts every input and ends. It allocates nothing and keeps nothing: a recording is the counts and the tables that the caller lends
  * to each call. So functions may be called from several threads at a time, as long as no two of the calls are lent the same memory to write, or one
@@ -39,43 +39,52 @@ enum wargnifla_arch {
 /* Refusals: what every function returns. Numbers 6, 7, 8, 10, 11 and 12 end a recording, but for 8 at a bind: it then answers every call, finish too,
  * with the first of them and changes nothing else. All others leave it as it was. Where several apply, 1 comes first (but for what finish finds by
  * going through the tables, an unfit entry or a wrong open number, which comes after 4), then the recorded one, then the lowest number; 19 to 22 are
- * tried together, use by use. The functions for ELF entries touch no recording and answer in the order that their comments give; 24 to 26 are of
- * wargnifla_write_relas alone. */
+ * tried together, use by use. The functions for ELF entries and wargnifla_join touch no recording and answer in the order that their comments give;
+ * 24 to 26 are of wargnifla_write_relas alone, 27 to 29 of wargnifla_join. */
 enum wargnifla_refusal {
     WARGNIFLA_ACCEPTED = 0,
-    WARGNIFLA_MALFORMED = 1,            /* a sheet's form, a field code above 16 and a relocation kind above 27 too; a count that passes what is lent;
-                                           an architecture or refusal in the counts that can't occur; an open number above WARGNIFLA_MOST_OPEN; counts
-                                           or a record lent too short; at finish, a table entry that no recording writes, or an open number that the
-                                           tables do not come to; a finished record, or ELF entries, that break their form */
-    WARGNIFLA_UNKNOWN_ARCH = 2,         /* start names an architecture other than 1, 2, 6 */
-    WARGNIFLA_PAST_LIMIT = 3,           /* a call is lent more than a limit */
-    WARGNIFLA_ALREADY_FINISHED = 4,     /* the recording has finished */
-    WARGNIFLA_BAD_ALIGNMENT = 5,        /* an alignment is no power of two, or exceeds 4,096 */
-    WARGNIFLA_UNSUPPORTED_USE = 6,      /* a use has code 15 */
-    WARGNIFLA_FOREIGN_KIND = 7,         /* a use, ref or relocation has a kind foreign to the architecture */
-    WARGNIFLA_UNKNOWN_NUMBER = 8,       /* a label, constant or symbol number is unknown */
-    WARGNIFLA_ALREADY_BOUND = 9,        /* the label is bound already */
-    WARGNIFLA_BAD_ENTRY = 10,           /* a jump does not end at the current offset, is not 2 to 15 bytes long, has a condition above 16, starts
-                                           before the last event's end, or holds a label strictly inside; a relocation's offset exceeds 16,777,215;
-                                           a constant exceeds 64 bytes */
-    WARGNIFLA_TABLE_FULL = 11,          /* a table that the call must extend is full; the table that ELF entries are read into is short */
-    WARGNIFLA_CODE_FULL = 12,           /* bytes or padding pass the lent code's end */
-    WARGNIFLA_POOL_LABEL_BOUND = 13,    /* from here on at finish: the label of a constant asked for was bound by the caller */
-    WARGNIFLA_POOL_TOO_LARGE = 14,      /* code with pool exceeds 16,777,216 bytes */
-    WARGNIFLA_UNBOUND_LABEL = 15,       /* a use, ref, jump or a relocation against a label names an unbound one */
-    WARGNIFLA_TOO_FEW_SEGMENTS = 16,    /* with a jump, fewer segments are lent than there are events and constants asked for */
-    WARGNIFLA_REF_OVERLAPS = 17,        /* with a jump, a ref's field passes the end of the code with its pool, or starts before an event's end and
-                                           ends after that event's start (events of length 0 and the pool's alignments too) */
-    WARGNIFLA_REF_OUT_OF_REACH = 18,    /* with a jump, a ref can't reach its label plus addend */
-    WARGNIFLA_USE_PAST_END = 19,        /* without a jump, a use's field passes the end of the code with its pool */
-    WARGNIFLA_BRANCH_OUT_OF_REACH = 20, /* without a jump, a use of code 9, 10 or 11 can't reach its label */
-    WARGNIFLA_LABEL_TOO_FAR_AHEAD = 21, /* without a jump, another use can't reach a label at or after it */
-    WARGNIFLA_LABEL_TOO_FAR_BACK = 22,  /* without a jump, another use can't reach a label before it */
-    WARGNIFLA_OUTPUT_TOO_SMALL = 23,    /* the finished code exceeds the lent output */
-    WARGNIFLA_NO_ELF_TYPE = 24,         /* from here on where relocations are written as ELF: the architecture is neither X64 nor AArch64, or a
-                                           relocation's kind has no ELF type there (enum wargnifla_elf_type) */
-    WARGNIFLA_ADDEND_OVERFLOW = 25,     /* a relocation's addend and its label's offset add up to more than 2^63 - 1 */
-    WARGNIFLA_ELF_OUTPUT_TOO_SMALL = 26 /* the ELF entries exceed the lent output */
+    WARGNIFLA_MALFORMED = 1,             /* a sheet's form, a field code above 16 and a relocation kind above 27 too; a count that passes what is
+                                            lent; an architecture or refusal in the counts that can't occur; an open number that exceeds
+                                            the most (WARGNIFLA_MOST_OPEN); counts or a record lent too short; at finish, a table entry that no
+                                            recording writes, or an open number that the tables do not come to; a finished record, ELF entries, or
+                                            pieces to be joined that break their form */
+    WARGNIFLA_UNKNOWN_ARCH = 2,          /* start names an architecture other than 1, 2, 6 */
+    WARGNIFLA_PAST_LIMIT = 3,            /* a call is lent more than a limit; a piece that is to be joined exceeds one */
+    WARGNIFLA_ALREADY_FINISHED = 4,      /* the recording has finished */
+    WARGNIFLA_BAD_ALIGNMENT = 5,         /* an alignment is no power of two, or exceeds 4,096 */
+    WARGNIFLA_UNSUPPORTED_USE = 6,       /* a use has code 15 */
+    WARGNIFLA_FOREIGN_KIND = 7,          /* a use, ref or relocation has a kind foreign to the architecture */
+    WARGNIFLA_UNKNOWN_NUMBER = 8,        /* a label, constant or symbol number is unknown */
+    WARGNIFLA_ALREADY_BOUND = 9,         /* the label is bound already */
+    WARGNIFLA_BAD_ENTRY = 10,            /* a jump does not end at the current offset, is not 2 to 15 bytes long, has a condition above 16, starts
+                                            before the last event's end, or holds a label strictly inside; a relocation's offset exceeds 16,777,215;
+                                            a constant exceeds 64 bytes */
+    WARGNIFLA_TABLE_FULL = 11,           /* a table that the call must extend is full; the table that ELF entries are read into, or that labels or
+                                            relocations are joined into, is short */
+    WARGNIFLA_CODE_FULL = 12,            /* bytes or padding pass the lent code's end */
+    WARGNIFLA_POOL_LABEL_BOUND = 13,     /* from here on at finish: the label of a constant asked for was bound by the caller */
+    WARGNIFLA_POOL_TOO_LARGE = 14,       /* code with pool exceeds 16,777,216 bytes */
+    WARGNIFLA_UNBOUND_LABEL = 15,        /* a use, ref, jump or a relocation against a label names an unbound one */
+    WARGNIFLA_TOO_FEW_SEGMENTS = 16,     /* with a jump, fewer segments are lent than there are events and constants asked for */
+    WARGNIFLA_REF_OVERLAPS = 17,         /* with a jump, a ref's field passes the end of the code with its pool, or starts before an event's end and
+                                            ends after that event's start (events of length 0 and the pool's alignments too); of a join, a field that
+                                            is to be filled passes its piece's end */
+    WARGNIFLA_REF_OUT_OF_REACH = 18,     /* with a jump, a ref can't reach its label plus addend; of a join, a field can't reach its symbol plus
+                                            addend */
+    WARGNIFLA_USE_PAST_END = 19,         /* without a jump, a use's field passes the end of the code with its pool */
+    WARGNIFLA_BRANCH_OUT_OF_REACH = 20,  /* without a jump, a use of code 9, 10 or 11 can't reach its label */
+    WARGNIFLA_LABEL_TOO_FAR_AHEAD = 21,  /* without a jump, another use can't reach a label at or after it */
+    WARGNIFLA_LABEL_TOO_FAR_BACK = 22,   /* without a jump, another use can't reach a label before it */
+    WARGNIFLA_OUTPUT_TOO_SMALL = 23,     /* the finished or joined code exceeds the lent output; of a join, the whole or what moves with it passes
+                                            4,294,967,294 */
+    WARGNIFLA_NO_ELF_TYPE = 24,          /* from here on where relocations are written as ELF: the architecture is neither X64 nor AArch64, or a
+                                            relocation's kind has no ELF type there (enum wargnifla_elf_type) */
+    WARGNIFLA_ADDEND_OVERFLOW = 25,      /* a relocation's addend and its label's offset add up to more than 2^63 - 1 */
+    WARGNIFLA_ELF_OUTPUT_TOO_SMALL = 26, /* the ELF entries exceed the lent output */
+    WARGNIFLA_ARCHITECTURES_DIFFER = 27, /* from here on where finished recordings are joined: two have different architectures */
+    WARGNIFLA_SYMBOL_DEFINED_TWICE = 28, /* two definitions have one symbol */
+    WARGNIFLA_SYMBOL_UNDEFINED = 29      /* a field is to be filled for a symbol that is defined nowhere, or by a label that is unknown or not
+                                            bound */
 };
 
 /* The kinds of call that a sheet makes. Beside each: its arguments, and what it extends. On X86 and AArch64 refs and jumps are accepted unread and
@@ -184,6 +193,7 @@ enum wargnifla_elf_type {
 #define WARGNIFLA_MOST_CODE 16777216 /* bytes of code, and of output */
 #define WARGNIFLA_MOST_ENTRIES 65536 /* entries of each table, and segments */
 #define WARGNIFLA_MOST_CONSTANT 64   /* bytes of a constant; more answer 10 */
+#define WARGNIFLA_MOST_PIECES 256    /* finished recordings that are joined; more answer 1 */
 
 /* The counts of a recording, 13 words. The caller keeps them between calls and lends them to each; a call answers 1 to fewer bytes, before anything
  * else (a finish after a record that is too short), and leaves bytes past them alone.
@@ -251,6 +261,11 @@ enum wargnifla_count {
 /* An Elf64_Rela entry: r_offset (two words, the second 0), r_info (two words, the type and the symbol), r_addend (two words, signed). */
 #define WARGNIFLA_RELA_BYTES 24
 
+/* What is joined: a piece's entry is the 6 words of its record and the number of its definitions; a definition is a symbol, and the label of its
+ * piece that defines it. */
+#define WARGNIFLA_PIECE_BYTES 28
+#define WARGNIFLA_DEFINITION_BYTES 8
+
 enum wargnifla_event {
     WARGNIFLA_EVENT_JUMP = 1,
     WARGNIFLA_EVENT_ALIGNMENT = 2
@@ -299,8 +314,9 @@ uint32_t wargnifla_finish(uint8_t *counts, size_t counts_len, const uint8_t *cod
                           uint8_t *record, size_t record_len);
 
 /* Bytes of stack that are enough for finish: c/finish_stack.c measures some 132,000, and 4,096 more are for a memcpy or memset that the dynamic
- * linker looks up at its first call. Less than 8,192 are enough for each of the others. */
+ * linker looks up at its first call. The second number is for wargnifla_join. Less than 8,192 are enough for each of the others. */
 #define WARGNIFLA_FINISH_STACK 139264
+#define WARGNIFLA_JOIN_STACK 532480
 
 /* Three calls that a sheet carries only in part. */
 
@@ -344,6 +360,44 @@ uint32_t wargnifla_write_relas(const uint8_t *record, size_t record_len, const u
  */
 uint32_t wargnifla_read_relas(const uint8_t *relas, size_t relas_len, uint8_t *entries, size_t entries_len);
 
+/* Finished recordings as one. */
+
+/* Joins 1 to 256 finished recordings, the pieces, of one architecture. pieces has an entry for each, and whole entries count; code, labels and relocs
+ * have what finish left of each, and definitions the definitions of each, one piece's behind the other's. What is lent past the pieces' counts is not
+ * read, and has no limit; each piece has.
+ *
+ * A piece starts at its base: the least multiple of its record's alignment, on AArch64 of 4,096 instead, at or after the end of the piece before it;
+ * the first at 0. Gaps are zero. Labels are numbered on from piece to piece, and bound ones move by their piece's base. All pieces share the numbers
+ * of symbols.
+ *
+ * On X64 a relocation to a symbol of kind X86PCRel4, X86CallPCRel4 or X86CallPLTRel4 is filled: its 4 bytes become the offset of the symbol's label,
+ * plus its addend, less its own offset, all in the whole. This is done in the order of pieces and relocations, a later field over an earlier. Every
+ * other relocation, of whatever kind, remains: it moves by its piece's base, and a label that it names has the label's new number. So all remain on
+ * X86 and AArch64.
+ *
+ * On success output has the whole, joined_labels all labels, joined_relocs the relocations that remain, and record the architecture, the whole's
+ * length, the greatest alignment of a piece, 0 layouts, all labels and the relocations that remain; bytes past these are untouched. So the whole may
+ * be written as ELF, or be joined again, where it is within the limits. A refused call leaves output and tables as they were and writes a record of
+ * zeros. It answers, in this order, each over all pieces before the next:
+ *
+ *   1    the record is lent too short, and then nothing is written; there is no piece, or there are more than WARGNIFLA_MOST_PIECES; a piece's
+ *        architecture is none of 1, 2, 6, or its alignment neither 32 nor 64; the pieces' counts add up to more than is lent; a relocation, any of
+ *        them, names a label that its piece does not have
+ *   3    a piece has more than WARGNIFLA_MOST_CODE bytes, or more than WARGNIFLA_MOST_ENTRIES labels, relocations or definitions
+ *   27   a piece has another architecture than the first
+ *   28   two definitions, of one piece or of two, have one symbol, whatever their labels are, and whether it is needed or not
+ *   29   a field is to be filled for a symbol that has no definition, or one by a label that its piece does not have or that is not bound; where no
+ *        field needs a definition, its label is not looked at
+ *   11   joined_labels is shorter than all labels need, or joined_relocs than the relocations that remain
+ *   17   a field that is to be filled passes its piece's end
+ *   18   what a field is to be filled with passes signed 32 bits
+ *   23   output is shorter than the whole; or the whole's end, a bound label or a relocation that remains comes to stand past 4,294,967,294
+ */
+uint32_t wargnifla_join(const uint8_t *pieces, size_t pieces_len, const uint8_t *code, size_t code_len, const uint8_t *labels, size_t labels_len,
+                        const uint8_t *relocs, size_t relocs_len, const uint8_t *definitions, size_t definitions_len, uint8_t *output,
+                        size_t output_len, uint8_t *joined_labels, size_t joined_labels_len, uint8_t *joined_relocs, size_t joined_relocs_len,
+                        uint8_t *record, size_t record_len);
+
 /* How long the finished code can be, from numbers known when memory is set aside. A jump gains at most 4 bytes, an alignment 4,095, and a constant
  * that is asked for takes at most WARGNIFLA_MOST_POOLED, its 64 bytes and 63 of padding. Where finish answers 0 the code is never longer than
  * WARGNIFLA_MOST_CODE, since no longer output may be lent. */
@@ -366,12 +420,17 @@ typedef struct {
     wargnifla_table code, labels, events, uses, refs, constants, asked, relocs;
 } wargnifla_tables;
 
-/* What finish reports. */
+/* Finished recordings to be joined: what wargnifla_join is lent of them, one's behind the other's. All zeros is none. */
+typedef struct {
+    wargnifla_table pieces, code, labels, relocs, definitions;
+} wargnifla_pieces;
+
+/* What finish reports, and join of the whole. */
 typedef struct {
     uint32_t arch;
     uint32_t length;    /* bytes of finished code */
     uint32_t alignment; /* what the code is to be loaded on a multiple of: 32 or 64 */
-    uint32_t layouts;   /* rounds of relaxation; 0 without a jump */
+    uint32_t layouts;   /* rounds of relaxation; 0 without a jump, and of a whole */
     uint32_t labels;
     uint32_t relocs;
 } wargnifla_record;
@@ -386,6 +445,27 @@ static inline void wargnifla_put_word(uint8_t *bytes, uint32_t word) {
         bytes[i] = (uint8_t)(word >> 8 * i);
 }
 
+/* What a record of WARGNIFLA_RECORD_BYTES says. */
+static inline wargnifla_record wargnifla_record_of(const uint8_t *words) {
+    wargnifla_record record;
+    record.arch = wargnifla_word(words);
+    record.length = wargnifla_word(words + 4);
+    record.alignment = wargnifla_word(words + 8);
+    record.layouts = wargnifla_word(words + 12);
+    record.labels = wargnifla_word(words + 16);
+    record.relocs = wargnifla_word(words + 20);
+    return record;
+}
+
+static inline void wargnifla_put_record(uint8_t *words, const wargnifla_record *record) {
+    wargnifla_put_word(words, record->arch);
+    wargnifla_put_word(words + 4, record->length);
+    wargnifla_put_word(words + 8, record->alignment);
+    wargnifla_put_word(words + 12, record->layouts);
+    wargnifla_put_word(words + 16, record->labels);
+    wargnifla_put_word(words + 20, record->relocs);
+}
+
 /* The name of a refusal, as it stands in enum wargnifla_refusal after WARGNIFLA_. */
 static inline const char *wargnifla_refusal_name(uint32_t refusal) {
     static const char *const names[] = {
@@ -393,7 +473,7 @@ static inline const char *wargnifla_refusal_name(uint32_t refusal) {
         "UNSUPPORTED_USE", "FOREIGN_KIND",     "UNKNOWN_NUMBER",     "ALREADY_BOUND",       "BAD_ENTRY",          "TABLE_FULL",
         "CODE_FULL",       "POOL_LABEL_BOUND", "POOL_TOO_LARGE",     "UNBOUND_LABEL",       "TOO_FEW_SEGMENTS",   "REF_OVERLAPS",
         "REF_OUT_OF_REACH", "USE_PAST_END",    "BRANCH_OUT_OF_REACH", "LABEL_TOO_FAR_AHEAD", "LABEL_TOO_FAR_BACK", "OUTPUT_TOO_SMALL",
-        "NO_ELF_TYPE",     "ADDEND_OVERFLOW",  "ELF_OUTPUT_TOO_SMALL",
+        "NO_ELF_TYPE",     "ADDEND_OVERFLOW",  "ELF_OUTPUT_TOO_SMALL", "ARCHITECTURES_DIFFER", "SYMBOL_DEFINED_TWICE", "SYMBOL_UNDEFINED",
     };
     return refusal < sizeof names / sizeof *names ? names[refusal] : "UNKNOWN";
 }
@@ -461,12 +541,7 @@ static inline uint32_t wargnifla_tables_finish(wargnifla_tables *tables, wargnif
                          tables->events.bytes, tables->events.len, tables->uses.bytes, tables->uses.len, tables->refs.bytes, tables->refs.len,
                          tables->constants.bytes, tables->constants.len, tables->asked.bytes, tables->asked.len, tables->relocs.bytes,
                          tables->relocs.len, segments, segments_len, output, output_len, words, sizeof words);
-    record->arch = wargnifla_word(words);
-    record->length = wargnifla_word(words + 4);
-    record->alignment = wargnifla_word(words + 8);
-    record->layouts = wargnifla_word(words + 12);
-    record->labels = wargnifla_word(words + 16);
-    record->relocs = wargnifla_word(words + 20);
+    *record = wargnifla_record_of(words);
     return refusal;
 }
 
@@ -476,14 +551,53 @@ static inline size_t wargnifla_relas_len(const wargnifla_record *record) { retur
 static inline uint32_t wargnifla_tables_write_relas(const wargnifla_tables *tables, const wargnifla_record *record, uint32_t section,
                                                     uint8_t *output, size_t output_len) {
     uint8_t words[WARGNIFLA_RECORD_BYTES];
-    wargnifla_put_word(words, record->arch);
-    wargnifla_put_word(words + 4, record->length);
-    wargnifla_put_word(words + 8, record->alignment);
-    wargnifla_put_word(words + 12, record->layouts);
-    wargnifla_put_word(words + 16, record->labels);
-    wargnifla_put_word(words + 20, record->relocs);
+    wargnifla_put_record(words, record);
     return wargnifla_write_relas(words, sizeof words, tables->labels.bytes, tables->labels.len, tables->relocs.bytes, tables->relocs.len, section,
                                  output, output_len);
+}
+
+/* Sets a piece's entry, WARGNIFLA_PIECE_BYTES long: the record of a finished recording, and how many definitions it brings. */
+static inline void wargnifla_put_piece(uint8_t *piece, const wargnifla_record *record, uint32_t definitions) {
+    wargnifla_put_record(piece, record);
+    wargnifla_put_word(piece + WARGNIFLA_RECORD_BYTES, definitions);
+}
+
+/* Sets a definition, WARGNIFLA_DEFINITION_BYTES long. */
+static inline void wargnifla_put_definition(uint8_t *definition, uint32_t symbol, uint32_t label) {
+    wargnifla_put_word(definition, symbol);
+    wargnifla_put_word(definition + 4, label);
+}
+
+/* Where the piece at an index starts in the whole. The pieces up to it are to have an architecture and an alignment that wargnifla_join takes. */
+static inline uint64_t wargnifla_piece_base(const wargnifla_pieces *joined, size_t index) {
+    uint64_t base = 0, end = 0;
+    size_t i;
+    for (i = 0; i <= index; i++) {
+        wargnifla_record record = wargnifla_record_of(joined->pieces.bytes + WARGNIFLA_PIECE_BYTES * i);
+        uint64_t multiple = record.arch == WARGNIFLA_AARCH64 ? 4096 : record.alignment;
+        base = (end + multiple - 1) & ~(multiple - 1);
+        end = base + record.length;
+    }
+    return base;
+}
+
+/* How long the whole of such pieces is, and so the output that it needs. */
+static inline uint64_t wargnifla_joined_len(const wargnifla_pieces *joined) {
+    size_t last = joined->pieces.len / WARGNIFLA_PIECE_BYTES;
+    if (last == 0)
+        return 0;
+    last--;
+    return wargnifla_piece_base(joined, last) + wargnifla_record_of(joined->pieces.bytes + WARGNIFLA_PIECE_BYTES * last).length;
+}
+
+static inline uint32_t wargnifla_pieces_join(const wargnifla_pieces *joined, uint8_t *output, size_t output_len, uint8_t *labels, size_t labels_len,
+                                             uint8_t *relocs, size_t relocs_len, wargnifla_record *record) {
+    uint8_t words[WARGNIFLA_RECORD_BYTES];
+    uint32_t refusal = wargnifla_join(joined->pieces.bytes, joined->pieces.len, joined->code.bytes, joined->code.len, joined->labels.bytes,
+                                      joined->labels.len, joined->relocs.bytes, joined->relocs.len, joined->definitions.bytes,
+                                      joined->definitions.len, output, output_len, labels, labels_len, relocs, relocs_len, words, sizeof words);
+    *record = wargnifla_record_of(words);
+    return refusal;
 }
 
 static inline uint32_t wargnifla_tables_put_bytes(wargnifla_tables *tables, const uint8_t *bytes, size_t bytes_len) {

@@ -15,8 +15,8 @@ use crate::tables::{Counts, TableName, Tables};
 use crate::unpatched::unpatched;
 use crate::verified::{self, Record};
 use crate::{
-    Arch, Call, CodeOffset, Condition, Error, LabelUse, MOST_CODE, MOST_ENTRIES, Place, Reloc,
-    UNBOUND,
+    Arch, Call, CodeOffset, Condition, Error, ExternalName, LabelUse, MOST_CODE, MOST_ENTRIES,
+    Place, Reloc, UNBOUND,
 };
 
 /// A buffer of code to be produced: bytes, labels, fields, alignments, constants, relocations and jumps, recorded call by call and then finished.
@@ -49,6 +49,8 @@ pub struct CodeBuffer {
     first_refusal: Option<Error>,
     /// The jumps and refs that were accepted unread, which no table keeps.
     unread: Vec<Call>,
+    /// The symbols that labels define.
+    definitions: Vec<(ExternalName, Label)>,
 }
 
 impl CodeBuffer {
@@ -85,6 +87,7 @@ impl CodeBuffer {
             tables: Tables::new(counts),
             first_refusal: None,
             unread: Vec::new(),
+            definitions: Vec::new(),
         }
     }
 
@@ -243,7 +246,7 @@ impl CodeBuffer {
         self.tables.label_offset(label).unwrap_or(UNBOUND)
     }
 
-    /// Gives a label a name, for refusals, listings and objects; nothing else depends on it.
+    /// Gives a label a name, for refusals, listings, objects and [`join`](crate::join()); nothing else depends on it.
     pub fn name_label(&mut self, label: Label, name: &str) {
         self.tables.names.insert(label, name);
     }
@@ -261,6 +264,28 @@ impl CodeBuffer {
     /// ```
     pub fn name_symbol(&mut self, symbol: Sym, name: &str) {
         self.tables.names.insert(symbol, name);
+    }
+
+    /// Defines a symbol by a label, bound by now or later, for the buffers that this one is [joined](crate::join()) with and for objects. The symbol
+    /// is given by its name, which need not be that of a symbol here, or by its number. Nothing is recorded: a label that is unknown or never bound,
+    /// and a symbol that is defined twice, are for the join to refuse.
+    ///
+    /// ```
+    /// use wargnifla::{Arch, CodeBuffer};
+    ///
+    /// # fn main() -> Result<(), wargnifla::Error> {
+    /// let mut buffer = CodeBuffer::new(Arch::X64);
+    /// let entry = buffer.get_label()?;
+    /// buffer.bind_symbol("sort", entry);
+    /// buffer.put1(0x90)?;
+    /// buffer.try_bind_label(entry)?;
+    /// buffer.put1(0xC3)?;
+    /// assert_eq!(buffer.finish()?.defined_symbol_offset("sort"), Some(1));
+    /// # Ok(())
+    /// # }
+    /// ```
+    pub fn bind_symbol(&mut self, symbol: impl Into<ExternalName>, label: Label) {
+        self.definitions.push((symbol.into(), label));
     }
 
     /// Binds a label to the current offset.
@@ -687,6 +712,7 @@ impl CodeBuffer {
             segments,
             unpatched: unpatched(&self.tables, &self.unread),
             names: self.tables.names.clone(),
+            definitions: self.definitions.clone(),
             has_page_fields: self.has_page_fields(),
         }
     }

@@ -1,6 +1,7 @@
 //! Relocations for the system linker: `Elf64_Rela` entries, which the verified library writes and reads, and objects with them.
 
 mod object;
+mod symbols;
 mod types;
 
 pub use object::ObjectError;

@@ -10,6 +10,7 @@ pub struct Error {
     number: u32,
     place: Place,
     sentence: String,
+    piece: Option<usize>,
     entry: Option<Entry>,
 }
 
@@ -34,9 +35,11 @@ pub enum Place {
     WriteRelas,
     /// The relocations of an ELF section, to be read.
     ReadRelas,
+    /// Finished buffers, to be joined.
+    Join,
 }
 
-/// The entry of a table that a finish, or what is made of it, was refused for.
+/// The entry of a table that a finish, or what is made of one, was refused for.
 #[derive(Clone, Copy, Debug, PartialEq, Eq)]
 pub enum Entry {
     /// An event, by its index: on X64, jumps and alignments in the order of recording.
@@ -49,6 +52,8 @@ pub enum Entry {
     Reloc(usize),
     /// A constant, by its place in the order of asking.
     Asked(usize),
+    /// A definition of a symbol, by its index.
+    Definition(usize),
 }
 
 impl Error {
@@ -57,15 +62,20 @@ impl Error {
             number,
             place,
             sentence,
+            piece: None,
             entry: None,
         }
+    }
+
+    pub(crate) fn at_piece(self, piece: Option<usize>) -> Self {
+        Self { piece, ..self }
     }
 
     pub(crate) fn at_entry(self, entry: Option<Entry>) -> Self {
         Self { entry, ..self }
     }
 
-    /// The refusal's number, 1 to 26.
+    /// The refusal's number, 1 to 29.
     #[must_use]
     pub fn number(&self) -> u32 {
         self.number
@@ -89,7 +99,8 @@ impl Error {
             .expect("the functions answer numbers of documents 01 and 02 only")
     }
 
-    /// The refusal's name, asmkit's. Numbers 24, 25 and 26, which neither asmkit nor document 01 knows, have the names of 7, 18 and 23.
+    /// The refusal's name, asmkit's; 27 to 29 have those of its `LinkError`. Numbers 24, 25 and 26, which neither asmkit nor document 01 knows, have
+    /// the names of 7, 18 and 23.
     #[must_use]
     pub fn name(&self) -> &'static str {
         match self.number {
@@ -101,6 +112,9 @@ impl Error {
             11 | 16 => "TooManyHandles",
             12 | 14 | 23 | 26 => "OutOfMemory",
             15 => "UnboundLabel",
+            27 => "IncompatibleArch",
+            28 => "DuplicateSymbol",
+            29 => "UnboundSymbol",
             _ => "unknown to documents 01 and 02",
         }
     }
@@ -117,7 +131,13 @@ impl Error {
         &self.sentence
     }
 
-    /// The entry that a finish, or what is made of it, was refused for, where there is one.
+    /// The piece that a join was refused for, by its index, where there is one.
+    #[must_use]
+    pub fn piece(&self) -> Option<usize> {
+        self.piece
+    }
+
+    /// The entry that a finish, or what is made of one, was refused for, where there is one; of a join, the piece's.
     #[must_use]
     pub fn entry(&self) -> Option<Entry> {
         self.entry
@@ -137,6 +157,7 @@ impl fmt::Display for Place {
             Self::Finish => f.write_str("finish"),
             Self::WriteRelas => f.write_str("write_relas"),
             Self::ReadRelas => f.write_str("read_relas"),
+            Self::Join => f.write_str("join"),
         }
     }
 }
@@ -174,7 +195,7 @@ mod tests {
 
     #[test]
     fn every_number_has_a_name() {
-        for number in 1..=26 {
+        for number in 1..=29 {
             let error = Error::new(number, Place::Finish, String::new());
             assert!(error.name().chars().all(char::is_alphabetic), "{number}");
         }

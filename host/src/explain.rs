@@ -3,10 +3,12 @@
 
 mod calls;
 mod finish;
+mod join;
 mod relas;
 
 pub(crate) use calls::explain_call;
 pub(crate) use finish::explain_finish;
+pub(crate) use join::explain_join;
 pub(crate) use relas::{explain_read_relas, explain_write_relas, of_relocation};
 
 use crate::recording::LayoutEvent;

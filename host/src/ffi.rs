@@ -115,4 +115,25 @@ unsafe extern "C" {
         entries: *mut u8,
         entries_len: usize,
     ) -> u32;
+
+    pub fn wargnifla_join(
+        pieces: *const u8,
+        pieces_len: usize,
+        code: *const u8,
+        code_len: usize,
+        labels: *const u8,
+        labels_len: usize,
+        relocs: *const u8,
+        relocs_len: usize,
+        definitions: *const u8,
+        definitions_len: usize,
+        output: *mut u8,
+        output_len: usize,
+        joined_labels: *mut u8,
+        joined_labels_len: usize,
+        joined_relocs: *mut u8,
+        joined_relocs_len: usize,
+        record: *mut u8,
+        record_len: usize,
+    ) -> u32;
 }

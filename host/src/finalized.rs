@@ -3,9 +3,9 @@
 use crate::ffi::Segment;
 use crate::recording::{AsmReloc, Label, Names};
 use crate::verified::Record;
-use crate::{Arch, CodeOffset, UNBOUND, Unpatched};
+use crate::{Arch, CodeOffset, ExternalName, UNBOUND, Unpatched};
 
-/// A [`crate::CodeBuffer`] once finish has accepted it: the code and what goes with it.
+/// A [`crate::CodeBuffer`] once finish has accepted it, or several [joined](crate::join()): the code and what goes with it.
 #[derive(Clone, Debug, PartialEq, Eq)]
 pub struct CodeBufferFinalized {
     pub(crate) arch: Arch,
@@ -17,6 +17,8 @@ pub struct CodeBufferFinalized {
     pub(crate) unpatched: Vec<Unpatched>,
     /// Those that labels and symbols had at finish.
     pub(crate) names: Names,
+    /// The symbols that labels define; likewise.
+    pub(crate) definitions: Vec<(ExternalName, Label)>,
     /// Whether a field holds pages of its label: that of an ADRP, or of the ADD after one.
     pub(crate) has_page_fields: bool,
 }
@@ -60,7 +62,8 @@ impl CodeBufferFinalized {
     }
 
     /// The multiple that the code is to be loaded on: the greater of 32 and the largest alignment among the constants that finish pooled, so 32 or 64.
-    /// Code that is loaded on a multiple of it has every pooled constant on a multiple of its own ([`AsmConstant::alignment`]).
+    /// Code that is loaded on a multiple of it has every pooled constant on a multiple of its own ([`AsmConstant::alignment`]). Of joined code it is
+    /// the greatest among the pieces.
     ///
     /// A constant that was added and never asked for does not count, and neither do alignments in the code: these count from its start.
     ///
@@ -87,19 +90,42 @@ impl CodeBufferFinalized {
         self.record.alignment()
     }
 
-    /// How many layouts finish made: the rounds of relaxation, 0 without a jump.
+    /// The names that labels and symbols had at finish.
+    #[must_use]
+    pub fn names(&self) -> &Names {
+        &self.names
+    }
+
+    /// The symbols that labels define, in the order of [`bind_symbol`](crate::CodeBuffer::bind_symbol); of joined code those of all pieces, and those
+    /// that labels define by their names.
+    #[must_use]
+    pub fn definitions(&self) -> &[(ExternalName, Label)] {
+        &self.definitions
+    }
+
+    /// The offset of a symbol, if a label that is bound defines it.
+    #[must_use]
+    pub fn defined_symbol_offset(&self, symbol: impl Into<ExternalName>) -> Option<CodeOffset> {
+        let symbol = self.names.external(&symbol.into());
+        let mut definitions = self.definitions.iter();
+        let (_, label) = definitions.find(|(defined, _)| self.names.external(defined) == symbol)?;
+        Some(self.label_offset(*label)).filter(|offset| *offset != UNBOUND)
+    }
+
+    /// How many layouts finish made: the rounds of relaxation, 0 without a jump and of joined code.
     #[must_use]
     pub fn layouts(&self) -> u32 {
         self.record.layouts()
     }
 
-    /// Where each event came to stand, those of the pool included; empty without a jump.
+    /// Where each event came to stand, those of the pool included; empty without a jump and of joined code.
     #[must_use]
     pub fn segments(&self) -> &[Segment] {
         &self.segments
     }
 
-    /// What was accepted and is not in the code: jumps and refs where the architecture keeps none, refs where no jump stands, uses where one does.
+    /// What was accepted and is not in the code: jumps and refs where the architecture keeps none, refs where no jump stands, uses where one does. Of
+    /// joined code its pieces know.
     pub fn unpatched(&self) -> &[Unpatched] {
         &self.unpatched
     }

@@ -2,7 +2,8 @@
 //!
 //! [`CodeBuffer`] owns the tables of a recording and lends them to the C functions of libwargnifla.a, which record calls and finish the code. Names
 //! are those of asmkit's core/buffer.rs (see NOTICE), of which the verified library is a port. A refusal is an [`Error`]: its number by documents 01
-//! and 02, its name ([`Refusal`]), and a sentence that says what is wrong and where. Buffers share nothing: threads may each have their own.
+//! and 02, its name ([`Refusal`]), and a sentence that says what is wrong and where. Buffers share nothing: threads may each have their own. Finished
+//! buffers are joined into one by [`join`](join()), and written as objects for the system linker by [`CodeBufferFinalized::object`].
 //!
 //! ```
 //! use wargnifla::{Arch, CodeBuffer, RelaxableJump};
@@ -30,6 +31,13 @@ macro_rules! finish_stack {
     };
 }
 
+/// Bytes of stack that are enough for join, likewise: `WARGNIFLA_JOIN_STACK`.
+macro_rules! join_stack {
+    () => {
+        532480
+    };
+}
+
 mod buffer;
 mod call;
 mod elf;
@@ -38,6 +46,7 @@ mod explain;
 #[allow(missing_docs, unsafe_code)]
 pub mod ffi;
 mod finalized;
+mod join;
 mod listing;
 mod picture;
 mod recording;
@@ -55,7 +64,10 @@ pub use elf::{ElfType, ObjectError, Rela, read_relas};
 pub use error::{Entry, Error, Place};
 pub use ffi::Segment;
 pub use finalized::CodeBufferFinalized;
-pub use listing::{Extent, Radix, Style, listing, record};
+pub use join::{Filled, Joined, Origin, join};
+pub use listing::{
+    Extent, ListedPiece, Radix, Style, joined_listing, joined_record, listing, record,
+};
 pub use picture::Picture;
 pub use recording::{
     AsmConstant, AsmFixup, AsmReloc, Constant, Label, LabelRef, LayoutEvent, Names, Pooled,
@@ -64,7 +76,7 @@ pub use recording::{
 pub use refusal::Refusal;
 pub use rounds::{Change, Lengthened, Mismatch, Round, Rounds};
 pub use sheet::{Sheet, Unwritable, symbols_named, write_sheet};
-pub use sheet_text::{Arch, Call, Condition, LabelUse, Reach, Reloc};
+pub use sheet_text::{Arch, Call, Condition, Definition, ExternalName, LabelUse, Reach, Reloc};
 pub use text::{Note, Script, Span, TextError, read_text, read_text_for};
 pub use unpatched::{Unpatched, WhyUnpatched};
 
@@ -80,9 +92,15 @@ pub const MOST_ENTRIES: usize = 65_536;
 /// The most bytes of a constant.
 pub const MOST_CONSTANT: usize = 64;
 
+/// The most pieces that are joined.
+pub const MOST_PIECES: usize = 256;
+
 /// Bytes of stack that are enough for the verified finish, which [`CodeBuffer::finish`] calls: it keeps its marks there and allocates nothing. The
-/// other calls take less than 8 KiB.
+/// other calls but join take less than 8 KiB.
 pub const FINISH_STACK: usize = finish_stack!();
+
+/// Bytes of stack that are enough for the verified join, which [`join`](join()) calls, likewise.
+pub const JOIN_STACK: usize = join_stack!();
 
 /// The offset of a label that is not bound.
 pub const UNBOUND: CodeOffset = u32::MAX;

@@ -1,5 +1,9 @@
 //! The finished code as a listing: what every byte is there for.
 
+mod joined;
+
+pub use joined::{ListedPiece, joined_listing, joined_record};
+
 use std::collections::HashSet;
 use std::fmt::Write;
 use std::ops::Range;
@@ -80,21 +84,20 @@ pub fn listing(
 ) -> String {
     let style = style.into();
     let texts = Texts::new(recording, finished, style.offsets);
-    let mut writer = Writer {
-        data: finished.data(),
-        names: &recording.names,
-        labels: bound_labels(finished),
-        next_label: 0,
-        cursor: 0,
-        style,
-        out: String::from("  offset  bytes                       what\n"),
-    };
-    for row in rows(&texts) {
-        writer.row(&row);
-    }
-    writer.rest();
-    writer.out
+    let mut rows = written_rows(&texts);
+    rows.extend(finished.relocs().iter().map(|reloc| {
+        let size = reloc.kind.field_size();
+        texts.row_within(reloc.offset, size, texts.relocation(reloc))
+    }));
+    rows.extend(unpatched_rows(&texts));
+    let mut out = String::from(HEAD);
+    let mut writer = Writer::new(&texts, finished.data(), style, &mut out);
+    writer.rows(rows);
+    out
 }
+
+/// What stands above the rows.
+const HEAD: &str = "  offset  bytes                       what\n";
 
 /// What finish reports, in one line.
 pub fn record(recording: &Recording, finished: &CodeBufferFinalized) -> String {
@@ -137,9 +140,8 @@ impl Row {
     }
 }
 
-/// Every jump, padding, field, relocation and constant, and what is none of them though it was recorded, by rising offset; what is empty comes first
-/// at its offset.
-fn rows(texts: &Texts<'_>) -> Vec<Row> {
+/// Every jump, padding, field and constant: what finish wrote.
+fn written_rows(texts: &Texts<'_>) -> Vec<Row> {
     let Texts {
         recording,
         finished,
@@ -148,7 +150,7 @@ fn rows(texts: &Texts<'_>) -> Vec<Row> {
     let pooled = recording.pooled();
     let constants = pooled.constants.iter().map(|placed| {
         let start = finished.label_offset(placed.label);
-        let label = recording.names.text(placed.label);
+        let label = texts.label(placed.label);
         let what = format!("constant {}, {label}", placed.constant.id());
         Row::new(start, start + placed.size, what)
     });
@@ -158,14 +160,13 @@ fn rows(texts: &Texts<'_>) -> Vec<Row> {
     let mut rows = event_rows(texts, &pooled);
     rows.extend(fields);
     rows.extend(constants);
-    rows.extend(finished.relocs().iter().map(|reloc| {
-        let size = reloc.kind.field_size();
-        texts.row_within(reloc.offset, size, texts.relocation(reloc))
-    }));
-    let unpatched = finished.unpatched().iter();
-    rows.extend(unpatched.filter_map(|entry| unpatched_row(texts, entry)));
-    rows.sort_by_key(|row| (row.bytes.start, row.bytes.end));
     rows
+}
+
+/// What was recorded and finish did not write.
+fn unpatched_rows(texts: &Texts<'_>) -> impl Iterator<Item = Row> {
+    let unpatched = texts.finished.unpatched().iter();
+    unpatched.filter_map(|entry| unpatched_row(texts, entry))
 }
 
 fn event_rows(texts: &Texts<'_>, pooled: &Pooled) -> Vec<Row> {
@@ -234,11 +235,14 @@ fn mark_covered(fields: &mut [Row], constants: &[Row]) {
     for field in fields.iter_mut().rev() {
         let mut bytes = field.bytes.clone();
         if bytes.any(|byte| later.contains(&byte) || is_constant(&byte)) {
-            field.what.push_str("; what is written later covers it");
+            field.what.push_str(COVERED);
         }
         later.extend(field.bytes.clone());
     }
 }
+
+/// What is said of a row whose bytes are not all its own.
+const COVERED: &str = "; what is written later covers it";
 
 /// The fields that finish filled, in the order of writing: refs with a jump, uses without.
 fn field_rows(texts: &Texts<'_>) -> Vec<Row> {
@@ -273,7 +277,10 @@ fn unpatched_row(texts: &Texts<'_>, entry: &Unpatched) -> Option<Row> {
             length,
             label,
             ..
-        } => (start, length, format!("jump to {}", texts.label(label))),
+        } => {
+            let label = texts.label(Label::from_id(label));
+            (start, length, format!("jump to {label}"))
+        }
         Call::Ref {
             offset,
             label,
@@ -281,7 +288,7 @@ fn unpatched_row(texts: &Texts<'_>, entry: &Unpatched) -> Option<Row> {
             ..
         } => {
             let kind = LabelUse::from_code(code)?;
-            let what = format!("ref {kind} to {}", texts.label(label));
+            let what = format!("ref {kind} to {}", texts.label(Label::from_id(label)));
             (offset, kind.patch_size(), what)
         }
         Call::Use {
@@ -290,7 +297,7 @@ fn unpatched_row(texts: &Texts<'_>, entry: &Unpatched) -> Option<Row> {
             code,
         } => {
             let kind = LabelUse::from_code(code)?;
-            let what = format!("use {kind} of {}", texts.label(label));
+            let what = format!("use {kind} of {}", texts.label(Label::from_id(label)));
             (offset, kind.patch_size(), what)
         }
         _ => return None,
@@ -319,6 +326,11 @@ pub(crate) struct Texts<'a> {
     recording: &'a Recording,
     finished: &'a CodeBufferFinalized,
     offsets: Radix,
+    /// Where the code starts, and the number of its first label: not 0 where it is a piece of joined code.
+    base: CodeOffset,
+    first_label: u32,
+    /// The names of labels and symbols, by the numbers that they have there.
+    names: &'a Names,
 }
 
 impl<'a> Texts<'a> {
@@ -331,7 +343,15 @@ impl<'a> Texts<'a> {
             recording,
             finished,
             offsets,
+            base: 0,
+            first_label: 0,
+            names: &recording.names,
         }
+    }
+
+    /// An offset of the code, where it comes to stand.
+    fn offset(&self, offset: CodeOffset) -> String {
+        self.offsets.text(self.base + offset)
     }
 
     /// A row of some bytes, or of none where they pass the code's end.
@@ -341,20 +361,25 @@ impl<'a> Texts<'a> {
             Some(end) if end <= len => Row::new(offset, end, what),
             _ if offset <= len => Row::new(offset, offset, what),
             _ => {
-                let at = self.offsets.text(offset);
+                let at = self.offset(offset);
                 Row::new(len, len, format!("at {at}, past the end: {what}"))
             }
         }
     }
 
-    fn label(&self, number: u32) -> String {
-        self.recording.names.text(Label::from_id(number))
+    fn label(&self, label: Label) -> String {
+        self.names.text(self.placed_label(label))
+    }
+
+    /// A label of the code, by the number that it has where the code comes to stand.
+    fn placed_label(&self, label: Label) -> Label {
+        Label::from_id(self.first_label + label.id())
     }
 
     /// `label end at 16`.
     fn target(&self, label: Label) -> String {
-        let offset = self.offsets.text(self.finished.label_offset(label));
-        format!("{} at {offset}", self.recording.names.text(label))
+        let offset = self.offset(self.finished.label_offset(label));
+        format!("{} at {offset}", self.label(label))
     }
 
     /// `jmp short to label end at 16, distance 14`.
@@ -413,38 +438,74 @@ impl<'a> Texts<'a> {
     }
 
     fn relocation(&self, reloc: &AsmReloc) -> String {
-        let target = self.recording.names.text(reloc.target);
-        let addend = match reloc.addend {
-            0 => String::new(),
-            addend => format!(", addend {addend}"),
-        };
-        format!("relocation {}: {target}{addend}", reloc.kind)
+        let target = self.names.text(reloc.target);
+        format!("relocation {}: {target}{}", reloc.kind, addend_text(reloc))
+    }
+
+    /// The bound labels by rising offset, both as they come to stand.
+    fn bound_labels(&self) -> Vec<(usize, Label)> {
+        let labels = (0..).zip(self.finished.label_offsets());
+        let mut bound: Vec<(usize, Label)> = labels
+            .filter(|(_, offset)| **offset != UNBOUND)
+            .map(|(label, offset)| {
+                let place = (self.base + offset) as usize;
+                (place, self.placed_label(Label::from_id(label)))
+            })
+            .collect();
+        bound.sort_unstable();
+        bound
     }
 }
 
-/// The bound labels by rising offset.
-fn bound_labels(finished: &CodeBufferFinalized) -> Vec<(usize, Label)> {
-    let labels = (0..).zip(finished.label_offsets());
-    let mut bound: Vec<(usize, Label)> = labels
-        .filter(|(_, offset)| **offset != UNBOUND)
-        .map(|(label, offset)| (*offset as usize, Label::from_id(label)))
-        .collect();
-    bound.sort_unstable();
-    bound
+fn addend_text(reloc: &AsmReloc) -> String {
+    match reloc.addend {
+        0 => String::new(),
+        addend => format!(", addend {addend}"),
+    }
 }
 
 struct Writer<'a> {
+    /// The code that the listing is of.
     data: &'a [u8],
+    /// What of it is written here.
+    bytes: Range<usize>,
     names: &'a Names,
     labels: Vec<(usize, Label)>,
     next_label: usize,
     /// All bytes before it are listed.
     cursor: usize,
     style: Style,
-    out: String,
+    out: &'a mut String,
 }
 
-impl Writer<'_> {
+impl<'a> Writer<'a> {
+    fn new(texts: &Texts<'a>, data: &'a [u8], style: Style, out: &'a mut String) -> Self {
+        let start = texts.base as usize;
+        Self {
+            data,
+            bytes: start..start + texts.finished.total_size(),
+            names: texts.names,
+            labels: texts.bound_labels(),
+            next_label: 0,
+            cursor: start,
+            style,
+            out,
+        }
+    }
+
+    /// Writes rows by rising offset, what is empty first at its offset, and what stands between them.
+    fn rows(&mut self, mut rows: Vec<Row>) {
+        rows.sort_by_key(|row| (row.bytes.start, row.bytes.end));
+        let base = self.bytes.start;
+        for row in rows {
+            self.row(&Row {
+                bytes: base + row.bytes.start..base + row.bytes.end,
+                ..row
+            });
+        }
+        self.rest();
+    }
+
     fn row(&mut self, row: &Row) {
         self.plain(row.bytes.start);
         // A label at an alignment that came to nothing stands behind it.
@@ -465,8 +526,8 @@ impl Writer<'_> {
     }
 
     fn rest(&mut self) {
-        self.plain(self.data.len());
-        self.labels_up_to(self.data.len());
+        self.plain(self.bytes.end);
+        self.labels_up_to(self.bytes.end);
     }
 
     /// The bytes from the cursor to `end`, in runs between labels.

@@ -4,7 +4,7 @@ use std::collections::BTreeMap;
 
 use sheet_text::shown;
 
-use crate::{Arch, Call, CodeOffset, Condition, LabelUse, Reloc, UNBOUND};
+use crate::{Arch, Call, CodeOffset, Condition, ExternalName, LabelUse, Reloc, UNBOUND};
 
 /// What is added to a label's number where a relocation's target is one word.
 const LABEL_TARGET: u32 = 1 << 31;
@@ -27,7 +27,7 @@ impl Label {
     }
 }
 
-/// The names of labels and symbols, for messages, listings and objects.
+/// The names of labels and symbols, for messages, listings, objects and joins.
 #[derive(Clone, Debug, Default, PartialEq, Eq)]
 pub struct Names(BTreeMap<RelocTarget, String>);
 
@@ -49,6 +49,27 @@ impl Names {
             Some(name) => format!("{} {}", target.noun(), shown(name)),
             None => target.to_string(),
         }
+    }
+
+    /// What joined pieces share a symbol by: its name, if it has one, else its number.
+    pub fn external_name(&self, symbol: Sym) -> ExternalName {
+        match self.get(symbol) {
+            Some(name) => name.into(),
+            None => ExternalName::Number(symbol.id()),
+        }
+    }
+
+    /// The same of a symbol that is given by number or name.
+    pub(crate) fn external(&self, symbol: &ExternalName) -> ExternalName {
+        match symbol {
+            ExternalName::Number(number) => self.external_name(Sym::from_id(*number)),
+            ExternalName::Name(_) => symbol.clone(),
+        }
+    }
+
+    /// Whether a label's name stays within its piece and its object.
+    pub(crate) fn is_local(name: &str) -> bool {
+        name.starts_with('.')
     }
 
     /// The labels that have names, by rising number.
@@ -75,6 +96,12 @@ impl Sym {
     #[must_use]
     pub const fn id(self) -> u32 {
         self.0
+    }
+}
+
+impl From<Sym> for ExternalName {
+    fn from(symbol: Sym) -> Self {
+        Self::Number(symbol.id())
     }
 }
 
@@ -123,6 +150,14 @@ impl RelocTarget {
         match word.checked_sub(LABEL_TARGET) {
             Some(label) => Self::Label(Label(label)),
             None => Self::Sym(Sym(word)),
+        }
+    }
+
+    /// The symbol, if it is one.
+    pub(crate) const fn symbol(self) -> Option<Sym> {
+        match self {
+            Self::Sym(symbol) => Some(symbol),
+            Self::Label(_) => None,
         }
     }
 

@@ -11,11 +11,11 @@ use std::fmt;
 #[non_exhaustive]
 pub enum Refusal {
     /// A sheet, code or kind breaks its form, as may ELF entries; finish meets a table entry that no recording writes; the number of open entries that
-    /// is handed in is wrong, at finish by any amount, else above 262,144.
+    /// is handed in is wrong, at finish by any amount, else above 262,144; there is nothing to join, or there are more than 256 pieces.
     Malformed = 1,
     /// Start names an architecture other than 1, 2, 6.
     UnknownArch,
-    /// A call is lent more than a limit.
+    /// A call is lent more than a limit, or a piece that is to be joined exceeds one.
     PastLimit,
     /// The recording has finished.
     AlreadyFinished,
@@ -32,7 +32,7 @@ pub enum Refusal {
     /// A jump doesn't end at the current offset, has a length outside 2 to 15 or a condition above 16, starts before the last event's end or holds a
     /// label strictly inside; a relocation's offset exceeds 16,777,215; a constant exceeds 64 bytes.
     BadEntry,
-    /// A table that the call must extend is full, or that ELF entries are read into is short.
+    /// A table that the call must extend is full, or one that ELF entries are read into, or pieces are joined into, is short.
     TableFull,
     /// Bytes or padding pass the end of the room for code.
     CodeFull,
@@ -44,9 +44,10 @@ pub enum Refusal {
     UnboundLabel,
     /// With a jump, the table of segments is short.
     TooFewSegments,
-    /// With a jump, a ref's field passes the end of the code, or starts before an event's end and ends after that event's start.
+    /// With a jump, a ref's field passes the end of the code, or starts before an event's end and ends after that event's start. Of a join, a field
+    /// that is to be filled passes its piece's end.
     RefOverlaps,
-    /// With a jump, a ref can't reach its label plus addend.
+    /// With a jump, a ref can't reach its label plus addend. Of a join, a field can't reach its symbol plus addend.
     RefOutOfReach,
     /// Without a jump, a use's field passes the end of the code.
     UsePastEnd,
@@ -56,7 +57,7 @@ pub enum Refusal {
     LabelTooFarAhead,
     /// Without a jump, another use can't reach a label before it.
     LabelTooFarBack,
-    /// The finished code exceeds the output.
+    /// The finished or joined code exceeds the output. Of a join, the whole or what moves with it passes 4,294,967,294.
     OutputTooSmall,
     /// Relocations are to be written as ELF for an architecture other than X64 and AArch64, or one has a kind without an ELF type there.
     NoElfType,
@@ -64,11 +65,17 @@ pub enum Refusal {
     AddendOverflow,
     /// The ELF entries exceed the output.
     ElfOutputTooSmall,
+    /// Two pieces that are to be joined have different architectures.
+    ArchitecturesDiffer,
+    /// Two definitions of pieces that are to be joined have one symbol.
+    SymbolDefinedTwice,
+    /// A field is to be filled for a symbol that no piece defines, or one by a label that is unknown or not bound.
+    SymbolUndefined,
 }
 
 impl Refusal {
     /// Every refusal, by rising number.
-    pub const ALL: [Self; 26] = [
+    pub const ALL: [Self; 29] = [
         Self::Malformed,
         Self::UnknownArch,
         Self::PastLimit,
@@ -95,9 +102,12 @@ impl Refusal {
         Self::NoElfType,
         Self::AddendOverflow,
         Self::ElfOutputTooSmall,
+        Self::ArchitecturesDiffer,
+        Self::SymbolDefinedTwice,
+        Self::SymbolUndefined,
     ];
 
-    /// The refusal's number, 1 to 26.
+    /// The refusal's number, 1 to 29.
     #[must_use]
     pub const fn number(self) -> u32 {
         self as u32
@@ -109,7 +119,7 @@ impl Refusal {
     /// use wargnifla::Refusal;
     ///
     /// assert_eq!(Refusal::from_number(9), Some(Refusal::AlreadyBound));
-    /// assert_eq!(Refusal::from_number(27), None);
+    /// assert_eq!(Refusal::from_number(30), None);
     /// ```
     #[must_use]
     pub fn from_number(number: u32) -> Option<Self> {
@@ -130,9 +140,9 @@ mod tests {
     use super::*;
 
     #[test]
-    fn numbers_run_from_1_to_26() {
+    fn numbers_run_from_1_to_29() {
         let numbers = Refusal::ALL.map(Refusal::number);
-        assert!(numbers.into_iter().eq(1..=26));
+        assert!(numbers.into_iter().eq(1..=29));
         for refusal in Refusal::ALL {
             assert_eq!(Refusal::from_number(refusal.number()), Some(refusal));
         }

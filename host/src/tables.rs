@@ -77,6 +77,9 @@ impl TableName {
 /// The bytes that a table has at the least, once it has any: enough for a small rule, so that its tables are allocated once.
 const FIRST_BYTES: usize = 512;
 
+/// The bytes of a label's entry.
+pub(crate) const LABEL_BYTES: usize = 4;
+
 /// The bytes of a relocation's entry.
 pub(crate) const RELOC_BYTES: usize = 24;
 
@@ -137,7 +140,7 @@ pub(crate) struct Tables {
     /// That of the counts, which no call changes.
     pub arch: Arch,
     pub code: Table<1, MOST_CODE>,
-    pub labels: Table<4>,
+    pub labels: Table<LABEL_BYTES>,
     pub events: Table<20>,
     pub uses: Table<12>,
     pub refs: Table<16>,
@@ -295,15 +298,19 @@ impl Tables {
     }
 
     pub fn relocs(&self) -> impl Iterator<Item = AsmReloc> {
-        self.relocs
-            .entries(self.counts.of(TableName::Relocs))
-            .map(|entry| AsmReloc {
-                offset: word(entry, 0),
-                kind: Reloc::from_number(word(entry, 1)).expect("recordings keep known kinds only"),
-                target: RelocTarget::from_word(word(entry, 2)),
-                addend: reloc_addend(entry),
-            })
+        let count = self.counts.of(TableName::Relocs);
+        self.relocs.entries(count).map(reloc)
     }
+}
+
+/// The offsets in a table of labels.
+pub(crate) fn offsets_of(labels: &[u8]) -> Vec<u32> {
+    labels.chunks_exact(LABEL_BYTES).map(first_word).collect()
+}
+
+/// The entries of a table of relocations.
+pub(crate) fn relocs_of(relocs: &[u8]) -> Vec<AsmReloc> {
+    relocs.chunks_exact(RELOC_BYTES).map(reloc).collect()
 }
 
 /// A table of labels, from their offsets.
@@ -321,6 +328,15 @@ pub(crate) fn reloc_entries(relocs: &[AsmReloc]) -> Vec<u8> {
         entries.extend(reloc.addend.to_le_bytes());
     }
     entries
+}
+
+fn reloc(entry: &[u8]) -> AsmReloc {
+    AsmReloc {
+        offset: word(entry, 0),
+        kind: Reloc::from_number(word(entry, 1)).expect("recordings keep known kinds only"),
+        target: RelocTarget::from_word(word(entry, 2)),
+        addend: reloc_addend(entry),
+    }
 }
 
 /// The addend in a relocation's entry.

@@ -7,12 +7,12 @@
 
 use crate::MOST_ENTRIES;
 use crate::ffi::{self, Segment};
-use crate::tables::{COUNTS_BYTES, Counts, RELOC_BYTES, Tables};
+use crate::tables::{COUNTS_BYTES, Counts, LABEL_BYTES, RELOC_BYTES, Tables};
 
 /// The bytes of an `Elf64_Rela` entry.
 pub(crate) const RELA_BYTES: usize = 24;
 
-/// What finish reports: 6 words.
+/// What finish reports, and join of a whole: 6 words.
 #[derive(Clone, Debug, PartialEq, Eq)]
 pub(crate) struct Record([u8; 24]);
 
@@ -34,8 +34,16 @@ impl Record {
         self.word(3)
     }
 
+    fn label_count(&self) -> usize {
+        self.word(4) as usize
+    }
+
     fn reloc_count(&self) -> usize {
         self.word(5) as usize
+    }
+
+    pub fn bytes(&self) -> &[u8] {
+        &self.0
     }
 }
 
@@ -239,4 +247,67 @@ pub(crate) fn read_relas(relas: &[u8]) -> Result<Vec<u8>, u32> {
         0 => Ok(entries),
         _ => Err(number),
     }
+}
+
+/// What is lent of pieces that are to be joined, one's behind the other's.
+#[derive(Default)]
+pub(crate) struct Lent {
+    pub pieces: Vec<u8>,
+    pub code: Vec<u8>,
+    pub labels: Vec<u8>,
+    pub relocs: Vec<u8>,
+    pub definitions: Vec<u8>,
+}
+
+/// Pieces joined: their code, the tables of all labels and of the relocations that remain, and what is reported.
+pub(crate) struct Whole {
+    pub code: Vec<u8>,
+    pub labels: Vec<u8>,
+    pub relocs: Vec<u8>,
+    pub record: Record,
+}
+
+/// Joins pieces, into so many bytes: the whole, or the number of a refusal.
+pub(crate) fn join(lent: &Lent, room: usize) -> Result<Whole, u32> {
+    let mut whole = Whole {
+        code: vec![0; room],
+        labels: vec![0; lent.labels.len()],
+        relocs: vec![0; lent.relocs.len()],
+        record: Record([0; 24]),
+    };
+    // SAFETY: every pointer and length are those of one vector or array; code, labels, relocations and record of the whole are distinct places,
+    // borrowed mutably, and what is lent, borrowed beside them, overlaps none.
+    let number = unsafe {
+        ffi::wargnifla_join(
+            lent.pieces.as_ptr(),
+            lent.pieces.len(),
+            lent.code.as_ptr(),
+            lent.code.len(),
+            lent.labels.as_ptr(),
+            lent.labels.len(),
+            lent.relocs.as_ptr(),
+            lent.relocs.len(),
+            lent.definitions.as_ptr(),
+            lent.definitions.len(),
+            whole.code.as_mut_ptr(),
+            whole.code.len(),
+            whole.labels.as_mut_ptr(),
+            whole.labels.len(),
+            whole.relocs.as_mut_ptr(),
+            whole.relocs.len(),
+            whole.record.0.as_mut_ptr(),
+            whole.record.0.len(),
+        )
+    };
+    if number != 0 {
+        return Err(number);
+    }
+    whole.code.truncate(whole.record.code_len());
+    whole
+        .labels
+        .truncate(whole.record.label_count() * LABEL_BYTES);
+    whole
+        .relocs
+        .truncate(whole.record.reloc_count() * RELOC_BYTES);
+    Ok(whole)
 }

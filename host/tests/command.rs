@@ -1,5 +1,8 @@
 //! The command, run as a process.
 
+#[path = "command/joined.rs"]
+mod joined;
+
 use std::fs;
 use std::io::Write;
 use std::path::PathBuf;
@@ -879,7 +882,7 @@ fn bad_usage_is_status_2() {
 #[test]
 fn help_and_version() {
     let output = run(&["--help"], b"");
-    assert!(out(&output).starts_with("usage: wargnifla [OPTIONS] FILE\n"));
+    assert!(out(&output).starts_with("usage: wargnifla [OPTIONS] FILE ..\n"));
     assert_eq!(output.status.code(), Some(0));
     let output = run(&["--version"], b"");
     assert_eq!(

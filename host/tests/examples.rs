@@ -144,6 +144,42 @@ fn a_sheet_with_names() {
     );
 }
 
+#[test]
+fn sheets_that_are_joined() {
+    let text = shown_joined(&["join-caller.txt", "join-callee.txt"]);
+    for line in [
+        "       5  37 00 00 00                 relocation X86CallPLTRel4: symbol greet at 64, addend -4, filled with 55\n",
+        "      69  C7 FF FF FF                 relocation X86CallPCRel4: symbol line at 16, addend -4, filled with -57\n",
+        "      16  symbol line: label .line\n",
+        "       1        14        78  X86GOTPCRel4 (R_X86_64_GOTPCREL): symbol puts, addend -4\n",
+    ] {
+        assert!(text.contains(line), "{line} is missing in\n{text}");
+    }
+    let record =
+        "joined for X64: 87 bytes, alignment 32, pieces 2, relocations filled 2, remaining 1\n";
+    assert!(text.ends_with(record), "{text}");
+}
+
+/// What the command prints of several sheets, run where their names are as they stand here.
+fn shown_joined(sheets: &[&str]) -> String {
+    let folder = Path::new(env!("CARGO_MANIFEST_DIR")).join("..");
+    let sheets = sheets.iter().map(|sheet| format!("sheets/{sheet}"));
+    let output = Command::new(env!("CARGO_BIN_EXE_wargnifla"))
+        .args(sheets)
+        .current_dir(folder)
+        .output()
+        .unwrap();
+    stdout(&output)
+}
+
+#[test]
+fn the_readme_shows_what_is_joined() {
+    let start = "    $ wargnifla sheets/join-caller.txt sheets/join-callee.txt\n";
+    let expected = readme_between(start, "\n- ");
+    let text = shown_joined(&["join-caller.txt", "join-callee.txt"]);
+    assert_eq!(text.trim_end(), expected.trim_end());
+}
+
 /// What is open after each call of a sheet.
 fn shown_open(sheet: &str) -> String {
     let text = shown_with("--open", sheet);
@@ -238,6 +274,16 @@ fn pooled_constant() {
     assert_eq!(
         printed("pooled_constant"),
         "24 bytes, constant at 16\nX86CallPLTRel4 at 9: symbol 0\n"
+    );
+}
+
+#[test]
+fn join_rules() {
+    assert_eq!(
+        printed("join_rules"),
+        "2 rules: 34 bytes, at 0 and 32\n\
+         symbol sort at 33, filled with 28 at 1\n\
+         29 SymbolUndefined: relocation 0 of piece 0, at 1 there, names symbol sort, which no piece defines\n"
     );
 }
 

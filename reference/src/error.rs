@@ -1,4 +1,6 @@
-//! asmkit's error, as far as the buffer uses it, and the driver's.
+//! asmkit's error, as far as the buffer and the linker use it, and the driver's.
+
+use crate::core::linker::LinkError;
 
 /// Stand-in for `asmkit::AsmError`.
 #[derive(Clone, Debug)]
@@ -12,6 +14,8 @@ pub enum AsmError {
         #[allow(dead_code)]
         reason: &'static str,
     },
+    NoCodeGenerated,
+    Link(LinkError),
 }
 
 /// What the Rust answers in place of a value. The numbers of the first eight
@@ -62,6 +66,9 @@ impl From<&AsmError> for Error {
             AsmError::InvalidState => Self::InvalidState,
             AsmError::UnboundLabel => Self::UnboundLabel,
             AsmError::UnsupportedInstruction { .. } => Self::UnsupportedInstruction,
+            AsmError::NoCodeGenerated | AsmError::Link(_) => {
+                unreachable!("the linker's alone, and told apart there")
+            }
         }
     }
 }

@@ -1,10 +1,11 @@
 //! asmkit's `CodeBuffer`, unchanged, behind a driver.
 //!
-//! `core/buffer.rs`, `core/relax/asmkit.rs` and `x86/encoder.rs` are put in
-//! place by `reference/build`: the first two are asmkit's files as published,
-//! the third holds the two padding functions lifted out of its encoder.rs.
-//! Everything else here is a stand-in for what asmkit keeps in other files,
-//! or the driver: [`Recording`] for single calls, [`run_sheet`] for sheets.
+//! `core/buffer.rs`, `core/linker.rs`, `core/relax/asmkit.rs` and
+//! `x86/encoder.rs` are put in place by `reference/build`: the first three are
+//! asmkit's files as published, the fourth holds the two padding functions
+//! lifted out of its encoder.rs. Everything else here is a stand-in for what
+//! asmkit keeps in other files, or the driver: [`Recording`] for single calls,
+//! [`run_sheet`] for sheets, [`Link`] for finished records.
 
 extern crate alloc;
 
@@ -14,6 +15,8 @@ mod core;
 mod departures;
 mod differences;
 mod error;
+mod joins;
+mod link;
 mod random;
 mod recording;
 mod run;
@@ -29,6 +32,11 @@ pub use departures::{DEPARTURES, Departure, first_departure};
 pub use differences::{Difference, read_differences};
 pub(crate) use error::AsmError;
 pub use error::Error;
+pub use joins::{
+    JoinDifference, Joined, check_recorded, is_filled, join_pieces, read_join_differences,
+    read_pieces,
+};
+pub use link::{Image, Link, Piece, Unlinked, field_size};
 pub use recording::{Finished, Recording, Relocation};
 pub use run::{Answer, quietly, run_calls, run_sheet, run_steps};
 pub use samples::samples;

@@ -5,21 +5,24 @@ use std::io::{Read, Write};
 use std::process::ExitCode;
 
 use reference::{
-    Answer, DEPARTURES, Difference, Script, Sheet, TextArch, X64, check_cases, read_differences,
-    read_list, read_text_for, run_sheet, run_steps, samples, write_list, write_sheet, write_text,
+    Answer, DEPARTURES, Difference, Script, Sheet, TextArch, X64, check_cases, check_recorded,
+    join_pieces, read_differences, read_join_differences, read_list, read_pieces, read_text_for,
+    run_sheet, run_steps, samples, write_list, write_sheet, write_text,
 };
 
 const USAGE: &str = "\
 reference run [--arch N] [--symbols N] FILE   answer a binary sheet
 reference text [--arch N] [--symbols N] FILE  answer a sheet written as text
 reference sheet FILE                          text to a binary sheet, on standard output
+reference join [--arch N] FILE                link pieces written as text
 reference answers                             write the list of answers to standard output
 reference show FILE                           print a list of answers
 reference differences [FOLDER]                print what the Rust answers to differences.txt
+reference joins [FOLDER]                      print what its linker answers to joins.txt
 reference check [FOLDER]                      compare with what FOLDER keeps
 FILE may be -; N is 1 (X86), 2 (X64, the default) or 6 (AArch64), and goes
-before what a text says; FOLDER is the one of answers.bin and differences.txt,
-by default reference.";
+before what a text says; FOLDER is the one of answers.bin, differences.txt and
+joins.txt, by default reference.";
 
 fn main() -> ExitCode {
     let arguments: Vec<String> = std::env::args().skip(1).collect();
@@ -28,10 +31,13 @@ fn main() -> ExitCode {
         ["run", ref rest @ ..] => run(rest),
         ["text", ref rest @ ..] => text(rest),
         ["sheet", file] => sheet(file),
+        ["join", ref rest @ ..] => join(rest),
         ["answers"] => print_bytes(&write_list(&samples())),
         ["show", file] => show(file),
         ["differences"] => differences("reference"),
         ["differences", folder] => differences(folder),
+        ["joins"] => joins("reference"),
+        ["joins", folder] => joins(folder),
         ["check"] => check("reference"),
         ["check", folder] => check(folder),
         _ => Err(USAGE.into()),
@@ -136,6 +142,13 @@ fn sheet(file: &str) -> Done {
     print_bytes(&sheet)
 }
 
+fn join(words: &[&str]) -> Done {
+    let options = options(words)?;
+    let text = read_string(options.file)?;
+    let pieces = read_pieces(options.arch.unwrap_or(X64), &text)?;
+    print_line(&join_pieces(&pieces).to_string())
+}
+
 fn print_answer(answer: &Answer) -> Done {
     print_line(&format!("{answer}"))?;
     match &answer.finished {
@@ -201,6 +214,18 @@ fn differences(folder: &str) -> Done {
     Ok(())
 }
 
+fn joins(folder: &str) -> Done {
+    let text = read_string(&format!("{folder}/joins.txt"))?;
+    for difference in read_join_differences(&text)? {
+        let answer = join_pieces(&difference.pieces);
+        print_line(&format!(
+            "{} | {} | {} | {} => {answer}",
+            difference.name, difference.number, difference.arch, difference.text
+        ))?;
+    }
+    Ok(())
+}
+
 /// What a gate runs where the Rust is at hand.
 fn check(folder: &str) -> Done {
     let failed = check_cases();
@@ -209,7 +234,8 @@ fn check(folder: &str) -> Done {
     }
     print_line("cases A to L hold")?;
     check_answers(folder)?;
-    check_differences(folder)
+    check_differences(folder)?;
+    check_joins(folder)
 }
 
 fn check_answers(folder: &str) -> Done {
@@ -245,6 +271,30 @@ fn check_differences(folder: &str) -> Done {
         unshown.map(|departure| departure.name),
     )?;
     print_line(&format!("{} differences are as kept", differences.len()))
+}
+
+fn check_joins(folder: &str) -> Done {
+    let text = read_string(&format!("{folder}/joins.txt"))?;
+    let page = read_string(&format!("{folder}/../docs/DIFFERENCES.md"))?;
+    let joins = read_join_differences(&text)?;
+    if !check_recorded() {
+        return Err("recorded pieces are not linked as those that are written".into());
+    }
+    let changed = joins
+        .iter()
+        .filter(|join| join_pieces(&join.pieces).to_string() != join.answer);
+    no_names(
+        "the linker's answer is not as kept",
+        changed.map(|join| join.name.as_str()),
+    )?;
+    let unnamed = joins
+        .iter()
+        .filter(|join| !page.contains(&format!("`{}`", join.name)));
+    no_names(
+        "docs/DIFFERENCES.md does not name",
+        unnamed.map(|join| join.name.as_str()),
+    )?;
+    print_line(&format!("{} joins are as kept", joins.len()))
 }
 
 /// Fails with a complaint about some names, if there are any.

@@ -2,13 +2,13 @@
 
 use crate::core::arch_traits::Arch;
 use crate::core::buffer::{
-    CodeBuffer, CodeBufferFinalized, Constant, ConstantData, ExternalName, LabelUse, Reloc,
-    RelocDistance, RelocTarget,
+    CodeBuffer, CodeBufferFinalized, Constant, ConstantData, LabelUse, Reloc, RelocDistance,
+    RelocTarget,
 };
 use crate::core::operand::{Label, Sym};
 use crate::core::relax::{self, RelaxableJump};
 use crate::core::target::Environment;
-use crate::{Error, LABEL_TARGET, X64};
+use crate::{Error, LABEL_TARGET, X64, link};
 
 /// `LabelUse` by code.
 const LABEL_USES: [LabelUse; 17] = [
@@ -81,17 +81,10 @@ impl Recording {
     /// docs/DIFFERENCES.md alone: the Rust's buffer does not refuse them.
     #[inline]
     pub fn new(arch: u32, symbols: u32) -> Result<Self, Error> {
-        let named = match arch {
-            1 => Arch::X86,
-            2 => Arch::X64,
-            3 => Arch::RISCV32,
-            4 => Arch::RISCV64,
-            6 => Arch::AArch64,
-            _ => return Err(Error::Unrepresentable),
-        };
+        let named = arch_of(arch).ok_or(Error::Unrepresentable)?;
         let mut buffer = CodeBuffer::new(Environment::new(named));
         for index in 0..symbols {
-            buffer.add_symbol(ExternalName::user(0, index), RelocDistance::Near);
+            buffer.add_symbol(link::name(index), RelocDistance::Near);
         }
         Ok(Self { buffer, arch })
     }
@@ -195,7 +188,7 @@ impl Recording {
         target: u32,
         addend: i64,
     ) -> Result<(), Error> {
-        let kind = *RELOCS.get(kind as usize).ok_or(Error::Malformed)?;
+        let kind = reloc_of(kind).ok_or(Error::Malformed)?;
         let target = if target >= LABEL_TARGET {
             RelocTarget::Label(Label::from_id(target - LABEL_TARGET))
         } else {
@@ -203,6 +196,13 @@ impl Recording {
         };
         self.buffer
             .add_reloc_at_offset(offset, kind, target, addend);
+        self.answer(())
+    }
+
+    /// `CodeBuffer::bind_symbol`: the label defines the symbol, for the linker.
+    pub fn define(&mut self, symbol: u32, label: u32) -> Result<(), Error> {
+        self.buffer
+            .bind_symbol(link::name(symbol), Label::from_id(label));
         self.answer(())
     }
 
@@ -232,6 +232,23 @@ impl Recording {
     }
 }
 
+/// `Arch` by number.
+#[inline]
+pub(crate) fn arch_of(arch: u32) -> Option<Arch> {
+    Some(match arch {
+        1 => Arch::X86,
+        2 => Arch::X64,
+        3 => Arch::RISCV32,
+        4 => Arch::RISCV64,
+        6 => Arch::AArch64,
+        _ => return None,
+    })
+}
+
+pub(crate) fn reloc_of(kind: u32) -> Option<Reloc> {
+    RELOCS.get(kind as usize).copied()
+}
+
 pub(crate) fn label_use(code: u32) -> Result<LabelUse, Error> {
     LABEL_USES
         .get(code as usize)
@@ -256,6 +273,10 @@ pub struct Finished {
 }
 
 impl Finished {
+    pub(crate) fn into_finalized(self) -> CodeBufferFinalized {
+        self.finalized
+    }
+
     pub fn code(&self) -> &[u8] {
         self.finalized.data()
     }
@@ -267,15 +288,7 @@ impl Finished {
     }
 
     pub fn relocations(&self) -> impl ExactSizeIterator<Item = Relocation> + '_ {
-        self.finalized.relocs().iter().map(|reloc| Relocation {
-            offset: reloc.offset,
-            kind: reloc.kind as u32,
-            target: match &reloc.target {
-                RelocTarget::Sym(sym) => sym.id(),
-                RelocTarget::Label(label) => label.id() + LABEL_TARGET,
-            },
-            addend: reloc.addend,
-        })
+        relocations_of(&self.finalized)
     }
 
     pub fn alignment(&self) -> u32 {
@@ -286,4 +299,19 @@ impl Finished {
     pub fn layouts(&self) -> u32 {
         self.layouts
     }
+}
+
+/// The relocations of finished code; a symbol is its place in the code's list.
+pub(crate) fn relocations_of(
+    finalized: &CodeBufferFinalized,
+) -> impl ExactSizeIterator<Item = Relocation> + '_ {
+    finalized.relocs().iter().map(|reloc| Relocation {
+        offset: reloc.offset,
+        kind: reloc.kind as u32,
+        target: match &reloc.target {
+            RelocTarget::Sym(sym) => sym.id(),
+            RelocTarget::Label(label) => label.id() + LABEL_TARGET,
+        },
+        addend: reloc.addend,
+    })
 }

@@ -5,7 +5,9 @@ use std::fmt;
 use std::panic::{self, AssertUnwindSafe};
 use std::sync::Once;
 
-use crate::{Call, Error, Finished, LABEL_TARGET, Recording, Relocation, Sheet, TextStep, UNBOUND};
+use crate::{
+    Call, Error, Finished, Image, LABEL_TARGET, Recording, Relocation, Sheet, TextStep, UNBOUND,
+};
 
 /// What a recording answers: its first refusal, or what it finished to.
 pub struct Answer {
@@ -153,22 +155,47 @@ impl fmt::Display for Finished {
         if self.alignment() != 32 {
             write!(f, ", alignment {}", self.alignment())?;
         }
-        list(f, "labels", self.labels().iter().map(|l| offset(*l)))?;
-        let relocations = self.relocations().map(|r| {
-            let (letter, number) = match r.target.checked_sub(LABEL_TARGET) {
-                Some(label) => ('l', label),
-                None => ('s', r.target),
-            };
-            let Relocation { offset, kind, .. } = r;
-            format!("{offset}:{kind}:{letter}{number}{:+}", r.addend)
-        });
-        list(f, "relocations", relocations)?;
-        if code.len() > 64 {
-            return write!(f, ", checksum {:08X}", crate::fnv1a(code));
-        }
-        f.write_str(if code.is_empty() { "" } else { ", code" })?;
-        code.iter().try_for_each(|byte| write!(f, " {byte:02X}"))
+        list_tables(f, self.labels(), self.relocations())?;
+        print_code(f, code)
     }
+}
+
+impl fmt::Display for Image {
+    fn fmt(&self, f: &mut fmt::Formatter<'_>) -> fmt::Result {
+        let code = self.code();
+        write!(f, "length {}", code.len())?;
+        if self.alignment() != 32 {
+            write!(f, ", alignment {}", self.alignment())?;
+        }
+        list(f, "symbols", self.symbols().map(|s| s.to_string()))?;
+        list_tables(f, self.labels(), self.relocations())?;
+        print_code(f, code)
+    }
+}
+
+fn list_tables(
+    f: &mut fmt::Formatter<'_>,
+    labels: &[u32],
+    relocations: impl ExactSizeIterator<Item = Relocation>,
+) -> fmt::Result {
+    list(f, "labels", labels.iter().map(|l| offset(*l)))?;
+    let relocations = relocations.map(|r| {
+        let (letter, number) = match r.target.checked_sub(LABEL_TARGET) {
+            Some(label) => ('l', label),
+            None => ('s', r.target),
+        };
+        let Relocation { offset, kind, .. } = r;
+        format!("{offset}:{kind}:{letter}{number}{:+}", r.addend)
+    });
+    list(f, "relocations", relocations)
+}
+
+fn print_code(f: &mut fmt::Formatter<'_>, code: &[u8]) -> fmt::Result {
+    if code.len() > 64 {
+        return write!(f, ", checksum {:08X}", crate::fnv1a(code));
+    }
+    f.write_str(if code.is_empty() { "" } else { ", code" })?;
+    code.iter().try_for_each(|byte| write!(f, " {byte:02X}"))
 }
 
 fn offset(offset: u32) -> String {

@@ -5,3 +5,5 @@ pub mod Writing
 pub mod Fits
 pub mod Putting
 pub mod Answers
+pub mod Meaning
+mod Worked

@@ -18,9 +18,12 @@ use Rattle.checks.specs.Lent.{recordingOf}
 use Rattle.finish.specs.declared.CodeBufferFinalized.{CodeBufferFinalized}
 use Rattle.finish.specs.declared.Finished.{Finished}
 use Rattle.finish.specs.Finish as finishing
+use Rattle.join.specs.declared.Joined.{Joined}
+use Rattle.join.specs.Pieces as joining
+use Rattle.join.specs.Join as joins
 use Rattle.elf.specs.Elf as elf
 use Rattle.sheet.specs.Run as sheets
-use Rattle.wargnifla.specs.Boundary.{countsSize, Lent, countsAt, countsOf, recordOf, recordAt, start, putBytes, addConstant, addReloc, lentOf, lentWith, runSheet, finish, writeRelas}
+use Rattle.wargnifla.specs.Boundary.{countsSize, Lent, countsAt, countsOf, recordOf, recordAt, start, putBytes, addConstant, addReloc, lentOf, lentWith, runSheet, finish, writeRelas, join}
 
 -- bytes with four words written, and as they were after each of the first three
 pub record FourWritten (t : List ℕ) (k a b c d : ℕ) (one two three four : List ℕ) : Type 0 where
@@ -185,3 +188,15 @@ module _ (finalized labels relocs : List ℕ) (section : ℕ) (output : List ℕ
       → a ≡ elf.writeRelas code labels relocs section output → a ≡ writeRelas finalized labels relocs section output
   unfolding writeRelas
   relas-cross code a h r e = e ∙ ap (λ (x : CodeBufferFinalized). elf.writeRelas x labels relocs section output) r ∙ sym (no-lt _ 24 _ _ h)
+
+-- pieces are joined across the boundary: the call answers `a` and leaves `left`
+module _ (l : joining.Lent) (output labels relocs finalized : List ℕ) where
+  pub join-short : length finalized < 24 → (1, ((output, (labels, relocs)), finalized)) ≡ join l output labels relocs finalized
+  unfolding join
+  join-short h = sym (yes-lt _ 24 _ _ h)
+
+  pub join-crosses : (a : Joined) (left : joins.Left) (finalized' : List ℕ) → 24 ≤ length finalized → (a, left) ≡ joins.join l output labels relocs
+      → finalized' ≡ overWords finalized (recordOf (a .code)) → (a .refusal, (left, finalized')) ≡ join l output labels relocs finalized
+  unfolding join
+  join-crosses a left finalized' h e w =
+      rw w (ap (λ (x : Joined × joins.Left). (x .0 .refusal, (x .1, overWords finalized (recordOf (x .0 .code))))) e ∙ sym (no-lt _ 24 _ _ h))

@@ -16,6 +16,8 @@ use Rattle.recording.specs.Calls.{Recording}
 use Rattle.finish.specs.declared.CodeBufferFinalized.{CodeBufferFinalized}
 use Rattle.finish.specs.Finish as finishing
 use Rattle.elf.specs.Elf as elf
+use Rattle.join.specs.Pieces as joining
+use Rattle.join.specs.Join as joins
 use Rattle.sheet.specs.Run as sheets
 
 -- the bytes of counts, thirteen words, and of a record, six
@@ -173,3 +175,11 @@ writeRelas finalized labels relocs section output =
 -- the answer and the table: no counts and no record cross the boundary
 abbrev pub readRelas : List ℕ → List ℕ → ℕ × List ℕ
 readRelas relas table = elf.readRelas relas table
+
+-- the answer, the code, labels and relocations of the whole, and its record
+unfoldable pub join : joining.Lent → List ℕ → List ℕ → List ℕ → List ℕ → ℕ × (joins.Left × List ℕ)
+join l output labels relocs finalized =
+    let a = joins.join l output labels relocs in
+    pick (ltb (length finalized) recordSize)
+    (refusals.malformed, ((output, (labels, relocs)), finalized))
+    (a .0 .refusal, (a .1, overWords finalized (recordOf (a .0 .code))))

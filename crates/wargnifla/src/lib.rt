@@ -1,6 +1,6 @@
 // The C functions, on numbers and byte slices, the table of segments alone a slice of structs: what a host in another language links.
 // include/wargnifla.h declares them and says what each table and number means. A recording's counts cross the boundary as 52 lent bytes, thirteen words in
-// the order of `CodeBuffer`; what finish reports as 24, six words in the order of `CodeBufferFinalized`. Fewer bytes than that answer 1, and of all that is
+// the order of `CodeBuffer`; what finish and join report as 24, six words in the order of `CodeBufferFinalized`. Fewer bytes than that answer 1, and of all that is
 // lent only a record of zeros is written; bytes past them are not touched.
 ghost use mathlib.Core.Path.{_≡_};
 ghost use mathlib.Core.List.{[], _∷_};
@@ -8,7 +8,8 @@ ghost use Prim.Native.Nat.{_+_, _*_, _≤_};
 ghost use lib.ListN.{length};
 ghost use Rattle.seqs.specs.Over.{over};
 ghost use Rattle.words.specs.Words.{bytesOfAll, overWords};
-ghost use Rattle.wargnifla.specs.Boundary.{countsAt, countsOf, recordOf, recordAt, start, putBytes, addConstant, addReloc, lentOf, runSheet, finish, writeRelas, readRelas, countsSize, recordSize};
+ghost use Rattle.join.specs.Pieces as joining;
+ghost use Rattle.wargnifla.specs.Boundary.{countsAt, countsOf, recordOf, recordAt, start, putBytes, addConstant, addReloc, lentOf, runSheet, finish, writeRelas, readRelas, join, countsSize, recordSize};
 use buffer::CodeBuffer;
 use finish::CodeBufferFinalized;
 use relax::Segment;
@@ -281,4 +282,37 @@ pub extern "C" fn wargnifla_read_relas(relas: &[u8], table: &mut [u8]) -> u32
     ensures { λ r. ⌜ (r, now (table .exit)) ≡ readRelas (now (relas .entry)) (now (table .entry)) ⌝ }
 {
     elf::read_relas(relas, table)
+}
+
+// Joins finished recordings; the record of the whole is written to `finalized`.
+#[no_mangle]
+pub extern "C" fn wargnifla_join(
+    pieces: &[u8],
+    code: &[u8],
+    labels: &[u8],
+    relocs: &[u8],
+    definitions: &[u8],
+    output: &mut [u8],
+    joined_labels: &mut [u8],
+    joined_relocs: &mut [u8],
+    finalized: &mut [u8],
+) -> u32
+    ensures { λ r. ⌜ (r, ((now (output .exit), (now («joined_labels» .exit), now («joined_relocs» .exit))), now (finalized .exit))) ≡ join (joining.lentOf (now (pieces .entry)) (now (code .entry)) (now (labels .entry)) (now (relocs .entry)) (now (definitions .entry))) (now (output .entry)) (now («joined_labels» .entry)) (now («joined_relocs» .entry)) (now (finalized .entry)) ⌝ }
+{
+    if finalized.len() < RECORD_SIZE {
+        return refusals::MALFORMED;
+    }
+    let answer = join::join(
+        pieces,
+        code,
+        labels,
+        relocs,
+        definitions,
+        output,
+        joined_labels,
+        joined_relocs,
+    );
+    let report = answer.code;
+    put_record(finalized, report);
+    answer.refusal
 }

@@ -1,5 +1,7 @@
 //! The calls that a host can make, whoever answers them.
 
+use crate::Vast;
+
 /// What a call answers.
 #[derive(Clone, Copy, Debug, Default, PartialEq, Eq)]
 pub struct Reply {
@@ -26,4 +28,5 @@ pub trait Boundary {
     fn finish(&mut self) -> Reply;
     fn write_relas(&mut self, section: u32) -> Reply;
     fn read_relas(&mut self) -> Reply;
+    fn join(&mut self, is_vast: Vast) -> Reply;
 }

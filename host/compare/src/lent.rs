@@ -2,8 +2,8 @@
 
 use std::ops::{Index, IndexMut};
 
-/// One thing that is lent: the counts, a table, what finish writes to, or ELF
-/// entries.
+/// One thing that is lent: the counts, a table, what finish writes to, ELF
+/// entries, or what join takes and writes beside these.
 #[derive(Clone, Copy, Debug, PartialEq, Eq)]
 pub enum Part {
     Counts,
@@ -22,10 +22,15 @@ pub enum Part {
     Relas,
     /// What ELF entries are read into.
     Entries,
+    /// Records that are joined, and how many symbols each piece defines.
+    Pieces,
+    Definitions,
+    JoinedLabels,
+    JoinedRelocations,
 }
 
 impl Part {
-    pub const COUNT: usize = 14;
+    pub const COUNT: usize = 18;
 
     pub const ALL: [Self; Self::COUNT] = [
         Self::Counts,
@@ -42,6 +47,10 @@ impl Part {
         Self::Record,
         Self::Relas,
         Self::Entries,
+        Self::Pieces,
+        Self::Definitions,
+        Self::JoinedLabels,
+        Self::JoinedRelocations,
     ];
 
     /// The tables of a recording, in the order of their counts.
@@ -60,11 +69,17 @@ impl Part {
     pub const fn entry_bytes(self) -> usize {
         match self {
             Self::Code | Self::Output => 1,
-            Self::Labels | Self::Asked => 4,
+            Self::Labels | Self::Asked | Self::JoinedLabels => 4,
+            Self::Definitions => 8,
             Self::Uses => 12,
             Self::Refs | Self::Segments => 16,
             Self::Events => 20,
-            Self::Relocations | Self::Record | Self::Relas | Self::Entries => 24,
+            Self::Relocations
+            | Self::Record
+            | Self::Relas
+            | Self::Entries
+            | Self::JoinedRelocations => 24,
+            Self::Pieces => 28,
             Self::Counts => 52,
             Self::Constants => 72,
         }

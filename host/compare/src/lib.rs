@@ -5,13 +5,17 @@ pub mod boundary;
 pub mod lent;
 pub mod model;
 pub mod ours;
+pub mod pieces;
 pub mod random;
+pub mod vast;
 
 pub use boundary::{Boundary, Reply};
 pub use lent::{Lent, Part};
 pub use model::{Model, Rules, add_word, code_alignment, open};
 pub use ours::{Lending, Ours};
+pub use pieces::Piece;
 pub use random::Random;
+pub use vast::Vast;
 
 /// `Arch::X86`.
 pub const X86: u32 = 1;

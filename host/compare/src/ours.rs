@@ -4,7 +4,8 @@ use std::marker::PhantomData;
 
 use wargnifla::ffi::{self, Segment};
 
-use crate::{Boundary, Lent, Part, Reply};
+use crate::vast::{self, VAST};
+use crate::{Boundary, Lent, Part, Reply, Vast};
 
 /// Bytes before and after all that is lent.
 const GUARD: usize = 32;
@@ -190,6 +191,10 @@ impl Boundary for Ours {
     fn read_relas(&mut self) -> Reply {
         self.lending().read_relas()
     }
+
+    fn join(&mut self, is_vast: Vast) -> Reply {
+        self.lending().join(is_vast)
+    }
 }
 
 /// Pointers to all that [`Ours`] lends, which it does not move as long as this
@@ -344,6 +349,50 @@ impl Lending<'_> {
         let (entries, entries_len) = self.pointers[Part::Entries as usize];
         // SAFETY: see `Ours`.
         let refusal = unsafe { ffi::wargnifla_read_relas(relas, relas_len, entries, entries_len) };
+        Reply::new(refusal, 0)
+    }
+
+    /// What is vast stands in the place of the parts that are lent.
+    pub fn join(&mut self, is_vast: Vast) -> Reply {
+        let (pieces, pieces_len) = self.pointers[Part::Pieces as usize];
+        let (mut code, mut code_len) = self.pointers[Part::Code as usize];
+        let (labels, labels_len) = self.pointers[Part::Labels as usize];
+        let (relocs, relocs_len) = self.pointers[Part::Relocations as usize];
+        let (definitions, definitions_len) = self.pointers[Part::Definitions as usize];
+        let (mut output, mut output_len) = self.pointers[Part::Output as usize];
+        let (joined_labels, joined_labels_len) = self.pointers[Part::JoinedLabels as usize];
+        let (joined_relocs, joined_relocs_len) = self.pointers[Part::JoinedRelocations as usize];
+        let (record, record_len) = self.pointers[Part::Record as usize];
+        if is_vast.is_code() {
+            (code, code_len) = (vast::code().as_ptr().cast_mut(), VAST);
+        }
+        if let Some(start) = is_vast.output() {
+            (output, output_len) = (start, VAST);
+        }
+        // SAFETY: see `Ours`. What is vast stays for good; an output that can't be
+        // written is lent to joins that are to be refused.
+        let refusal = unsafe {
+            ffi::wargnifla_join(
+                pieces,
+                pieces_len,
+                code,
+                code_len,
+                labels,
+                labels_len,
+                relocs,
+                relocs_len,
+                definitions,
+                definitions_len,
+                output,
+                output_len,
+                joined_labels,
+                joined_labels_len,
+                joined_relocs,
+                joined_relocs_len,
+                record,
+                record_len,
+            )
+        };
         Reply::new(refusal, 0)
     }
 }

@@ -4,7 +4,7 @@ use std::collections::HashSet;
 
 use wargnifla::{Arch, Call, Entry, Error, Label, Recording, RelocTarget};
 
-/// The call, by index, that made an entry of a recording that accepted all calls.
+/// The call, by index, that made an entry of a recording that accepted all calls; none makes a definition.
 pub fn call_of_entry(calls: &[Call], arch: Arch, entry: Entry) -> Option<usize> {
     let mut asked = HashSet::new();
     let mut makes_entry = |call: &Call| match (entry, call) {
@@ -19,7 +19,8 @@ pub fn call_of_entry(calls: &[Call], arch: Arch, entry: Entry) -> Option<usize> 
     | Entry::Ref(nth)
     | Entry::Use(nth)
     | Entry::Reloc(nth)
-    | Entry::Asked(nth)) = entry;
+    | Entry::Asked(nth)
+    | Entry::Definition(nth)) = entry;
     let mut made = (0..).zip(calls).filter(|(_, call)| makes_entry(call));
     made.nth(nth).map(|(index, _)| index)
 }
@@ -61,13 +62,14 @@ pub fn wrong_word(call: &Call, error: &Error) -> usize {
     match (error.number(), call) {
         (1 | 6 | 7, Call::Use { .. } | Call::Ref { .. }) => 3,
         (1 | 7 | 24, Call::Relocation { .. }) => 2,
-        (8 | 15, Call::Relocation { .. }) => 3,
+        (8 | 15 | 18 | 29, Call::Relocation { .. }) => 3,
         (25, Call::Relocation { .. }) => 4,
         (8 | 15 | 18 | 20..=22, Call::Use { .. } | Call::Ref { .. }) => 2,
         (8 | 15, Call::Jump { .. }) => 3,
         (10, Call::Jump { .. }) if is_condition => 4,
         (10, Call::Jump { length, .. }) if !(2..=15).contains(length) => 2,
         (10, Call::Jump { .. } | Call::Relocation { .. } | Call::Constant(_)) => 1,
+        (17 | 23, Call::Relocation { .. }) => 1,
         (17 | 19, Call::Use { .. } | Call::Ref { .. }) => 1,
         (8 | 9 | 13, Call::Bind(_) | Call::ConstantLabel(_)) => 1,
         (5 | 12, Call::Align(_) | Call::Bytes(_)) => 1,

@@ -19,7 +19,8 @@ pub fn check(options: &Options) -> Result<(), Failure> {
     let unusable = |sentence| Failure::unusable(format!("{sentence}; nothing is written"));
     for (i, (option, path)) in named.iter().enumerate() {
         let file = file_text(path.as_os_str());
-        if !options.is_standard_input() && is_same(path, Path::new(&options.file)) {
+        let mut sheets = options.files.iter().filter(|sheet| !is_dash(sheet));
+        if sheets.any(|sheet| is_same(path, Path::new(sheet))) {
             return Err(unusable(format!(
                 "{option} names {file}, which is the sheet itself"
             )));
@@ -70,10 +71,14 @@ fn settled(path: &Path) -> Option<PathBuf> {
     Some(fs::canonicalize(folder).ok()?.join(path.file_name()?))
 }
 
-/// Writes files. Nothing takes its place before all are written.
-pub fn write(files: &[(&Path, &[u8])]) -> Result<(), Failure> {
+/// Writes what the options ask for: code, object, sheet and page, in this order. Nothing takes its place before all are written.
+pub fn write(options: &Options, contents: [&[u8]; 4]) -> Result<(), Failure> {
+    let outputs = options.outputs().into_iter().zip(contents);
+    let files: Vec<(&Path, &[u8])> = outputs
+        .filter_map(|((_, path), bytes)| Some((path?, bytes)))
+        .collect();
     let mut prepared = Vec::new();
-    for (path, bytes) in files {
+    for (path, bytes) in &files {
         prepared.push(Prepared::new(path, bytes).map_err(|error| unwritable(path, &error))?);
     }
     for ((path, bytes), prepared) in files.iter().zip(prepared) {

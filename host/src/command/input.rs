@@ -1,22 +1,23 @@
 //! The sheet that the command line is given: which form it has, its calls, and where each stands in the file.
 
+use std::ffi::OsStr;
 use std::fs;
 use std::io::{self, Read};
 
 use sheet_text::nearest;
 use wargnifla::{
-    Arch, Call, CodeBuffer, Entry, Error, ObjectError, Recording, Sheet, UNBOUND, Unwritable,
-    read_text_for, symbols_named,
+    Arch, Call, CodeBuffer, Definition, Entry, Error, ExternalName, ObjectError, Recording, Script,
+    Sheet, Span, UNBOUND, Unwritable, read_text_for, symbols_named,
 };
 
 use super::Failure;
 use super::calls::{binding, call_of_entry, second_place, wrong_word};
-use super::options::{Form, Options};
+use super::options::{Form, Options, input_text, is_dash};
 use super::source::{Source, TextSource, form_of, malformed, placed, text_of};
 
 /// A sheet, and how to record it.
 pub struct Input {
-    file: String,
+    pub file: String,
     pub arch: Arch,
     pub symbols: u32,
     /// The calls; of a binary sheet, up to the first that breaks its form.
@@ -25,16 +26,19 @@ pub struct Input {
     pub names: Vec<(u32, String)>,
     /// The symbols' names, by number from 0.
     pub symbol_names: Vec<String>,
+    /// The symbols that labels define.
+    pub definitions: Vec<Definition>,
     source: Source,
     /// Whether option or sheet says the architecture.
     names_arch: bool,
 }
 
 impl Input {
-    pub fn read(options: &Options) -> Result<Self, Failure> {
-        let file = options.file_name();
-        let bytes = bytes_of(options)
-            .map_err(|error| Failure::unusable(format!("{file}: can't be read: {error}")))?;
+    pub fn read(options: &Options, file: &OsStr) -> Result<Self, Failure> {
+        let bytes = bytes_of(file);
+        let file = input_text(file);
+        let bytes =
+            bytes.map_err(|error| Failure::unusable(format!("{file}: can't be read: {error}")))?;
         match options.form.unwrap_or_else(|| form_of(&bytes)) {
             Form::Text => Self::from_text(file, options, &bytes),
             Form::Binary => Ok(Self::from_binary(file, options, bytes)),
@@ -47,16 +51,19 @@ impl Input {
         let script = read_text_for(options.arch, &text)
             .map_err(|error| Failure::unusable(malformed(&file, &text, &error)))?;
         let named = options.arch.or(script.arch);
+        let symbols = options.symbols.or(script.symbols);
+        let symbols = symbols.unwrap_or_else(|| all_named(&script));
+        if let Some(error) = script.undeclared_definition(symbols) {
+            return Err(Failure::unusable(malformed(&file, &text, &error)));
+        }
         Ok(Self {
             file,
             arch: named.unwrap_or(Arch::X64),
-            symbols: options
-                .symbols
-                .or(script.symbols)
-                .unwrap_or_else(|| symbols_named(&script.calls)),
+            symbols,
             calls: script.calls,
             names: script.names,
             symbol_names: script.symbol_names,
+            definitions: script.definitions,
             source: Source::Text(TextSource {
                 text,
                 sources: script.sources,
@@ -76,6 +83,7 @@ impl Input {
             calls,
             names: Vec::new(),
             symbol_names: Vec::new(),
+            definitions: Vec::new(),
             source: Source::Binary(bytes),
             names_arch: options.arch.is_some(),
         }
@@ -137,18 +145,50 @@ impl Input {
 
     /// What no object can hold, with the place in the file that it goes back to.
     pub fn no_object(&self, error: &ObjectError, recording: &Recording) -> Failure {
-        let sentence = error.to_string();
-        let wrong_word = match error {
-            ObjectError::Relocations(error) => return self.refused_finish(error, recording),
-            ObjectError::FieldPastEnd { relocation, .. } => Some((*relocation, 1)),
-            ObjectError::LabelInGot { relocation, .. } => Some((*relocation, 3)),
-            _ => None,
+        if let ObjectError::Relocations(error) = error {
+            return self.refused_finish(error, recording);
+        }
+        let placed = wrong_relocation(error)
+            .and_then(|(relocation, word)| self.said_of_relocation(relocation, word, error));
+        Failure::unusable(placed.unwrap_or_else(|| format!("{}: {error}", self.file)))
+    }
+
+    /// A sentence about a word of a relocation, which is given by its index.
+    pub fn said_of_relocation(
+        &self,
+        relocation: usize,
+        word: usize,
+        sentence: &impl ToString,
+    ) -> Option<String> {
+        let call = call_of_entry(&self.calls, self.arch, Entry::Reloc(relocation))?;
+        Some(self.said_of(call, word, &sentence.to_string()))
+    }
+
+    /// A refusal with the line of the call that made an entry; without one, with the file alone.
+    pub fn said_of_refusal(&self, error: &Error) -> String {
+        let placed = match error.entry() {
+            Some(Entry::Definition(index)) => {
+                let place = self.definitions[index].symbol_place;
+                self.said_at(place, &error.to_string())
+            }
+            Some(entry) => {
+                let call = call_of_entry(&self.calls, self.arch, entry);
+                call.map(|call| {
+                    let word = wrong_word(&self.calls[call], error);
+                    self.said_of(call, word, &error.to_string())
+                })
+            }
+            None => None,
         };
-        let placed = wrong_word.and_then(|(relocation, word)| {
-            let call = call_of_entry(&self.calls, self.arch, Entry::Reloc(relocation))?;
-            Some(self.said_of(call, word, &sentence))
-        });
-        Failure::unusable(placed.unwrap_or_else(|| format!("{}: {sentence}", self.file)))
+        placed.unwrap_or_else(|| format!("{}: {error}", self.file))
+    }
+
+    /// A sentence about a place of a text.
+    pub fn said_at(&self, place: Span, sentence: &str) -> Option<String> {
+        match &self.source {
+            Source::Text(source) => Some(placed(&self.file, &source.text, place, sentence)),
+            Source::Binary(_) => None,
+        }
     }
 
     /// A refused finish, or what is refused of a finished recording, with the place in the file that it goes back to.
@@ -341,9 +381,28 @@ impl Input {
     }
 }
 
-fn bytes_of(options: &Options) -> io::Result<Vec<u8>> {
-    if !options.is_standard_input() {
-        return fs::read(&options.file);
+/// How many symbols a text names that does not say how many there are.
+fn all_named(script: &Script) -> u32 {
+    let defined = script.definitions.iter();
+    let defined = defined.filter_map(|definition| match definition.symbol {
+        ExternalName::Number(number) => Some(number + 1),
+        ExternalName::Name(_) => None,
+    });
+    defined.fold(symbols_named(&script.calls), u32::max)
+}
+
+/// The relocation that no object can hold, by its index, and the word that is wrong with it.
+pub fn wrong_relocation(error: &ObjectError) -> Option<(usize, usize)> {
+    match error {
+        ObjectError::FieldPastEnd { relocation, .. } => Some((*relocation, 1)),
+        ObjectError::LabelInGot { relocation, .. } => Some((*relocation, 3)),
+        _ => None,
+    }
+}
+
+fn bytes_of(file: &OsStr) -> io::Result<Vec<u8>> {
+    if !is_dash(file) {
+        return fs::read(file);
     }
     let mut bytes = Vec::new();
     io::stdin().lock().read_to_end(&mut bytes)?;

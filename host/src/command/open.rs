@@ -6,8 +6,13 @@ use wargnifla::{CodeBuffer, Extent};
 use super::input::Input;
 use super::report::MOST_LINES;
 
-/// A line for each call up to the first that is refused, and one for a finish that left such a number; nothing where no call was made.
-pub fn after_each_call(input: &Input, finished: Option<u32>, extent: Extent) -> String {
+/// A line for each call up to the first that is refused, and one for a finish that left such a number, under a title; nothing where no call was made.
+pub fn after_each_call(
+    title: &str,
+    input: &Input,
+    finished: Option<u32>,
+    extent: Extent,
+) -> String {
     let mut lines = call_lines(input, &numbers(input), extent);
     lines.extend(finished.map(|number| format!("          {:<14}  {number:>6}", "finish")));
     if lines.is_empty() {
@@ -17,7 +22,7 @@ pub fn after_each_call(input: &Input, finished: Option<u32>, extent: Extent) -> 
         true => "    line  call              open  statement",
         false => "    call  name              open",
     };
-    format!("\nopen\n{head}\n{}\n", lines.join("\n"))
+    format!("\n{title}\n{head}\n{}\n", lines.join("\n"))
 }
 
 /// The number after each call that is accepted. Of a sheet that breaks its form none is made.

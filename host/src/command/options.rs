@@ -7,21 +7,23 @@ use sheet_text::{escaped, shown};
 use wargnifla::{Arch, Extent, Radix, Style};
 
 pub const HELP: &str = "\
-usage: wargnifla [OPTIONS] FILE
+usage: wargnifla [OPTIONS] FILE ..
 
-Records a sheet of calls, finishes it, and shows the code. FILE is a sheet in text or binary form; - is standard input.
+Records a sheet of calls, finishes it, and shows the code. FILE is a sheet in text or binary form; - is standard input. Several are each finished and
+then joined, in the order given: calls of symbols that one of them defines are filled.
 
   -o FILE                  write the finished code; to - it goes to standard output, in the place of the listing
   --object FILE            write an ELF object for the system linker, or to -
-  --write-sheet FILE       write the calls as a binary sheet, or to -
-  --picture FILE           write a page for a browser that draws the rounds to scale, step by step, or to -
+  --write-sheet FILE       write the calls as a binary sheet, or to -; not where sheets are joined
+  --picture FILE           write a page for a browser that draws the rounds to scale, step by step, or to -; not where sheets are joined
+  --join                   join even one FILE, and so fill its calls of symbols that it defines itself
   --arch x86|x64|aarch64   the architecture, whatever the sheet says (x64 if neither says)
   --symbols N              how many symbols there are, whatever the sheet says (as many as it names if neither says)
   --rounds                 show what each round of relaxation lengthened, and why
   --open                   show how many entries name a label that is not bound, after each call; where one is refused, too
   --full                   show long runs of bytes, long tables and all rounds whole
   --hex                    show offsets in hexadecimal
-  --text, --binary         take FILE for text, or for a binary sheet
+  --text, --binary         take every FILE for text, or for a binary sheet
   -h, --help               this text
   -V, --version            the version
 
@@ -46,7 +48,8 @@ pub enum Form {
 
 #[derive(Debug, Default, PartialEq, Eq)]
 pub struct Options {
-    pub file: OsString,
+    pub files: Vec<OsString>,
+    pub join: bool,
     pub output: Option<PathBuf>,
     pub object: Option<PathBuf>,
     pub write_sheet: Option<PathBuf>,
@@ -61,25 +64,9 @@ pub struct Options {
 }
 
 impl Options {
-    /// The file's name as messages have it.
-    pub fn file_name(&self) -> String {
-        if self.is_standard_input() {
-            "standard input".into()
-        } else {
-            file_text(&self.file)
-        }
-    }
-
-    /// What a page about the file is called: its name without the folders.
-    pub fn title(&self) -> String {
-        match Path::new(&self.file).file_name() {
-            Some(name) if !self.is_standard_input() => file_text(name),
-            _ => self.file_name(),
-        }
-    }
-
-    pub fn is_standard_input(&self) -> bool {
-        is_dash(&self.file)
+    /// Whether the sheets are joined.
+    pub fn joins(&self) -> bool {
+        self.join || self.files.len() > 1
     }
 
     pub fn style(&self) -> Style {
@@ -117,6 +104,22 @@ pub fn is_dash(name: &OsStr) -> bool {
     name == "-"
 }
 
+/// The name of a file that is read, as messages have it.
+pub fn input_text(file: &OsStr) -> String {
+    match is_dash(file) {
+        true => "standard input".into(),
+        false => file_text(file),
+    }
+}
+
+/// What a page about a file is called: its name without the folders.
+pub fn title(file: &OsStr) -> String {
+    match Path::new(file).file_name() {
+        Some(name) if !is_dash(file) => file_text(name),
+        _ => input_text(file),
+    }
+}
+
 /// A file's name as messages have it.
 pub fn file_text(name: &OsStr) -> String {
     name.to_string_lossy().chars().map(escaped).collect()
@@ -146,6 +149,7 @@ pub fn parse(arguments: impl IntoIterator<Item = OsString>) -> Result<Request, S
             "--symbols" => {
                 options.symbols = Some(symbols(&value("--symbols", arguments.next())?)?);
             }
+            "--join" => options.join = true,
             "--rounds" => options.rounds = true,
             "--open" => options.open = true,
             "--full" => options.full = true,
@@ -159,8 +163,30 @@ pub fn parse(arguments: impl IntoIterator<Item = OsString>) -> Result<Request, S
             _ => files.push(argument),
         }
     }
-    options.file = one_file(files)?;
+    options.files = files;
+    check(&options)?;
     Ok(Request::Run(options))
+}
+
+/// What is wrong with options that are each right.
+fn check(options: &Options) -> Result<(), String> {
+    if options.files.is_empty() {
+        return Err("a FILE is missing; - is standard input".into());
+    }
+    let inputs = options.files.iter().filter(|file| is_dash(file));
+    if inputs.count() > 1 {
+        return Err("standard input, -, can be one FILE alone".into());
+    }
+    let of_one_sheet = [
+        ("--write-sheet", options.write_sheet.is_some()),
+        ("--picture", options.picture.is_some()),
+    ];
+    match of_one_sheet.into_iter().find(|(_, is_given)| *is_given) {
+        Some((option, _)) if options.joins() => Err(format!(
+            "{option} is about one sheet, and can't be given where sheets are joined"
+        )),
+        _ => Ok(()),
+    }
 }
 
 fn value(option: &str, argument: Option<OsString>) -> Result<OsString, String> {
@@ -183,14 +209,6 @@ fn symbols(word: &OsStr) -> Result<u32, String> {
     })
 }
 
-fn one_file(files: Vec<OsString>) -> Result<OsString, String> {
-    match <[OsString; 1]>::try_from(files) {
-        Ok([file]) => Ok(file),
-        Err(files) if files.is_empty() => Err("a FILE is missing; - is standard input".into()),
-        Err(files) => Err(format!("one FILE is taken, not {}", files.len())),
-    }
-}
-
 #[cfg(test)]
 mod tests {
     use super::*;
@@ -203,7 +221,8 @@ mod tests {
     fn reads_every_option() {
         let all = "--arch X86 --symbols 3 --rounds --open --full --hex --text -o out --object object --write-sheet sheet --picture page in";
         let expected = Options {
-            file: "in".into(),
+            files: vec!["in".into()],
+            join: false,
             output: Some("out".into()),
             object: Some("object".into()),
             write_sheet: Some("sheet".into()),
@@ -221,14 +240,25 @@ mod tests {
         assert_eq!(parsed("-V"), Ok(Request::Version));
     }
 
+    fn options(arguments: &str) -> Options {
+        match parsed(arguments) {
+            Ok(Request::Run(options)) => options,
+            other => panic!("{other:?}"),
+        }
+    }
+
     #[test]
     fn dash_is_a_file_and_so_is_what_follows_two() {
-        let file = |arguments| match parsed(arguments) {
-            Ok(Request::Run(options)) => options.file,
-            other => panic!("{other:?}"),
-        };
-        assert_eq!(file("-"), "-");
-        assert_eq!(file("-- --full"), "--full");
+        assert_eq!(options("-").files, ["-"]);
+        assert_eq!(options("-- --full").files, ["--full"]);
+    }
+
+    #[test]
+    fn several_files_are_joined_and_one_where_that_is_said() {
+        assert_eq!(options("a --hex - b").files, ["a", "-", "b"]);
+        assert!(options("a b").joins());
+        assert!(!options("a").joins());
+        assert!(options("--join a").joins());
     }
 
     #[test]
@@ -238,7 +268,9 @@ mod tests {
             assert!(sentence.contains(expected), "{sentence}");
         };
         fails("", "FILE is missing");
-        fails("a b", "not 2");
+        fails("- a -", "standard input, -, can be one FILE alone");
+        fails("a b --picture c", "--picture is about one sheet");
+        fails("--join a --write-sheet b", "--write-sheet is about one");
         fails("--fast a", "no option --fast");
         fails("a -o", "-o needs a value");
         fails("--arch mips a", "'mips'");

@@ -29,11 +29,11 @@ impl<'a> RoundsReport<'a> {
         }
     }
 
-    pub fn text(&self, rounds: &[Round]) -> String {
+    pub fn text(&self, title: &str, rounds: &[Round]) -> String {
         let Some((last, others)) = rounds.split_last() else {
-            return "\nrounds\n          none: there is no jump to relax\n".into();
+            return format!("\n{title}\n          none: there is no jump to relax\n");
         };
-        let mut out = String::from("\nrounds\n");
+        let mut out = format!("\n{title}\n");
         let shown = self.shown(others.len());
         for (number, round) in (1..).zip(&others[..shown]) {
             self.round(&mut out, number, round);

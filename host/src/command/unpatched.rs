@@ -7,8 +7,8 @@ use wargnifla::{Arch, Call, CodeBufferFinalized, Unpatched, WhyUnpatched};
 
 use super::input::Input;
 
-/// A line for each kind of what finish did not write, with the lines of the sheet that it comes from.
-pub fn notes(input: &Input, finished: &CodeBufferFinalized) -> String {
+/// A line for each kind of what finish did not write, with the lines of the sheet that it comes from. `whose` names the sheet where there are more.
+pub fn notes(whose: &str, input: &Input, finished: &CodeBufferFinalized) -> String {
     let mut groups: Vec<Group> = Vec::new();
     let mut jumps = input.calls_where(|call| matches!(call, Call::Jump { .. }));
     let mut refs = input.calls_where(|call| matches!(call, Call::Ref { .. }));
@@ -28,7 +28,8 @@ pub fn notes(input: &Input, finished: &CodeBufferFinalized) -> String {
     let mut out = String::new();
     for group in &groups {
         let places = input.where_are(&group.calls);
-        let _ = writeln!(out, "note: {} ({places})", group.text(finished.arch()));
+        let what = group.text(finished.arch());
+        let _ = writeln!(out, "note: {whose}{what} ({places})");
     }
     let is_not_kept = |group: &Group| group.why == WhyUnpatched::NotKept;
     if let Some(note) = input

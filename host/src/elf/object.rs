@@ -1,14 +1,14 @@
 //! An ELF relocatable object: finished code as a section, its relocations, and the symbols that these and the labels' names ask for. Constants and
 //! fields have the names of the ELF specification.
 
-use std::borrow::Cow;
-use std::collections::{BTreeMap, HashMap};
+use std::collections::HashMap;
 use std::fmt;
 
+use super::symbols::{SHN_UNDEF, STB_LOCAL, STT_NOTYPE, Symbols, TEXT};
 use crate::explain::of_relocation;
-use crate::recording::{AsmReloc, Label, RelocTarget, Sym};
+use crate::recording::RelocTarget;
 use crate::verified::RELA_BYTES;
-use crate::{Arch, CodeBufferFinalized, CodeOffset, Error, Reloc, UNBOUND};
+use crate::{Arch, CodeBufferFinalized, CodeOffset, Error, Reloc};
 use sheet_text::shown;
 
 const ET_REL: u16 = 1;
@@ -24,12 +24,7 @@ const SHF_ALLOC: u64 = 2;
 const SHF_EXECINSTR: u64 = 4;
 const SHF_INFO_LINK: u64 = 0x40;
 
-const STB_LOCAL: u8 = 0;
-const STB_GLOBAL: u8 = 1;
-const STT_NOTYPE: u8 = 0;
 const STT_SECTION: u8 = 3;
-const STT_TLS: u8 = 6;
-const SHN_UNDEF: u16 = 0;
 
 const EHDR_BYTES: u16 = 64;
 const SHDR_BYTES: u16 = 64;
@@ -44,16 +39,12 @@ const SECTIONS: [&str; 6] = [
     ".shstrtab",
     ".note.GNU-stack",
 ];
-const TEXT: u16 = 1;
 const SYMTAB: u32 = 3;
 const STRTAB: u32 = 4;
 const SHSTRTAB: u16 = 5;
 
 /// The symbol that stands for the section of code; symbol 0 is none.
 const TEXT_SYMBOL: u32 = 1;
-
-/// The symbols in front of those that stand for a label or symbol of the recording.
-const FIRST_SYMBOL: u32 = 2;
 
 /// A page of AArch64, whose number an ADRP holds.
 const PAGE: u32 = 4096;
@@ -138,8 +129,9 @@ impl CodeBufferFinalized {
     /// An ELF relocatable object (ELF64, little-endian) for the system linker: the code as the section `.text`, and its relocations as
     /// [`Self::relas`] gives them, but for the symbols' numbers, which are the object's own.
     ///
-    /// Bound labels that have names are global symbols, or local ones where the name starts with `.`; symbols that relocations name are undefined
-    /// ones, for the linker to find, and are called `s0`, `s1` and so on where they have no name. Names are those that were given before finish.
+    /// Bound labels that have names are global symbols, or local ones where the name starts with `.`, and so are the symbols that bound labels define
+    /// ([`bind_symbol`](crate::CodeBuffer::bind_symbol)). Other symbols that relocations name are undefined ones, for the linker to find. A symbol is
+    /// called `s0`, `s1` and so on where it has no name. Names and definitions are those that were given before finish.
     ///
     /// ```
     /// use wargnifla::{Arch, CodeBuffer, Reloc, RelocTarget, Sym};
@@ -162,12 +154,12 @@ impl CodeBufferFinalized {
     /// # Errors
     ///
     /// As [`Self::relas`]; and where a relocation's field passes the end of the code, one of kind [`Reloc::X86GOTPCRel4`] or
-    /// [`Reloc::ElfX86_64TlsGd`] names a label, two symbols would have one name, or one a name that no object holds.
+    /// [`Reloc::ElfX86_64TlsGd`] names a label, two symbols that are not both local would have one name, or one a name that no object holds.
     pub fn object(&self) -> Result<Vec<u8>, ObjectError> {
         let symbols = Symbols::new(self);
         let relas = self.relas_of(&symbols.renumbered(&self.relocs), TEXT_SYMBOL)?;
         self.check_relocs()?;
-        let (symtab, strtab) = symbols.tables()?;
+        let (symtab, strtab) = symbol_tables(&symbols)?;
         let (names, shstrtab) = section_names();
         let sections = [
             Section {
@@ -203,7 +195,7 @@ impl CodeBufferFinalized {
         let len = self.total_size() as CodeOffset;
         for (relocation, reloc) in self.relocs.iter().enumerate() {
             let (kind, size) = (reloc.kind, reloc.kind.field_size());
-            if reloc.offset + size > len {
+            if u64::from(reloc.offset) + u64::from(size) > len.into() {
                 let wrong =
                     format!("has a field of {size} bytes, which passes the end of the code, {len}");
                 return Err(ObjectError::FieldPastEnd {
@@ -236,119 +228,36 @@ fn machine(arch: Arch) -> u16 {
     }
 }
 
-/// What the object's symbols stand for.
-struct Symbols<'a> {
-    /// By number from [`FIRST_SYMBOL`] on: local labels, symbols of the recording, other labels.
-    symbols: Vec<Symbol<'a>>,
-    first_global: u32,
-}
-
-struct Symbol<'a> {
-    target: RelocTarget,
-    name: Cow<'a, str>,
-    binding: u8,
-    st_type: u8,
-    st_shndx: u16,
-    st_value: u32,
-}
-
-impl<'a> Symbols<'a> {
-    fn new(code: &'a CodeBufferFinalized) -> Self {
-        let labels = code.names.labels();
-        let bound = labels.filter(|(label, _)| code.label_offset(*label) != UNBOUND);
-        let (local, global): (Vec<_>, Vec<_>) = bound.partition(|(_, name)| name.starts_with('.'));
-        let labels = |labels: Vec<(Label, &'a str)>, binding| {
-            labels.into_iter().map(move |(label, name)| Symbol {
-                target: label.into(),
+/// The symbol table and its strings.
+fn symbol_tables(symbols: &Symbols<'_>) -> Result<(Vec<u8>, Vec<u8>), ObjectError> {
+    let mut strings = Strings::new();
+    let mut table = Bytes::default();
+    table.symbol(0, STB_LOCAL, STT_NOTYPE, SHN_UNDEF, 0);
+    table.symbol(0, STB_LOCAL, STT_SECTION, TEXT, 0);
+    let mut named = HashMap::new();
+    for symbol in &symbols.all {
+        let (name, target) = (&*symbol.name, symbol.target);
+        if name.is_empty() || name.contains('\0') {
+            return Err(ObjectError::UnfitName(target));
+        }
+        // Local names, which come first, may be the same: each piece of joined code has its own.
+        let first = named.insert(name, target);
+        if let Some(first) = first.filter(|_| symbol.binding != STB_LOCAL) {
+            return Err(ObjectError::NameTwice {
                 name: name.into(),
-                binding,
-                st_type: STT_NOTYPE,
-                st_shndx: TEXT,
-                st_value: code.label_offset(label),
-            })
-        };
-        let first_global = FIRST_SYMBOL + local.len() as u32;
-        let undefined = named_symbols(&code.relocs).into_iter();
-        let undefined = undefined.map(|(symbol, st_type)| Symbol {
-            target: symbol.into(),
-            name: match code.names.get(symbol) {
-                Some(name) => name.into(),
-                None => format!("s{}", symbol.id()).into(),
-            },
-            binding: STB_GLOBAL,
-            st_type,
-            st_shndx: SHN_UNDEF,
-            st_value: 0,
-        });
-        let symbols = labels(local, STB_LOCAL)
-            .chain(undefined)
-            .chain(labels(global, STB_GLOBAL));
-        Self {
-            symbols: symbols.collect(),
-            first_global,
+                first,
+                second: target,
+            });
         }
+        table.symbol(
+            strings.add(name),
+            symbol.binding,
+            symbol.st_type,
+            symbol.st_shndx,
+            symbol.st_value,
+        );
     }
-
-    /// Relocations with the object's numbers in the place of the recording's symbols.
-    fn renumbered(&self, relocs: &[AsmReloc]) -> Vec<AsmReloc> {
-        let numbers: HashMap<RelocTarget, u32> = self
-            .symbols
-            .iter()
-            .map(|symbol| symbol.target)
-            .zip(FIRST_SYMBOL..)
-            .collect();
-        let mut relocs = relocs.to_vec();
-        for reloc in &mut relocs {
-            if let RelocTarget::Sym(_) = reloc.target {
-                reloc.target = Sym::from_id(numbers[&reloc.target]).into();
-            }
-        }
-        relocs
-    }
-
-    /// The symbol table and its strings.
-    fn tables(&self) -> Result<(Vec<u8>, Vec<u8>), ObjectError> {
-        let mut strings = Strings::new();
-        let mut table = Bytes::default();
-        table.symbol(0, STB_LOCAL, STT_NOTYPE, SHN_UNDEF, 0);
-        table.symbol(0, STB_LOCAL, STT_SECTION, TEXT, 0);
-        let mut named = HashMap::new();
-        for symbol in &self.symbols {
-            let (name, target) = (&*symbol.name, symbol.target);
-            if name.is_empty() || name.contains('\0') {
-                return Err(ObjectError::UnfitName(target));
-            }
-            if let Some(first) = named.insert(name, target) {
-                return Err(ObjectError::NameTwice {
-                    name: name.into(),
-                    first,
-                    second: target,
-                });
-            }
-            table.symbol(
-                strings.add(name),
-                symbol.binding,
-                symbol.st_type,
-                symbol.st_shndx,
-                symbol.st_value,
-            );
-        }
-        Ok((table.0, strings.0))
-    }
-}
-
-/// The symbols that relocations name, with their types: a linker tells thread-local ones apart.
-fn named_symbols(relocs: &[AsmReloc]) -> BTreeMap<Sym, u8> {
-    let mut named = BTreeMap::new();
-    for reloc in relocs {
-        if let RelocTarget::Sym(symbol) = reloc.target {
-            let st_type = named.entry(symbol).or_insert(STT_NOTYPE);
-            if reloc.kind == Reloc::ElfX86_64TlsGd {
-                *st_type = STT_TLS;
-            }
-        }
-    }
-    named
+    Ok((table.0, strings.0))
 }
 
 /// A string table: names, each ended by a zero byte, behind the one that is empty.

@@ -5,7 +5,7 @@ use super::finish::Found;
 use crate::recording::{AsmReloc, RelocTarget};
 use crate::tables::word;
 use crate::verified::RELA_BYTES;
-use crate::{Arch, CodeBufferFinalized, ElfType, Entry};
+use crate::{Arch, CodeBufferFinalized, ElfType, Entry, MOST_ENTRIES};
 use sheet_text::counted;
 
 /// Why the relocations of finished code can't be written, and the one that it is for.
@@ -14,12 +14,30 @@ pub(crate) fn explain_write_relas(
     number: u32,
 ) -> (String, Option<Entry>) {
     let found = match number {
+        3 => past_limit(finished),
         24 => foreign_arch(finished.arch()).or_else(|| first(finished, no_type)),
         25 => first(finished, addend_overflow),
         26 => Some((too_long(finished.relocs().len()), None)),
         _ => None,
     };
     found.unwrap_or_else(|| (NO_REASON.into(), None))
+}
+
+/// Joined code alone may have more than finished code can.
+fn past_limit(finished: &CodeBufferFinalized) -> Found {
+    let counts = [
+        (finished.label_offsets().len(), "label"),
+        (finished.relocs().len(), "relocation"),
+    ];
+    let mut passed = counts
+        .into_iter()
+        .filter(|(count, _)| *count > MOST_ENTRIES);
+    let (count, noun) = passed.next()?;
+    let count = counted(count, noun);
+    Some((
+        format!("the code has {count}, and at most 65,536 are written as ELF"),
+        None,
+    ))
 }
 
 fn foreign_arch(arch: Arch) -> Found {

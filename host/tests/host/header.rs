@@ -153,12 +153,14 @@ fn calls() {
 }
 
 #[test]
-fn limits_and_the_stack_of_finish() {
+fn limits_and_the_stack_of_finish_and_join() {
     let number = |name: &str| defined(name).parse::<usize>().expect("a number");
     assert_eq!(number("WARGNIFLA_MOST_CODE"), wargnifla::MOST_CODE);
     assert_eq!(number("WARGNIFLA_MOST_ENTRIES"), wargnifla::MOST_ENTRIES);
     assert_eq!(number("WARGNIFLA_MOST_CONSTANT"), wargnifla::MOST_CONSTANT);
+    assert_eq!(number("WARGNIFLA_MOST_PIECES"), wargnifla::MOST_PIECES);
     assert_eq!(number("WARGNIFLA_FINISH_STACK"), wargnifla::FINISH_STACK);
+    assert_eq!(number("WARGNIFLA_JOIN_STACK"), wargnifla::JOIN_STACK);
     let longest = AsmConstant {
         data: vec![0; wargnifla::MOST_CONSTANT],
         label: None,

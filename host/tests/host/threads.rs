@@ -1,8 +1,10 @@
-//! The functions hold no state, and a thread with the stack that is said to be enough can finish.
+//! The functions hold no state, and a thread with the stack that is said to be enough can finish and join.
 
 use std::thread;
 
-use wargnifla::{CodeBuffer, FINISH_STACK};
+use wargnifla::{
+    Arch, CodeBuffer, CodeBufferFinalized, FINISH_STACK, JOIN_STACK, Label, Sym, join,
+};
 
 use crate::finished;
 
@@ -30,6 +32,27 @@ fn a_small_stack_is_enough() {
     let small = thread::Builder::new().stack_size(FINISH_STACK + OWN);
     let finishing = small.spawn(|| finished(TEXT)).unwrap();
     assert_eq!(finishing.join().unwrap(), finished(TEXT));
+}
+
+/// Code that defines many symbols, of small and great numbers.
+fn definer() -> CodeBufferFinalized {
+    let mut buffer = CodeBuffer::new(Arch::X64);
+    for number in (0..2_000).chain([65_535, 65_536, (1 << 31) - 1]) {
+        buffer.bind_symbol(Sym::from_id(number), Label::from_id(0));
+    }
+    buffer.finish().unwrap()
+}
+
+#[test]
+fn a_small_stack_is_enough_to_join() {
+    const OWN: usize = 96 * 1024;
+    let small = thread::Builder::new().stack_size(JOIN_STACK + OWN);
+    let joining = small.spawn(|| {
+        let pieces = [definer(), finished(TEXT)];
+        join(&pieces).unwrap()
+    });
+    let whole = joining.unwrap().join().unwrap();
+    assert_eq!(whole.bases(), [0, 0]);
 }
 
 #[test]

@@ -5,6 +5,7 @@ mod binutils;
 mod contents;
 #[path = "../host/elf_types.rs"]
 mod elf_types;
+mod joined;
 mod reader;
 mod shown;
 #[cfg(all(target_arch = "x86_64", target_os = "linux"))]

@@ -143,13 +143,43 @@ fn the_sheet_for_the_linker_says_hello() {
     ) {
         return;
     }
-    let sheet = concat!(env!("CARGO_MANIFEST_DIR"), "/../sheets/hello.txt");
-    let object = Command::new(env!("CARGO_BIN_EXE_wargnifla"))
-        .args(["--object", "-", sheet])
-        .output()
-        .unwrap();
     let folder = Folder::new("object-hello");
-    folder.write("hello.o", object.stdout);
+    folder.write("hello.o", object_of(&["hello"]));
     folder.printed("cc -o hello hello.o");
     assert_eq!(folder.printed("./hello"), "Hello, linker\n");
+}
+
+/// The object that the command writes of sheets for users.
+fn object_of(sheets: &[&str]) -> Vec<u8> {
+    let sheets = sheets
+        .iter()
+        .map(|sheet| format!("{}/../sheets/{sheet}.txt", env!("CARGO_MANIFEST_DIR")));
+    let written = Command::new(env!("CARGO_BIN_EXE_wargnifla"))
+        .args(["--object", "-"])
+        .args(sheets)
+        .output()
+        .unwrap();
+    assert_eq!(String::from_utf8_lossy(&written.stderr), "");
+    written.stdout
+}
+
+#[test]
+fn rules_that_call_each_other_run_joined_and_linked() {
+    const CALLER: &str = "join-caller";
+    const CALLEE: &str = "join-callee";
+    if !are_at_hand(&["cc"], "joined sheets linked with the C library and run") {
+        return;
+    }
+    let folder = Folder::new("object-joined");
+    folder.write("plan.o", object_of(&[CALLER, CALLEE]));
+    folder.printed("cc -o plan plan.o");
+    assert_eq!(folder.printed("./plan"), "Two rules, joined\n");
+    folder.write("backwards.o", object_of(&[CALLEE, CALLER]));
+    folder.printed("cc -o backwards backwards.o");
+    assert_eq!(folder.printed("./backwards"), "Two rules, joined\n");
+    // The linker finds in the objects of the sheets what join finds in the sheets.
+    folder.write("caller.o", object_of(&[CALLER]));
+    folder.write("callee.o", object_of(&[CALLEE]));
+    folder.printed("cc -o linked caller.o callee.o");
+    assert_eq!(folder.printed("./linked"), "Two rules, joined\n");
 }

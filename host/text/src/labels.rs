@@ -2,9 +2,10 @@
 
 use std::collections::HashMap;
 
+use crate::suggest::nearest;
 use crate::tokens::Token;
 use crate::words::{number, starts_number};
-use crate::{Call, Span, TextError};
+use crate::{Call, Span, TextError, counted};
 
 /// The labels made by a place in a text.
 #[derive(Default)]
@@ -117,6 +118,26 @@ impl<'a> Labels<'a> {
                 word.quoted()
             ))),
         }
+    }
+
+    /// The number of a label that the whole text makes.
+    pub fn made(&self, word: Token<'_>) -> Result<u32, TextError> {
+        if starts_number(word.text) {
+            let label = self.written(word, number(word)?)?;
+            if label < self.count {
+                return Ok(label);
+            }
+            let made = counted(self.count as usize, "label");
+            return Err(word.error(format!("label {label} is unknown: the text makes {made}")));
+        }
+        if let Some(named) = self.named.get(word.text) {
+            return Ok(named.label);
+        }
+        let mut names: Vec<&str> = self.named.keys().copied().collect();
+        names.sort_unstable();
+        let meant = nearest(word.text, names)
+            .map_or(String::new(), |near| format!("; did you mean '{near}'?"));
+        Err(word.error(format!("there is no label {}{meant}", word.quoted())))
     }
 
     /// A label's number, unless the label was made for a name: whoever counts the calls that make labels does not count it.

@@ -10,6 +10,7 @@
 #![warn(missing_docs)]
 
 mod call;
+mod definitions;
 mod kinds;
 mod labels;
 mod place;
@@ -25,6 +26,7 @@ mod words;
 use std::borrow::Cow;
 
 pub use call::{CALL_NAMES, Call};
+pub use definitions::{Definition, ExternalName};
 pub use kinds::{Arch, Condition, LabelUse, Reach, Reloc};
 pub use place::{Note, Span, TextError};
 use placing::Placing;
@@ -51,6 +53,8 @@ pub struct Script<C> {
     pub names: Vec<(u32, String)>,
     /// The symbols' names, by number from 0; none where the text counts its symbols.
     pub symbol_names: Vec<String>,
+    /// The symbols that labels define, each once. They stand beside the calls, as names do.
+    pub definitions: Vec<Definition>,
 }
 
 impl<C> Script<C> {
@@ -98,6 +102,7 @@ pub fn read_text<C>(
         statements: read.statements,
         names: read.names,
         symbol_names: read.symbol_names,
+        definitions: read.definitions,
     })
 }
 

@@ -1,5 +1,6 @@
 //! Statements and groups, read into steps.
 
+use crate::definitions::{Define, Definition, definitions};
 use crate::labels::{Labels, is_name, name as label_name};
 use crate::symbols::Symbols;
 use crate::text_call::{Arguments, Step, long_word, mentioned_label, numbered_argument};
@@ -22,6 +23,7 @@ pub(crate) struct Steps {
     pub statements: Vec<Span>,
     pub names: Vec<(u32, String)>,
     pub symbol_names: Vec<String>,
+    pub definitions: Vec<Definition>,
 }
 
 pub(crate) fn read_steps(text: &str) -> Result<Steps, TextError> {
@@ -34,6 +36,7 @@ pub(crate) fn read_steps(text: &str) -> Result<Steps, TextError> {
         statements: Vec::new(),
         labels: Labels::default(),
         numbered_targets: Vec::new(),
+        defines: Vec::new(),
     };
     reader.statements(0)?;
     if let Some(token) = reader.peek() {
@@ -42,6 +45,7 @@ pub(crate) fn read_steps(text: &str) -> Result<Steps, TextError> {
     for word in &reader.numbered_targets {
         reader.labels.check_target(*word)?;
     }
+    let definitions = definitions(&reader.defines, &reader.labels, &reader.symbols)?;
     Ok(Steps {
         arch: reader.arch,
         symbols: reader.symbols.count(),
@@ -49,6 +53,7 @@ pub(crate) fn read_steps(text: &str) -> Result<Steps, TextError> {
         statements: reader.statements,
         names: reader.labels.names(),
         symbol_names: reader.symbols.names(),
+        definitions,
     })
 }
 
@@ -70,6 +75,8 @@ struct Reader<'a> {
     labels: Labels<'a>,
     /// Words such as `l0`, which no label may have for its name.
     numbered_targets: Vec<Token<'a>>,
+    /// What is defined, to be read once all labels are made.
+    defines: Vec<Define<'a>>,
 }
 
 impl<'a> Reader<'a> {
@@ -184,6 +191,7 @@ impl<'a> Reader<'a> {
         self.at += 1 + words.len();
         match name.text {
             "arch" | "symbols" => self.directive(name, &words)?,
+            "define" => self.define(name, &words, nesting)?,
             _ => self.call(name, &words, nesting)?,
         }
         match self.peek() {
@@ -213,6 +221,22 @@ impl<'a> Reader<'a> {
                 Ok(())
             }
         }
+    }
+
+    fn define(
+        &mut self,
+        name: Token<'a>,
+        words: &[Token<'a>],
+        nesting: usize,
+    ) -> Result<(), TextError> {
+        let [symbol, label] = self.arguments(name, words).two()?;
+        if nesting > 0 {
+            let sentence = "a group would define the symbol as often as it is repeated: \
+                            a definition stands outside of groups";
+            return Err(name.error(sentence));
+        }
+        self.defines.push(Define { symbol, label });
+        Ok(())
     }
 
     fn arguments<'t>(&'t self, name: Token<'a>, words: &'t [Token<'a>]) -> Arguments<'t, 'a> {

@@ -5,7 +5,7 @@ use std::collections::HashMap;
 use crate::labels::name;
 use crate::tokens::Token;
 use crate::words::{is_numbered, number};
-use crate::{Span, TextError};
+use crate::{ExternalName, Span, TextError};
 
 /// The symbols that a text counts or names before its first call.
 #[derive(Default)]
@@ -66,6 +66,14 @@ impl<'a> Symbols<'a> {
 
     pub fn number_of(&self, name: &str) -> Option<u32> {
         self.numbers.get(name).copied()
+    }
+
+    /// What the symbol of a number goes by: its name, if it has one.
+    pub fn external(&self, number: u32) -> ExternalName {
+        match self.named.get(number as usize) {
+            Some(word) => word.text.into(),
+            None => ExternalName::Number(number),
+        }
     }
 
     fn place(&self, name: &str) -> Option<Span> {

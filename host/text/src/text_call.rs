@@ -53,7 +53,7 @@ const fn word(
     }
 }
 
-const WORDS: [Word; 15] = [
+const WORDS: [Word; 16] = [
     word("label", "n", "a NAME or nothing", 1),
     word("bind", "l", "LABEL", 1),
     word("bytes", "b", "HEX ..", usize::MAX),
@@ -74,6 +74,7 @@ const WORDS: [Word; 15] = [
     word("finish", "f", "no arguments", 0),
     word("arch", "arch", "one of x86, x64, aarch64", 1),
     word("symbols", "symbols", "COUNT or NAME ..", 1),
+    word("define", "define", "SYMBOL LABEL", 2),
 ];
 
 /// The conditional jumps that stand for all others in what is suggested.
@@ -194,6 +195,13 @@ impl<'a> Arguments<'_, 'a> {
     pub fn one(&self) -> Result<Token<'a>, TextError> {
         match *self.words {
             [word] => Ok(word),
+            _ => Err(self.wrong()),
+        }
+    }
+
+    pub fn two(&self) -> Result<[Token<'a>; 2], TextError> {
+        match *self.words {
+            [first, second] => Ok([first, second]),
             _ => Err(self.wrong()),
         }
     }

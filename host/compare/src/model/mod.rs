@@ -11,13 +11,14 @@ mod counts;
 mod entries;
 mod fields;
 mod finish;
+pub mod join;
 pub mod open;
 mod pool;
 pub mod relas;
 mod rules;
 mod sheet;
 
-use crate::{Boundary, Lent, NONE, Part, Reply};
+use crate::{Boundary, Lent, NONE, Part, Reply, Vast};
 use calls::{Call, Recording};
 use counts::Counts;
 pub use rules::{Rules, add_word, code_alignment};
@@ -132,5 +133,9 @@ impl Boundary for Model {
 
     fn read_relas(&mut self) -> Reply {
         Reply::new(relas::read(&mut self.lent, self.rules), 0)
+    }
+
+    fn join(&mut self, is_vast: Vast) -> Reply {
+        Reply::new(join::join(&mut self.lent, is_vast, self.rules.join), 0)
     }
 }

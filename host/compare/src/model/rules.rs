@@ -2,6 +2,7 @@
 //! a self-test can put wrong rules in the place of these.
 
 use super::fields;
+use super::join::JoinRules;
 use super::open::OpenRules;
 use super::relas::{self, Finished, ReaderCheck, Relocation, WriterCheck};
 
@@ -10,7 +11,8 @@ const LEAST_ALIGNMENT: u32 = 32;
 
 /// Request One, constants for the widest registers; Request Two, relocations
 /// for the system linker; Request Four, ADD fields that already hold something;
-/// Request Five, what is still open. Request Three changed no answer.
+/// Request Five, what is still open; Request Six, finished records joined.
+/// Request Three changed no answer.
 #[derive(Clone, Copy)]
 pub struct Rules {
     /// The multiple that a constant of a size stands on.
@@ -31,6 +33,8 @@ pub struct Rules {
     pub add_word: fn(held: u32, low: u32) -> u32,
     /// How many entries are open, and what follows from the number.
     pub open: OpenRules,
+    /// How finished records are joined.
+    pub join: JoinRules,
 }
 
 impl Default for Rules {
@@ -44,6 +48,7 @@ impl Default for Rules {
             taken_back: relas::taken_back,
             add_word,
             open: OpenRules::default(),
+            join: JoinRules::default(),
         }
     }
 }

@@ -117,7 +117,7 @@ impl Side for Editor<'_> {
         }
     }
 
-    fn code(&self) -> &[u8] {
+    fn code(&mut self) -> &[u8] {
         &self.shown
     }
 }

@@ -3,6 +3,7 @@
 
 mod editor;
 mod inputs;
+mod joins;
 mod library;
 mod measure;
 mod print;
@@ -57,12 +58,14 @@ fn effort(row: &Row, quick: bool) -> Effort {
             time: Duration::from_millis(200),
             fewest: 1,
             most: 101,
+            alone: 0,
         }
     } else {
         Effort {
             time: Duration::from_secs(3),
             fewest: row.fewest,
             most: 1_501,
+            alone: row.alone,
         }
     }
 }

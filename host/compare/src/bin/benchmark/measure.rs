@@ -57,6 +57,9 @@ pub struct Effort {
     pub time: Duration,
     pub fewest: usize,
     pub most: usize,
+    /// So many runs of the first alone follow, where the second takes so long
+    /// that few turns are enough.
+    pub alone: usize,
 }
 
 /// What measuring two things in turn gave.
@@ -68,6 +71,8 @@ pub struct Measured {
     /// it, since a machine is faster at one time than at another.
     pub ratio: [f64; 3],
     pub runs: usize,
+    /// Runs of the first that stand beside the last of the second.
+    pub alone: usize,
 }
 
 /// Measures two things that take turns. One run of each is not counted, unless
@@ -88,12 +93,18 @@ pub fn take_turns(
     {
         pairs.push([first(), second()].map(|time| time.as_nanos() as f64));
     }
+    let runs = pairs.len();
+    let beside = pairs[runs - 1][1];
+    for _ in 0..effort.alone {
+        pairs.push([first().as_nanos() as f64, beside]);
+    }
     let quartiles = |of: fn(&[f64; 2]) -> f64| quartiles(pairs.iter().map(of).collect());
     Measured {
         first: quartiles(|[first, _]| *first)[1],
         second: quartiles(|[_, second]| *second)[1],
         ratio: quartiles(|[first, second]| first / second),
-        runs: pairs.len(),
+        runs,
+        alone: effort.alone,
     }
 }
 

@@ -23,12 +23,14 @@ impl Table {
         let one = |time: f64| readable(time / row.batch as f64);
         let (ours, other) = (one(measured.first), one(measured.second));
         let [lower, ratio, upper] = measured.ratio;
-        let printed = format!("| {} | {ours} | {other} | {ratio:.2} |", row.about);
-        let runs = match row.batch {
-            1 => measured.runs.to_string(),
-            batch => format!("{} of {batch}", measured.runs),
+        let [lower, ratio, upper] = [lower, ratio, upper].map(short);
+        let printed = format!("| {} | {ours} | {other} | {ratio} |", row.about);
+        let runs = match (row.batch, measured.alone) {
+            (1, 0) => measured.runs.to_string(),
+            (1, alone) => format!("{}, and {alone} of ours", measured.runs),
+            (batch, _) => format!("{} of {batch}", measured.runs),
         };
-        println!("{printed} {lower:.2} to {upper:.2} | {runs} |");
+        println!("{printed} {lower} to {upper} | {runs} |");
         self.rows.push(printed);
         self.notes.extend(note);
     }
@@ -56,6 +58,14 @@ pub fn grouped(number: usize) -> String {
     match number {
         0..1_000 => number.to_string(),
         _ => format!("{},{:03}", grouped(number / 1_000), number % 1_000),
+    }
+}
+
+/// A ratio, of which two digits are enough unless there is nothing in them.
+fn short(ratio: f64) -> String {
+    match ratio {
+        ..0.01 => format!("{ratio:.4}"),
+        _ => format!("{ratio:.2}"),
     }
 }
 

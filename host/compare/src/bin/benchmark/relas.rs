@@ -42,7 +42,7 @@ impl Side for Relas<'_, '_> {
         }
     }
 
-    fn code(&self) -> &[u8] {
+    fn code(&mut self) -> &[u8] {
         self.verified.content(match self.task {
             Task::Write => Part::Relas,
             Task::Read => Part::Entries,
@@ -91,7 +91,7 @@ impl Side for Loop {
         black_box(&mut self.output);
     }
 
-    fn code(&self) -> &[u8] {
+    fn code(&mut self) -> &[u8] {
         &self.output
     }
 }

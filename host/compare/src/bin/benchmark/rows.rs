@@ -1,8 +1,9 @@
 //! The rows: what of which input is timed, and beside what.
 
-use compare::{AARCH64, X64};
+use compare::{AARCH64, Piece, X64};
 
 use crate::inputs::{self, Step};
+use crate::joins::{self, Linking};
 use crate::library::library;
 use crate::relas::Task;
 use crate::sides::HandOut;
@@ -30,6 +31,8 @@ pub enum Sides {
     /// The C functions for the calls of an editor, which shows the number of
     /// open entries that they keep, or counts afresh.
     Editor,
+    /// The C function for joins, and the Rust's linker.
+    Join(fn() -> Vec<Piece>, Linking),
 }
 
 /// Where the steps of a recording come from.
@@ -52,6 +55,8 @@ pub struct Row {
     pub batch: usize,
     /// The fewest runs that are enough.
     pub fewest: usize,
+    /// So many runs of ours alone follow those.
+    pub alone: usize,
 }
 
 /// What most rows are, but for their names and inputs.
@@ -64,6 +69,7 @@ const FINISH: Row = Row {
     arch: X64,
     batch: 1,
     fewest: 15,
+    alone: 0,
 };
 
 /// A finish of a recording that is made here.
@@ -75,6 +81,11 @@ const fn row(name: &'static str, about: &'static str, input: fn() -> Vec<Step>) 
         input,
         ..FINISH
     }
+}
+
+/// A join of finished records, which are made here.
+const fn join(name: &'static str, about: &'static str, pieces: fn() -> Vec<Piece>) -> Row {
+    row(name, about, Vec::new).beside(Sides::Join(pieces, Linking::Link))
 }
 
 impl Row {
@@ -112,12 +123,21 @@ impl Row {
     const fn at_least(self, fewest: usize) -> Self {
         Self { fewest, ..self }
     }
+
+    /// A row whose other side takes so long that it has one turn.
+    const fn with_one_turn(self) -> Self {
+        Self {
+            fewest: 1,
+            alone: 14,
+            ..self
+        }
+    }
 }
 
 const OWNED: Sides = Sides::Verified(HandOut::Owned);
 const WRAPPER: Sides = Sides::Wrapper(HandOut::Copies);
 
-pub const ROWS: [Row; 43] = [
+pub const ROWS: [Row; 52] = [
     row("jumps-1", "finish: 1 jump", || inputs::small(1)).batched(16),
     row("jumps-10", "finish: 10 jumps", || inputs::small(10)).batched(16),
     row("jumps-20", "finish: 20 jumps", || inputs::small(20)).batched(16),
@@ -198,6 +218,43 @@ pub const ROWS: [Row; 43] = [
         inputs::relocations_of_every_type,
     )
     .beside(Sides::Relas(Task::Read)),
+    join("join-small", "join: 4 rules of 10 jumps", joins::small).batched(16),
+    join("join-typical", "join: 4 typical rules", joins::typical),
+    join(
+        "join-typical-loaded",
+        "the same; the Rust links and loads",
+        joins::typical,
+    )
+    .beside(Sides::Join(joins::typical, Linking::Load)),
+    join(
+        "join-many",
+        "join: 256 pieces, 1,024 symbols, 1,536 calls",
+        joins::many,
+    ),
+    join(
+        "join-sparse",
+        "join: 16 pieces, 4,096 symbols from 65,536 on",
+        joins::sparse,
+    ),
+    join(
+        "join-dense",
+        "join: 65,536 calls of 65,536 symbols, 2 pieces",
+        joins::dense,
+    )
+    .with_one_turn(),
+    join(
+        "join-dense-spread",
+        "join: 65,024 calls of 65,536 symbols, 256 pieces",
+        joins::dense_spread,
+    )
+    .with_one_turn(),
+    join("join-copied", "join: 16 MiB in 256 pieces", joins::copied),
+    join(
+        "join-copied-loaded",
+        "the same; the Rust links and loads",
+        joins::copied,
+    )
+    .beside(Sides::Join(joins::copied, Linking::Load)),
     row(
         "constants-10000",
         "finish: 10,000 pooled constants, one jump",

@@ -2,8 +2,11 @@
 
 use std::time::Duration;
 
+use compare::Piece;
+
 use crate::editor::{Editor, Number};
 use crate::inputs::Step;
+use crate::joins::{self, Joining, Linked, Linking};
 use crate::library::{Library, library};
 use crate::measure::{Clock, Effort, Measured, take_turns};
 use crate::print::grouped;
@@ -19,6 +22,7 @@ pub fn measure(row: &Row, effort: Effort) -> Result<(Measured, Option<String>), 
     let rust = |hand_out| Rust::new(row.arch, row.recordings(), hand_out);
     let measured = match row.sides {
         Sides::Editor => return Ok((editors(row, effort, &steps), None)),
+        Sides::Join(pieces, linking) => return Ok((join(row, effort, &pieces(), linking), None)),
         Sides::Verified(hand_out) => compare(row, effort, &steps, &mut verified, rust(hand_out)),
         Sides::Wrapper(hand_out) => {
             let mut wrapper = Wrapper::default();
@@ -46,6 +50,14 @@ fn editors(row: &Row, effort: Effort, steps: &[Step]) -> Measured {
     let mut kept = Editor::new(Verified::new(row.arch, kept), Number::Kept);
     let afresh = Editor::new(Verified::new(row.arch, afresh), Number::Afresh);
     compare(row, effort, steps, &mut kept, afresh)
+}
+
+/// Measures a join beside the Rust's linker.
+fn join(row: &Row, effort: Effort, pieces: &[Piece], linking: Linking) -> Measured {
+    let mut memory = joins::memory(pieces, row.batch);
+    let mut ours = Joining::new(&mut memory);
+    let linked = Linked::new(pieces, linking, row.batch);
+    compare(row, effort, &[], &mut ours, linked)
 }
 
 /// Measures two sides, and sees that they finish to the same code.

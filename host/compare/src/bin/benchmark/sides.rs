@@ -15,7 +15,7 @@ pub trait Side {
     fn record(&mut self, steps: &[Step]);
     fn finish(&mut self);
     /// What the first recording finished to.
-    fn code(&self) -> &[u8];
+    fn code(&mut self) -> &[u8];
     /// Records, finishes and forgets one recording, a local variable if it owns
     /// memory.
     fn whole(&mut self, steps: &[Step]) {
@@ -126,7 +126,7 @@ impl Side for Verified<'_> {
         }
     }
 
-    fn code(&self) -> &[u8] {
+    fn code(&mut self) -> &[u8] {
         let length = self.record_word(1) as usize;
         &self.content(Part::Output)[..length]
     }
@@ -147,7 +147,7 @@ fn record_by_verified(lending: &mut Lending<'_>, step: &Step) {
     }
 }
 
-fn accepted(reply: Reply) {
+pub fn accepted(reply: Reply) {
     assert_eq!(reply.refusal, 0, "ours refuses a call: {reply:?}");
 }
 
@@ -173,7 +173,7 @@ impl Side for Wrapper {
         self.finished = Some(buffer.finish().expect("the wrapper finishes"));
     }
 
-    fn code(&self) -> &[u8] {
+    fn code(&mut self) -> &[u8] {
         let finished = self.finished.as_ref();
         finished.map_or(&[], CodeBufferFinalized::data)
     }
@@ -277,7 +277,7 @@ impl Side for Rust {
         }
     }
 
-    fn code(&self) -> &[u8] {
+    fn code(&mut self) -> &[u8] {
         let [first, ..] = &self.finished[..] else {
             return &[];
         };
@@ -346,7 +346,7 @@ impl Side for Copy {
         black_box(&mut self.to);
     }
 
-    fn code(&self) -> &[u8] {
+    fn code(&mut self) -> &[u8] {
         &self.to
     }
 }

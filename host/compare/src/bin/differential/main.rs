@@ -4,6 +4,7 @@
 mod again;
 mod families;
 mod fault;
+mod links;
 mod rebuild;
 mod runner;
 mod rust;
@@ -11,6 +12,7 @@ mod scenario;
 mod self_test;
 mod shrink;
 mod summary;
+mod vast;
 
 use std::process::ExitCode;
 use std::time::{Duration, Instant};
@@ -18,12 +20,14 @@ use std::time::{Duration, Instant};
 use families::Family;
 use runner::{Disagreement, Runner};
 use scenario::Scenario;
+use self_test::Findings;
 use summary::Tally;
 
 const USAGE: &str = "\
 differential [--seed N] [--count N | --seconds N] [--family NAME]
 differential --sample        a fixed sample of every family, for a gate
 differential --self-test     puts faults into ours; each must be found
+differential --vast          joins that end where 32 bits do: takes 4 GiB
 differential --list          the families";
 
 /// Disagreements of a family after which it is left.
@@ -66,6 +70,7 @@ struct Options {
 enum Command {
     Run(Options),
     SelfTest,
+    Vast,
     List,
 }
 
@@ -81,7 +86,8 @@ fn main() -> ExitCode {
             }
             ExitCode::SUCCESS
         }
-        Some(Command::SelfTest) => self_test(),
+        Some(Command::SelfTest) => tell(&self_test::run(), "faults", "not found"),
+        Some(Command::Vast) => tell(&vast::run(), "answers", "wrong"),
         Some(Command::Run(options)) => run(&options),
     }
 }
@@ -102,6 +108,7 @@ fn read_arguments(mut arguments: impl Iterator<Item = String>) -> Option<Command
             "--sample" => options.extent = Extent::Sample,
             "--family" => options.family = Some(arguments.next()?),
             "--self-test" => command = Some(Command::SelfTest),
+            "--vast" => command = Some(Command::Vast),
             "--list" => command = Some(Command::List),
             _ => return None,
         }
@@ -109,17 +116,13 @@ fn read_arguments(mut arguments: impl Iterator<Item = String>) -> Option<Command
     Some(command.unwrap_or(Command::Run(options)))
 }
 
-fn self_test() -> ExitCode {
-    let findings = self_test::run();
+fn tell(findings: &Findings, of_what: &str, how: &str) -> ExitCode {
     for missed in &findings.missed {
-        println!("not found: {missed}");
+        println!("{how}: {missed}");
     }
-    println!(
-        "{} faults, {} not found",
-        findings.faults,
-        findings.missed.len()
-    );
-    exit_code(findings.faults > 0 && findings.missed.is_empty())
+    let (all, missed) = (findings.faults, findings.missed.len());
+    println!("{all} {of_what}, {missed} {how}");
+    exit_code(all > 0 && missed == 0)
 }
 
 fn run(options: &Options) -> ExitCode {
@@ -150,7 +153,7 @@ fn exit_code(success: bool) -> ExitCode {
 }
 
 fn run_family(family: &Family, seed: u64, extent: Extent) -> Tally {
-    let mut tally = Tally::new(family.name, family.has_rust);
+    let mut tally = Tally::new(family.name, family.subject);
     let mut runner = Runner::default();
     let begun = Instant::now();
     for index in 0..family.total().unwrap_or(u64::MAX) {

@@ -2,7 +2,7 @@
 
 use std::fmt;
 
-use compare::{Boundary, Lent, Model, Ours, Part, Reply, Rules};
+use compare::{Boundary, Lent, Model, Ours, Part, Reply, Rules, pieces};
 use reference::{DEPARTURES, Departure};
 
 use crate::again;
@@ -32,8 +32,9 @@ impl fmt::Display for Disagreement {
 pub struct Outcome {
     /// Its first refusal, or 0.
     pub refusal: u32,
+    /// A finish, or a join, was accepted.
     pub finished: bool,
-    /// A finish was compared with the Rust's.
+    /// A finish was compared with the Rust's, or a join with its linker's.
     pub compared: bool,
     /// The departure for which a finish was held against the model alone.
     pub departure: Option<&'static str>,
@@ -104,7 +105,7 @@ impl Runner {
             if outcome.refusal == 0 {
                 outcome.refusal = reply.refusal;
             }
-            outcome.finished |= matches!(step, Step::Finish) && reply.refusal == 0;
+            outcome.finished |= matches!(step, Step::Finish | Step::Join(_)) && reply.refusal == 0;
         }
         outcome.compared = rust.compared;
         outcome.departure = rust.departure;
@@ -124,6 +125,12 @@ impl Runner {
         if let Step::Open(open) = step {
             let number = open.number(&self.model.lent);
             self.write_by_hand(Part::Counts, Open::AT, &number.to_le_bytes());
+            return Ok(Reply::default());
+        }
+        if let Step::Pieces(pieces) = step {
+            for part in pieces::LENT_IN {
+                self.write_by_hand(part, 0, &pieces::content(pieces, part));
+            }
             return Ok(Reply::default());
         }
         let bytes = step.bytes();

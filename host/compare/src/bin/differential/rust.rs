@@ -1,10 +1,11 @@
 //! The Rust reference, driven beside ours as long as it must agree.
 
-use compare::{AARCH64, Lent, Part, Reply, X64, X86};
+use compare::{AARCH64, Lent, Part, Reply, Vast, X64, X86};
 use reference::{
     Call, Departure, Error, Finished, Recording, Sheet, added_refusal, first_departure, quietly,
 };
 
+use crate::links::{self, Beside};
 use crate::rebuild;
 use crate::scenario::{Scenario, Step};
 
@@ -23,7 +24,7 @@ pub struct Rust<'a> {
     departures: &'static [Departure],
     /// The first departure that was met.
     pub departure: Option<&'static str>,
-    /// A finish was compared.
+    /// A finish, or a join, was compared.
     pub compared: bool,
 }
 
@@ -93,6 +94,12 @@ impl<'a> Rust<'a> {
             }
             // It has nothing of the kind.
             Step::WriteRelas(_) | Step::ReadRelas => Ok(()),
+            Step::Join(Vast::Neither) => {
+                self.compared |= links::compare(reply.refusal, lent)? != Beside::Nothing;
+                Ok(())
+            }
+            // So much code is not made for it.
+            Step::Join(_) => Ok(()),
             // Nothing ran of a sheet whose form is broken.
             Step::RawSheet(_) if reply.refusal == 1 => Ok(()),
             Step::RawSheet(sheet) => {

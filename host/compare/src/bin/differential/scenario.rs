@@ -3,7 +3,7 @@
 use std::borrow::Cow;
 use std::fmt;
 
-use compare::{Boundary, Lent, Part, Random, Reply, open};
+use compare::{Boundary, Lent, Part, Piece, Random, Reply, Vast, open, pieces};
 use reference::{Call, write_sheet, write_text};
 
 /// The most bytes that a pooled constant takes, with its padding.
@@ -37,6 +37,10 @@ pub enum Step {
     },
     /// The number of open entries written by hand.
     Open(Open),
+    /// Pieces written by hand.
+    Pieces(Vec<Piece>),
+    /// The pieces joined.
+    Join(Vast),
 }
 
 /// A number of open entries that is handed in.
@@ -80,7 +84,9 @@ impl Step {
             | Self::ReadRelas
             | Self::WriteAgain
             | Self::Write { .. }
-            | Self::Open(_) => None,
+            | Self::Open(_)
+            | Self::Pieces(_)
+            | Self::Join(_) => None,
         }
     }
 
@@ -100,7 +106,8 @@ impl Step {
             Self::Finish => boundary.finish(),
             Self::WriteRelas(section) => boundary.write_relas(*section),
             Self::ReadRelas | Self::WriteAgain => boundary.read_relas(),
-            Self::Write { .. } | Self::Open(_) => Reply::default(),
+            Self::Join(is_vast) => boundary.join(*is_vast),
+            Self::Write { .. } | Self::Open(_) | Self::Pieces(_) => Reply::default(),
         }
     }
 
@@ -128,13 +135,20 @@ impl Step {
             | Self::ReadRelas
             | Self::WriteAgain
             | Self::Write { .. }
-            | Self::Open(_) => Cow::Borrowed(&[]),
+            | Self::Open(_)
+            | Self::Pieces(_)
+            | Self::Join(_) => Cow::Borrowed(&[]),
         }
     }
 
     /// Whether lent memory is written by hand.
     pub fn is_by_hand(&self) -> bool {
-        matches!(self, Self::Write { .. } | Self::WriteAgain | Self::Open(_))
+        matches!(self, Self::WriteAgain) || self.is_no_call()
+    }
+
+    /// Whether lent memory is written by hand, and nothing else done.
+    pub fn is_no_call(&self) -> bool {
+        matches!(self, Self::Write { .. } | Self::Open(_) | Self::Pieces(_))
     }
 }
 
@@ -193,6 +207,17 @@ impl Room {
         self.0[part as usize] += entries * part.entry_bytes();
     }
 
+    /// Room enough for pieces, and a record; what they are joined to has none.
+    pub fn for_pieces(pieces: &[Piece]) -> Self {
+        let mut room = Self([0; Part::COUNT]);
+        room.set(Part::Counts, 1);
+        room.set(Part::Record, 1);
+        for part in pieces::LENT_IN {
+            room.set_bytes(part, pieces::content(pieces, part).len());
+        }
+        room
+    }
+
     /// Lends so many whole entries.
     pub fn set(&mut self, part: Part, entries: usize) {
         self.set_bytes(part, entries * part.entry_bytes());
@@ -204,6 +229,11 @@ impl Room {
 
     pub fn bytes(&self, part: Part) -> usize {
         self.0[part as usize]
+    }
+
+    /// The bytes lent of all parts.
+    pub fn sum(&self) -> usize {
+        self.0.iter().sum()
     }
 }
 
@@ -277,6 +307,14 @@ impl fmt::Display for Step {
                 write!(f, "write a number of open entries that is wrong by {more}")
             }
             Self::Open(Open::Number(number)) => write!(f, "write {number} open entries"),
+            Self::Pieces(pieces) => {
+                write!(f, "pieces:")?;
+                let joined = pieces.iter().enumerate();
+                joined
+                    .map(|(number, piece)| (if number == 0 { "" } else { "+ " }, piece))
+                    .try_for_each(|(plus, piece)| write!(f, "\n  {plus}{piece}"))
+            }
+            Self::Join(is_vast) => write!(f, "join, vast: {is_vast:?}"),
             direct => write!(f, "direct: {}", write_text(&direct.calls())),
         }
     }

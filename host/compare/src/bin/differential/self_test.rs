@@ -2,6 +2,8 @@
 //! against the model even where a departure leaves the Rust aside.
 
 mod elf;
+mod join;
+mod links;
 mod open;
 mod requests;
 
@@ -36,7 +38,7 @@ pub struct Findings {
 }
 
 impl Findings {
-    fn add(&mut self, found: bool, fault: impl FnOnce() -> String) {
+    pub fn add(&mut self, found: bool, fault: impl FnOnce() -> String) {
         self.faults += 1;
         if !found {
             self.missed.push(fault());
@@ -61,6 +63,9 @@ pub fn run() -> Findings {
     requests::wrong_adds_are_found(&mut findings);
     elf::wrong_entries_are_found(&mut findings);
     open::wrong_numbers_are_found(&mut findings);
+    join::wrong_joins_are_found(&mut findings);
+    join::numbers_are_answered(&mut findings);
+    links::changes_are_found(&mut findings);
     findings
 }
 
@@ -96,7 +101,7 @@ fn with_wrong_rules(
 fn against_model(family: &Family, runner: &mut Runner, findings: &mut Findings) {
     for index in 0..INPUTS {
         let scenario = family.scenario(0, index);
-        let step = index as usize % scenario.steps.len();
+        let step = call_of(&scenario, index);
         for fault in Fault::all() {
             if has_effect(fault, &scenario, step) {
                 let found = runner.run_with(&scenario, Some((step, fault))).is_err();
@@ -106,10 +111,20 @@ fn against_model(family: &Family, runner: &mut Runner, findings: &mut Findings) 
     }
 }
 
+/// The step that a fault is put into: any for one input or another, but one
+/// that makes a call.
+fn call_of(scenario: &Scenario, index: u64) -> usize {
+    let steps = scenario.steps.iter().enumerate();
+    let calls: Vec<_> = steps
+        .filter(|(_, step)| !step.is_no_call())
+        .map(|(step, _)| step)
+        .collect();
+    calls[index as usize % calls.len()]
+}
+
 /// Something is there that the fault changes.
 fn has_effect(fault: Fault, scenario: &Scenario, step: usize) -> bool {
     match (fault, &scenario.steps[step]) {
-        (_, Step::Write { .. } | Step::Open(_)) => false,
         (Fault::Content(part), _) => scenario.room.bytes(part) > 0,
         (Fault::Read, step) => step.bytes().is_some(),
         _ => true,
@@ -152,7 +167,7 @@ fn against_rust(family: &Family, runner: &mut Runner, findings: &mut Findings) {
 /// the Rust, and counted under its name; any other is held against both.
 fn with_departures(family: &Family, runner: &mut Runner, findings: &mut Findings) {
     let mut departing = Runner::departing(DEPARTURES);
-    let mut tally = Tally::new(family.name, family.has_rust);
+    let mut tally = Tally::new(family.name, family.subject);
     let mut met = 0;
     for (index, scenario, mut lent) in finished_inputs(family, runner) {
         let departs = has_alignment(&scenario.steps[0].calls());

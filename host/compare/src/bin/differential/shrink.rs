@@ -3,7 +3,7 @@
 use std::borrow::Cow;
 use std::time::{Duration, Instant};
 
-use compare::Part;
+use compare::{Part, Piece};
 use reference::Call;
 
 use crate::runner::Runner;
@@ -63,6 +63,10 @@ fn smaller_steps(step: &Step) -> Box<dyn Iterator<Item = Step> + '_> {
         }
         Step::Bytes(bytes) => Box::new(smaller_lists(bytes).map(Step::Bytes)),
         Step::Constant(bytes) => Box::new(smaller_lists(bytes).map(Step::Constant)),
+        Step::Pieces(pieces) => {
+            let smaller = smaller_lists(pieces).chain(smaller_pieces(pieces));
+            Box::new(smaller.map(Step::Pieces))
+        }
         _ => Box::new(std::iter::empty()),
     }
 }
@@ -95,4 +99,35 @@ fn smaller_calls<'a>(
         calls[index] = smaller;
         Some(calls)
     })
+}
+
+/// The pieces with one of them made smaller.
+fn smaller_pieces(pieces: &[Piece]) -> impl Iterator<Item = Vec<Piece>> {
+    pieces.iter().enumerate().flat_map(move |(number, piece)| {
+        smaller_piece(piece).map(move |piece| {
+            let mut pieces = pieces.to_vec();
+            pieces[number] = piece;
+            pieces
+        })
+    })
+}
+
+fn smaller_piece(piece: &Piece) -> impl Iterator<Item = Piece> {
+    let relocations = smaller_lists(&piece.relocations).map(|relocations| Piece {
+        relocations,
+        ..piece.clone()
+    });
+    let definitions = smaller_lists(&piece.definitions).map(|definitions| Piece {
+        definitions,
+        ..piece.clone()
+    });
+    let labels = smaller_lists(&piece.labels).map(|labels| Piece {
+        labels,
+        ..piece.clone()
+    });
+    let code = smaller_lists(&piece.code).map(|code| Piece {
+        code,
+        ..piece.clone()
+    });
+    relocations.chain(definitions).chain(labels).chain(code)
 }

@@ -5,16 +5,16 @@ use std::fmt;
 
 use reference::DEPARTURES;
 
+use crate::families::Subject;
 use crate::runner::Outcome;
 
 /// The last number of a refusal.
-const LAST_REFUSAL: usize = 26;
+const LAST_REFUSAL: usize = 29;
 
 /// The counts of one family.
 pub struct Tally {
     family: &'static str,
-    /// The Rust has what the family is about.
-    has_rust: bool,
+    subject: Subject,
     recordings: u64,
     finished: u64,
     compared: u64,
@@ -26,10 +26,10 @@ pub struct Tally {
 }
 
 impl Tally {
-    pub fn new(family: &'static str, has_rust: bool) -> Self {
+    pub fn new(family: &'static str, subject: Subject) -> Self {
         Self {
             family,
-            has_rust,
+            subject,
             recordings: 0,
             finished: 0,
             compared: 0,
@@ -94,14 +94,22 @@ pub fn print(tallies: &[Tally]) {
         let count: u64 = counts.sum();
         println!("{count} recordings without the Rust: {}", departure.name);
     }
-    let (with_rust, without): (Vec<_>, Vec<_>) = tallies.iter().partition(|tally| tally.has_rust);
-    for tally in without {
-        println!(
-            "{} inputs for what the Rust has not: {}",
-            tally.recordings, tally.family
-        );
+    let mut recordings = 0;
+    for tally in tallies {
+        let Tally {
+            family,
+            recordings: inputs,
+            compared,
+            ..
+        } = tally;
+        match tally.subject {
+            Subject::Recordings => recordings += inputs,
+            Subject::Entries => println!("{inputs} inputs for what the Rust has not: {family}"),
+            Subject::Joins => {
+                println!("{inputs} joins, {compared} of them beside the Rust's linker: {family}");
+            }
+        }
     }
-    let recordings: u64 = with_rust.iter().map(|tally| tally.recordings).sum();
     let disagreements: u64 = tallies.iter().map(|tally| tally.disagreements).sum();
     println!("{recordings} recordings, {disagreements} disagreements");
 }

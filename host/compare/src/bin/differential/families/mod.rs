@@ -3,8 +3,11 @@
 mod adds;
 mod chains;
 mod damaged;
+mod digits;
 mod direct;
 mod draft;
+mod join;
+mod joins;
 mod limits;
 mod mixed;
 mod open;
@@ -20,6 +23,8 @@ mod types;
 use compare::{Lent, Random};
 
 use crate::scenario::Scenario;
+pub use join::{Handed, table as join_table};
+pub use joins::alone as join_faults;
 
 /// A family of inputs.
 pub struct Family {
@@ -30,8 +35,17 @@ pub struct Family {
     tightens: bool,
     /// How many inputs of it the gate's sample has.
     pub sample: u64,
-    /// The Rust has what it is about. Else the model alone decides.
-    pub has_rust: bool,
+    pub subject: Subject,
+}
+
+/// What a family is about.
+#[derive(Clone, Copy, PartialEq, Eq)]
+pub enum Subject {
+    Recordings,
+    /// ELF entries, which the Rust has not: the model alone decides.
+    Entries,
+    /// Joins, which the Rust's linker makes in part.
+    Joins,
 }
 
 /// Where inputs come from.
@@ -58,15 +72,12 @@ impl Family {
             source: Source::Random(make),
             tightens,
             sample,
-            has_rust: true,
+            subject: Subject::Recordings,
         }
     }
 
-    fn without_rust(self) -> Self {
-        Self {
-            has_rust: false,
-            ..self
-        }
+    fn of(self, subject: Subject) -> Self {
+        Self { subject, ..self }
     }
 
     /// How many inputs there are, if they can be counted.
@@ -115,7 +126,7 @@ pub fn all() -> Vec<Family> {
             },
             tightens: false,
             sample: 700_000,
-            has_rust: true,
+            subject: Subject::Recordings,
         },
         Family::random(
             "mixed",
@@ -215,7 +226,7 @@ pub fn all() -> Vec<Family> {
             false,
             relas::scenario,
         )
-        .without_rust(),
+        .of(Subject::Entries),
         Family {
             name: "types",
             about: "all kinds of relocation, all types of ELF, all small lengths",
@@ -225,7 +236,26 @@ pub fn all() -> Vec<Family> {
             },
             tightens: false,
             sample: types::total(),
-            has_rust: false,
+            subject: Subject::Entries,
+        },
+        Family::random(
+            "join",
+            "finished records joined, at every limit",
+            30_000,
+            false,
+            join::scenario,
+        )
+        .of(Subject::Joins),
+        Family {
+            name: "joins",
+            about: "all small joins, and all faults of one, by twos and threes",
+            source: Source::Numbered {
+                total: joins::total(),
+                make: joins::scenario,
+            },
+            tightens: false,
+            sample: joins::total(),
+            subject: Subject::Joins,
         },
     ]
 }

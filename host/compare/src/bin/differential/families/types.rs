@@ -4,6 +4,7 @@
 
 use compare::{AARCH64, LABEL_TARGET, MOST_ENTRIES, NONE, Part, X64, X86};
 
+use super::digits::{self, Digits};
 use super::relas::{words_of, write};
 use crate::scenario::{Scenario, Step};
 
@@ -84,48 +85,18 @@ pub fn scenario(number: u64) -> Scenario {
     scenario
 }
 
-type Make = fn(&mut Digits) -> Scenario;
-
-fn of_number(mut number: u64) -> Scenario {
-    let parts: [(u64, Make); 6] = [
-        (WRITTEN, written),
-        (WRITTEN_PAIRS, written_pair),
-        (READ_TYPES, read_type),
-        (READ_OFFSETS, read_offset),
-        (READ_PAIRS, read_pair),
-        (READ_LENGTHS, read_length),
-    ];
-    for (count, make) in parts {
-        if number < count {
-            return make(&mut Digits(number));
-        }
-        number -= count;
-    }
-    unreachable!("an input's number is below the total")
-}
-
-/// A number taken apart, digit by digit.
-struct Digits(u64);
-
-impl Digits {
-    fn below(&mut self, end: u64) -> u64 {
-        let digit = self.0 % end;
-        self.0 /= end;
-        digit
-    }
-
-    fn pick<T: Copy>(&mut self, from: &[T]) -> T {
-        from[self.below(from.len() as u64) as usize]
-    }
-
-    /// One of the numbers below `end`, or of some more.
-    fn below_or(&mut self, end: u64, more: &[u32]) -> u32 {
-        let digit = self.below(end + more.len() as u64);
-        match digit.checked_sub(end) {
-            None => digit as u32,
-            Some(number) => more[number as usize],
-        }
-    }
+fn of_number(number: u64) -> Scenario {
+    digits::of_number(
+        number,
+        &[
+            (WRITTEN, written),
+            (WRITTEN_PAIRS, written_pair),
+            (READ_TYPES, read_type),
+            (READ_OFFSETS, read_offset),
+            (READ_PAIRS, read_pair),
+            (READ_LENGTHS, read_length),
+        ],
+    )
 }
 
 /// One relocation, which is counted or not, written and read.

@@ -1,0 +1,82 @@
+//! Several sheets: each finished, then all joined; the whole shown, and what is written of it.
+
+mod refused;
+mod tables;
+
+use wargnifla::{Joined, ListedPiece, Rounds, join, joined_listing, joined_record, record};
+
+use super::options::Options;
+use super::rounds::RoundsReport;
+use super::rule::Rule;
+use super::{Failure, files, open, print_text, report, unpatched};
+
+pub fn run(options: &Options) -> Result<(), Failure> {
+    let rules = options.files.iter().map(|file| Rule::new(options, file));
+    let rules: Vec<Rule> = rules.collect::<Result<_, _>>()?;
+    let rounds = rules.iter().map(|rule| rule.rounds(options));
+    let rounds: Vec<Rounds> = rounds.collect::<Result<_, _>>()?;
+    let whole = join(rules.iter().map(|rule| &rule.finished))
+        .map_err(|error| refused::join(&rules, &error))?;
+    let text = shown(options, &rules, &rounds, &whole);
+    write_files(options, &rules, &whole)?;
+    if !options.writes_standard_output() {
+        print_text(&text)?;
+    }
+    for rule in &rules {
+        let whose = format!("{}: ", rule.input.file);
+        eprint!("{}", unpatched::notes(&whose, &rule.input, &rule.finished));
+    }
+    Ok(())
+}
+
+fn shown(options: &Options, rules: &[Rule], rounds: &[Rounds], whole: &Joined) -> String {
+    let style = options.style();
+    let pieces: Vec<ListedPiece<'_>> = rules
+        .iter()
+        .map(|rule| ListedPiece {
+            title: &rule.input.file,
+            recording: &rule.recording,
+            finished: &rule.finished,
+        })
+        .collect();
+    let mut text = joined_listing(&pieces, whole, style);
+    text += &tables::labels(rules, whole, style);
+    text += &report::definitions(whole.code(), style);
+    text += &tables::relocations(rules, whole, style);
+    for (piece, (rule, rounds)) in rules.iter().zip(rounds).enumerate() {
+        text += &of_piece(options, piece, rule, rounds);
+    }
+    text.push('\n');
+    for (piece, rule) in rules.iter().enumerate() {
+        let record = record(&rule.recording, &rule.finished);
+        text += &format!("piece {piece} {record}\n");
+    }
+    text + &format!("{}\n", joined_record(whole))
+}
+
+/// What is shown of a piece beside the listing, where it is asked for.
+fn of_piece(options: &Options, piece: usize, rule: &Rule, rounds: &Rounds) -> String {
+    let style = options.style();
+    let mut text = String::new();
+    if options.open {
+        let (title, open) = (format!("open, piece {piece}"), rule.buffer.open());
+        text += &open::after_each_call(&title, &rule.input, Some(open), style.extent);
+    }
+    if options.rounds {
+        let title = format!("rounds, piece {piece}");
+        let report = RoundsReport::new(&rule.input, &rule.recording, style);
+        text += &report.text(&title, rounds.rounds());
+    }
+    text
+}
+
+fn write_files(options: &Options, rules: &[Rule], whole: &Joined) -> Result<(), Failure> {
+    let code = whole.code();
+    let object = match &options.object {
+        Some(_) => code
+            .object()
+            .map_err(|error| refused::object(rules, whole, &error))?,
+        None => Vec::new(),
+    };
+    files::write(options, [code.data(), &object, &[], &[]])
+}

@@ -1,0 +1,117 @@
+//! What is refused of joined sheets, with the places in their files that it goes back to.
+
+use sheet_text::nearest;
+use wargnifla::{Entry, Error, ExternalName, Joined, ObjectError, RelocTarget};
+
+use crate::command::Failure;
+use crate::command::input::wrong_relocation;
+use crate::command::rule::Rule;
+
+/// A refused join.
+pub fn join(rules: &[Rule], error: &Error) -> Failure {
+    let Some(piece) = error.piece() else {
+        return Failure::refused(error.to_string());
+    };
+    let mut message = rules[piece].input.said_of_refusal(error);
+    for note in notes(rules, piece, error) {
+        message.push('\n');
+        message += &note;
+    }
+    Failure::refused(message)
+}
+
+/// What helps to mend a refused join.
+fn notes(rules: &[Rule], piece: usize, error: &Error) -> Vec<String> {
+    match (error.number(), error.entry()) {
+        (27, _) => vec!["note: --arch names one architecture for all sheets".into()],
+        (28, Some(Entry::Definition(index))) => {
+            let symbol = &rules[piece].input.definitions[index].symbol;
+            defined_here(rules, symbol).into_iter().collect()
+        }
+        (28, _) => vec![
+            "note: a label defines the symbol of its name where nothing else does: give one of the labels another name, or define the symbol"
+                .into(),
+        ],
+        (29, Some(Entry::Reloc(relocation))) => undefined(rules, piece, relocation),
+        _ => Vec::new(),
+    }
+}
+
+/// Where a symbol is defined first.
+fn defined_here(rules: &[Rule], symbol: &ExternalName) -> Option<String> {
+    rules.iter().find_map(|rule| {
+        let mut definitions = rule.input.definitions.iter();
+        let definition = definitions.find(|definition| definition.symbol == *symbol)?;
+        let note = format!("note: {symbol} is defined here");
+        rule.input.said_at(definition.symbol_place, &note)
+    })
+}
+
+/// What is wrong with the definition of a relocation's symbol, or that there is none.
+fn undefined(rules: &[Rule], piece: usize, relocation: usize) -> Vec<String> {
+    let finished = &rules[piece].finished;
+    let RelocTarget::Sym(symbol) = finished.relocs()[relocation].target else {
+        return Vec::new();
+    };
+    let symbol = finished.names().external_name(symbol);
+    if let Some(note) = defined_here(rules, &symbol) {
+        return vec![note];
+    }
+    let mut notes = Vec::new();
+    if let ExternalName::Name(name) = &symbol
+        && let Some(near) = nearest(name, defined_names(rules))
+    {
+        notes.push(format!("note: did you mean '{near}'?"));
+    }
+    notes.push(
+        "note: 'define SYMBOL LABEL' in one of the sheets defines a symbol, as does a label of its name; \
+         what is left to the system's linker is named by another kind, such as X86GOTPCRel4"
+            .into(),
+    );
+    notes
+}
+
+/// The names of symbols that are defined, and of labels that could define one.
+fn defined_names(rules: &[Rule]) -> impl Iterator<Item = &str> {
+    rules.iter().flat_map(|rule| {
+        let symbols = rule.input.definitions.iter();
+        let symbols = symbols.filter_map(|definition| match &definition.symbol {
+            ExternalName::Name(name) => Some(name.as_str()),
+            ExternalName::Number(_) => None,
+        });
+        let labels = rule.input.names.iter().map(|(_, name)| name.as_str());
+        symbols.chain(labels.filter(|name| !name.starts_with('.')))
+    })
+}
+
+/// What no object of the whole can hold.
+pub fn object(rules: &[Rule], whole: &Joined, error: &ObjectError) -> Failure {
+    if let ObjectError::Relocations(error) = error {
+        return relocations(rules, whole, error);
+    }
+    let placed = wrong_relocation(error).and_then(|(relocation, word)| {
+        let origin = whole.remaining()[relocation];
+        let input = &rules[origin.piece].input;
+        input.said_of_relocation(origin.relocation, word, error)
+    });
+    let mut message = placed.unwrap_or_else(|| error.to_string());
+    if let ObjectError::NameTwice { .. } = error {
+        message +=
+            "\nnote: a name that starts with '.' stays within its piece, and may stand in several";
+    }
+    Failure::unusable(message)
+}
+
+/// Relocations of the whole that can't be written as ELF.
+fn relocations(rules: &[Rule], whole: &Joined, error: &Error) -> Failure {
+    let placed = match error.entry() {
+        Some(Entry::Reloc(relocation)) => {
+            let origin = whole.remaining()[relocation];
+            let word = if error.number() == 25 { 4 } else { 2 };
+            let input = &rules[origin.piece].input;
+            input.said_of_relocation(origin.relocation, word, error)
+        }
+        _ => None,
+    };
+    Failure::refused(placed.unwrap_or_else(|| error.to_string()))
+}
