@@ -6,4 +6,5 @@ pub mod Fits
 pub mod Putting
 pub mod Answers
 pub mod Meaning
+pub mod Once
 mod Worked
