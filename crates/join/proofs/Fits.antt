@@ -19,7 +19,7 @@ use Rattle.buffer.specs.Tables.{mostEntries, mostCode, labelSize, relocSize}
 use Rattle.join.specs.declared.Piece.{Piece}
 use Rattle.join.specs.declared.Cursor.{Cursor}
 use Rattle.join.specs.declared.Test.{Test}
-use Rattle.join.specs.declared.Test.the-variants.{Known, Inside, Reaches, Moves}
+use Rattle.join.specs.declared.Test.the-variants.{Known, Defined, Inside, Reaches, Moves}
 use Rattle.join.specs.Pieces.{
   Lent,
   mostPieces,
@@ -278,3 +278,13 @@ joined-passed l output labels relocs h =
     let first = neither (whyUnfit l) _ h in
     let second = neither (whyUndefined l) _ (first .1) in
     (unfit-passed l (first .0), room-passed l output labels relocs (second .1))
+
+-- and every symbol that a field is filled with is defined by a bound label
+pub joined-defined : (l : Lent) (output labels relocs : ℕ) → whyNotJoined l output labels relocs ≡ 0
+    → allHold Defined (knownIn l) (l .pieces) (l .relocs) (pieceCount (l .pieces)) ≡ true
+unfolding whyNotJoined whyUndefined
+joined-defined l output labels relocs h =
+    let first = neither (whyUnfit l) _ h in
+    let second = neither (whyUndefined l) _ (first .1) in
+    let once = passed _ refusals.symbolDefinedTwice _ (λ e. omega arith) (second .0) in
+    not-false _ (passed _ refusals.symbolUndefined 0 (λ e. omega arith) (once .1) .0)

@@ -7,4 +7,5 @@ pub mod Putting
 pub mod Answers
 pub mod Meaning
 pub mod Once
+pub mod Accepted
 mod Worked
