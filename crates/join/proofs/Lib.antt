@@ -1,3 +1,4 @@
+pub mod Lists
 pub mod Cursors
 pub mod Turns
 pub mod Tables

@@ -53,6 +53,7 @@ use Rattle.join.specs.Join.{
   image,
 }
 use Rattle.join.specs.steps.Within.{CodeIn}
+use Rattle.join.proofs.Lists.{zero-at}
 use Rattle.join.proofs.Cursors.{boundary-range, piece-within}
 use Rattle.join.proofs.Writing.{length-filled, length-image, length-labels}
 
@@ -79,11 +80,6 @@ module _ (known : ℕ → ℕ) (pieces relocs code : List ℕ) where
   image-at n i lies =
       let at : cursorAt pieces n .end + i ≡ length (whole n) + i = omega (arith, length-image known pieces relocs code n lies) in
       ap (λ (x : ℕ). getD (whole (suc n)) x 0) at ∙ getD-append-add (whole n) _ i 0
-
-  zero-at : (m i : ℕ) → i < m → _≡_ {A = ℕ} (getD (replicate m 0) i 0) 0
-  zero-at zero i h = absurd (not-suc-le-zero h)
-  zero-at (suc m) zero h = refl
-  zero-at (suc m) (suc i) h = zero-at m i (omega arith)
 
   pub piece-stands : (n k : ℕ) → Lies n → k < n → (i : ℕ) → i < pieceAt pieces k .len
       → getD (whole n) (baseOf (pieceAt pieces k) (cursorAt pieces k) + i) 0
@@ -124,7 +120,7 @@ module _ (known : ℕ → ℕ) (pieces relocs code : List ℕ) where
       rw last
       (image-at n i before
       ∙ List·getD-append zeros (filledCode known relocs code (pieceAt pieces n) (cursorAt pieces n)) 0 i among
-      ∙ zero-at m i fewer))
+      ∙ zero-at m i))
       (lt-or-ge k n)
 
 -- A byte lies outside the field of a relocation.

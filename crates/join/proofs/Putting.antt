@@ -1,26 +1,28 @@
 -- What the writing of a piece is handed, and what stands after each.
 use mathlib.Core.Path.{_≡_, refl, ap, _∙_}
 use mathlib.Core.Logic.{⊎-elim}
-use mathlib.Core.List.{List}
-use Prim.Native.Nat.{ℕ, zero, suc, _+_, _<_, _≤_}
+use mathlib.Core.List.{List, _++_}
+use Prim.Native.Nat.{ℕ, zero, suc, _+_, _*_, _<_, _≤_}
 use native.Mathlib.Numerals.{add-one}
 use native.Mathlib.Omega.{arith}
-use lib.ListN.{length}
+use lib.ListN.{length, replicate}
 use Rattle.seqs.specs.Over.{over}
 use Rattle.seqs.proofs.Every.{all-at}
 use Rattle.seqs.proofs.Numbers.{lt-or-ge}
 use Rattle.seqs.proofs.Overwrites.{length-over}
 use Rattle.words.specs.Words.{bytesOfAll, overWords}
+use Rattle.buffer.specs.Tables.{labelSize, relocSize}
 use Rattle.join.specs.declared.Piece.{Piece}
 use Rattle.join.specs.declared.Cursor.{Cursor}
 use Rattle.join.specs.declared.Test.the-variants.{Inside}
-use Rattle.join.specs.Pieces.{Lent, pieceAt, cursorAt}
+use Rattle.join.specs.Pieces.{Lent, pieceAt, gap, cursorAt}
 use Rattle.join.specs.Symbols.{find}
-use Rattle.join.specs.Join.{labelsMove, allLabelsMove, joinedLabels, remaining, countRemainingIn, countRemaining, image}
+use Rattle.join.specs.Join.{labelsMove, allLabelsMove, movedLabels, joinedLabels, remainingIn, remaining, countRemainingIn, countRemaining, filledCode, image}
 use Rattle.join.specs.steps.Within.{Placed}
 use Rattle.join.specs.steps.Writes.{Puts, Joins}
 use Rattle.join.proofs.Cursors.{piece-within}
 use Rattle.join.proofs.Turns.{Turn, turn-placed}
+use Rattle.join.proofs.Writing.{image-more, labels-more, relocs-more}
 use Rattle.join.proofs.Fits.{each-holds}
 
 -- one piece more, no fewer that remain
@@ -85,3 +87,21 @@ module _ {known : ℕ → ℕ} {l : Lent} {output₀ labels₀ relocs₀ : List 
 
   pub relocs-length : length relocs ≡ length relocs₀
   relocs-length = ap length (stands .listed) ∙ length-over relocs₀ 0 (bytesOfAll (remaining (l .pieces) (l .relocs) k))
+
+-- one piece more
+module _ {known : ℕ → ℕ} {l : Lent} {n output-bytes label-bytes reloc-bytes : ℕ} (joins : Joins l n output-bytes label-bytes reloc-bytes) {k : ℕ} {p : Piece} {c : Cursor}
+    (turn : Turn (l .pieces) k p c) (within : k < n) where
+  pub next-stands : {output₀ labels₀ relocs₀ output labels relocs output' labels' relocs' : List ℕ} {at : ℕ}
+      → Stands known l output₀ labels₀ relocs₀ k output labels relocs → at ≡ countRemaining (l .pieces) (l .relocs) k
+      → output' ≡ over output (c .end) (replicate (gap p c) 0 ++ filledCode known (l .relocs) (l .code) p c)
+      → labels' ≡ over labels (c .labels * labelSize) (bytesOfAll (movedLabels (l .labels) p c (p .labels)))
+      → relocs' ≡ over relocs (at * relocSize) (bytesOfAll (remainingIn (l .relocs) p c (p .relocs)))
+      → Stands known l output₀ labels₀ relocs₀ (k + 1) output' labels' relocs'
+  next-stands {output₀} {labels₀} {relocs₀} stands count coded labelled listed =
+      record {
+        coded = coded
+            ∙ rw (turn .piece, turn .cursor, stands .coded)
+            (image-more known (l .pieces) (l .relocs) (l .code) output₀ k (λ i h. joins .code i (omega (arith, h, within))));
+        labelled = labelled ∙ rw (turn .piece, turn .cursor, stands .labelled) (labels-more labels₀ (l .pieces) (l .labels) k);
+        listed = listed ∙ rw (turn .piece, turn .cursor, count, stands .listed) (relocs-more relocs₀ (l .pieces) (l .relocs) k);
+      }

@@ -1,12 +1,12 @@
 -- The table of symbols: what an entry says as definitions are noted, one after the other.
-use mathlib.Core.Path.{_≡_, refl, sym, ap, _∙_}
+use mathlib.Core.Path.{_≡_, sym, ap, _∙_}
 use mathlib.Core.Logic.{_≢_, ⊎-elim}
-use mathlib.Core.List.{List, [], _∷_}
-use Prim.Native.Nat.{ℕ, zero, suc, _+_, _<_, _≤_}
+use mathlib.Core.List.{List, []}
+use Prim.Native.Nat.{ℕ, _+_, _<_}
 use native.Mathlib.Nat.{not-suc-le-zero}
 use native.Mathlib.Numerals.{add-one}
 use native.Mathlib.Omega.{arith}
-use lib.ListN.{length, getD, set, replicate, length-set}
+use lib.ListN.{length, set, replicate, length-set}
 use lib.Seq.{getD-set-same, getD-set-other}
 use Rattle.seqs.specs.Pick.{orElse, firstOf}
 use Rattle.seqs.proofs.Numbers.{eq-or-ne}
@@ -15,20 +15,8 @@ use Rattle.join.specs.declared.Piece.{Piece}
 use Rattle.join.specs.declared.Cursor.{Cursor}
 use Rattle.join.specs.Symbols.{undefined, symbolAt, defined, definedAs, findIn, find, findBefore}
 use Rattle.join.specs.steps.Tables.{Settled, Begun}
+use Rattle.join.proofs.Lists.{or-none, none-or, zero-at}
 use Rattle.join.proofs.Turns.{Turn}
-
--- nothing more is said
-or-none : (n : ℕ) → orElse n 0 ≡ n
-or-none n = ⊎-elim (λ (z : n ≡ 0). yes-eq n 0 0 n z ∙ sym z) (λ nz. no-eq n 0 0 n nz) (eq-or-ne n 0)
-
-none-or : (n m : ℕ) → n ≡ 0 → orElse n m ≡ m
-none-or n m z = yes-eq n 0 m n z
-
--- a write past the end changes nothing
-pub set-past : {A : Type 0} (xs : List A) (i : ℕ) (v : A) → length xs ≤ i → xs ≡ set xs i v
-set-past [] i v h = refl
-set-past (x ∷ xs) zero v h = absurd (not-suc-le-zero h)
-set-past (x ∷ xs) (suc i) v h = ap (λ l. x ∷ l) (set-past xs i v (omega arith))
 
 -- what a definition adds
 module _ (pieces labels definitions : List ℕ) (k : ℕ) (p : Piece) (c : Cursor) where
@@ -81,14 +69,9 @@ module _ {pieces labels definitions : List ℕ} {k : ℕ} where
   begun-all turn begun = record { entry = λ s within. rw (add-one k) (rw (turn .piece, turn .cursor) at (begun .entry s within)) }
 
 -- A clear table knows what no piece says, and a table without entries all there is.
-clear-entry : (m s : ℕ) → getD (replicate m undefined) s undefined ≡ undefined
-clear-entry zero s = refl
-clear-entry (suc m) zero = refl
-clear-entry (suc m) (suc s) = clear-entry m s
-
 pub settled-clear : (m : ℕ) (pieces labels definitions : List ℕ) → Settled (replicate m 0) pieces labels definitions 0
 unfolding find firstOf
-settled-clear m pieces labels definitions = record { entry = λ s within. clear-entry m s }
+settled-clear m pieces labels definitions = record { entry = λ s within. zero-at m s }
 
 pub settled-empty : (pieces labels definitions : List ℕ) (n : ℕ) → Settled [] pieces labels definitions n
 settled-empty pieces labels definitions n = record { entry = λ s within. absurd (not-suc-le-zero within) }

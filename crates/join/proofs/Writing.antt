@@ -1,23 +1,20 @@
 -- The whole as it is written: words that follow words, and what stands after each piece.
 use mathlib.Core.Path.{_≡_, refl, sym, ap, _∙_}
-use mathlib.Core.Logic.{⊎-elim}
 use mathlib.Core.Bool.{Bool, true, false, not}
 use mathlib.Core.List.{List, [], _∷_, _++_}
 use Prim.Native.Nat.{ℕ, zero, suc, _+_, _-_, _*_, _/_, _%_, _<_, _≤_}
-use native.Mathlib.Nat.{not-suc-le-zero}
 use native.Mathlib.Numerals.{add-one}
 use native.Mathlib.Omega.{arith}
 use lib.ListN.{length, take, drop, replicate, length-append, length-drop, length-replicate}
 use lib.Seq.{length-take-le}
-use Rattle.seqs.specs.Counting.{one, howMany}
+use Rattle.seqs.specs.Counting.{one}
 use Rattle.seqs.specs.Over.{over}
 use Rattle.seqs.specs.Pick.{pick}
 use Rattle.seqs.proofs.Counting.{none-counted, one-counted, howMany-le}
-use Rattle.seqs.proofs.Numbers.{lt-or-ge}
 use Rattle.seqs.proofs.Picking.{pick-either, pick-yes, pick-no}
 use Rattle.seqs.proofs.Overwrites.{length-over, over-nil, over-append, over-mid, over-all, part-over}
 use Rattle.words.specs.Words.{wordAt, setWord, bytesOf, bytesOfAll, overWords}
-use Rattle.words.proofs.Entries.{words-over, six-words, bytesOfAll-append, length-bytesOfAll}
+use Rattle.words.proofs.Entries.{words-over, six-words}
 use Rattle.buffer.specs.Tables.{labelSize, relocSize, relocWords}
 use Rattle.recording.specs.View.{entries}
 use Rattle.recording.proofs.Views.{length-entries}
@@ -45,26 +42,7 @@ use Rattle.join.specs.Join.{
   image,
 }
 use Rattle.join.specs.steps.Within.{CodeIn}
-
--- more numbers, no fewer that have a property
-howMany-grows : (f : ℕ → Bool) (j m : ℕ) → j ≤ m → howMany f j ≤ howMany f m
-unfolding howMany
-howMany-grows f j zero within = let none : j ≡ zero = omega arith in rw none (omega arith)
-howMany-grows f j (suc m) within =
-    ⊎-elim
-    (λ (before : j < suc m). omega (arith, howMany-grows f j m (omega arith)))
-    (λ (ge : suc m ≤ j).
-    let same : j ≡ suc m = omega arith in rw same (omega arith))
-    (lt-or-ge j (suc m))
-
--- Words written from word a on, and then those that follow.
-pub words-follow : (t : List ℕ) (a : ℕ) (vs ws : List ℕ)
-    → over (over t (a * 4) (bytesOfAll vs)) ((a + length vs) * 4) (bytesOfAll ws) ≡ over t (a * 4) (bytesOfAll (vs ++ ws))
-words-follow t a vs ws =
-    let at : (a + length vs) * 4 ≡ a * 4 + length (bytesOfAll vs) = omega (arith, length-bytesOfAll vs) in
-    ap (λ (n : ℕ). over (over t (a * 4) (bytesOfAll vs)) n (bytesOfAll ws)) at
-    ∙ over-append t (a * 4) (bytesOfAll vs) (bytesOfAll ws)
-    ∙ ap (over t (a * 4)) (sym (bytesOfAll-append vs ws))
+use Rattle.join.proofs.Lists.{words-follow, over-again, howMany-grows}
 
 -- Labels of a piece: one word more.
 pub one-label-more : (t : List ℕ) (a : ℕ) (f : ℕ → ℕ) (j : ℕ)
@@ -191,16 +169,6 @@ length-filled known relocs p c code (suc m) =
 
 pub length-code : (code : List ℕ) (p : Piece) (c : Cursor) → CodeIn code p c → length (pieceCode code p c) ≡ p .len
 length-code code p c within = length-take-le (p .len) (drop (c .code) code) (omega (arith, length-drop (c .code) code))
-
--- one list written over another of its length
-over-again : (xs : List ℕ) (at : ℕ) (ys zs : List ℕ) → length ys ≡ length zs → over (over xs at ys) at zs ≡ over xs at zs
-unfolding over
-over-again [] at ys zs e = refl
-over-again (x ∷ xs) zero [] [] e = refl
-over-again (x ∷ xs) zero (y ∷ ys) (z ∷ zs) e = ap (λ (l : List ℕ). z ∷ l) (over-again xs zero ys zs (omega (arith, e)))
-over-again (x ∷ xs) zero [] (z ∷ zs) e = absurd (not-suc-le-zero {n = length zs} (omega (arith, e)))
-over-again (x ∷ xs) zero (y ∷ ys) [] e = absurd (not-suc-le-zero {n = length ys} (omega (arith, e)))
-over-again (x ∷ xs) (suc at) ys zs e = ap (λ (l : List ℕ). x ∷ l) (over-again xs at ys zs e)
 
 -- a field's word, written in the part of the code that it has
 pub field-put : (xs part : List ℕ) (offset v : ℕ) → offset + 4 ≤ length xs → part ≡ setWord (take (offset + 4 - offset) (drop offset xs)) 0 v

@@ -1,4 +1,5 @@
--- Joining: document 02, Request Six, whole.
+-- Joining: document 02, Request Six. Which relocations are filled and with what; the code, the labels and the relocations of the whole; why pieces are not
+-- joined; and what join answers and leaves.
 use mathlib.Core.Bool.{Bool, true, not, _&&_, _||_}
 use mathlib.Core.List.{List, [], _∷_, _++_}
 use Prim.Native.Nat.{ℕ, zero, suc, _+_, _-_, _/_, _%_}
@@ -124,7 +125,7 @@ abbrev pub movedReloc : Piece → Cursor → AsmReloc → List ℕ
 movedReloc p c r =
     (baseOf p c + r .offset) ∷ r .kind ∷ movedTarget c (r .target) ∷ 0 ∷ r .addend % 4294967296 ∷ r .addend / 4294967296 ∷ []
 
--- "all other relocations remain": its words, none where it is filled; those of the first m of a piece, and of the first n pieces
+-- "all other relocations remain": the words of one, none where it is filled; those of the first m of a piece, and of the first n pieces
 abbrev pub remainingWords : Piece → Cursor → AsmReloc → List ℕ
 remainingWords p c r = pick (isFilled (p .arch) r) [] (movedReloc p c r)
 
@@ -285,7 +286,7 @@ joined l output labels relocs =
       ),
     )
 
--- The answer and the three outputs. "A refused join changes nothing and gives a record of zeros."
+-- The answer and the three outputs. A refused join leaves them as they were and gives a record of zeros.
 unfoldable pub join : Lent → List ℕ → List ℕ → List ℕ → Joined × Left
 join l output labels relocs =
     let why = whyNotJoined l (length output) (length labels) (length relocs) in

@@ -1,5 +1,5 @@
 -- `note` meets its contract: a symbol past the end is not kept.
-use Rattle.join.proofs.Tables.{set-past}
+use Rattle.join.proofs.Lists.{set-past}
 use borrow.Author.Needs.{needs}
 use Rattle.join.proofs.symbols.note.Statement.{statement}
 use Rattle.join.proofs.symbols.note.Tie as tie

@@ -1,5 +1,5 @@
 -- `put_pieces` meets its contract: the pieces passed stand in the outputs.
-use mathlib.Core.Path.{_≡_, refl, sym, _∙_}
+use mathlib.Core.Path.{_≡_, refl, sym}
 use Prim.Native.Nat.{_-_, _≤_}
 use native.Mathlib.Omega.{arith}
 use lib.ListN.{length}
@@ -10,8 +10,7 @@ use Rattle.join.specs.Symbols.{find}
 use Rattle.join.specs.Join.{joinedLabels, remaining, countRemaining, image}
 use Rattle.join.proofs.Cursors.{cursor-none}
 use Rattle.join.proofs.Turns.{Turn, next-cursor}
-use Rattle.join.proofs.Writing.{image-more, labels-more, relocs-more}
-use Rattle.join.proofs.Putting.{Stands, output-length, labels-length, relocs-length, next-placed, next-puts, next-count}
+use Rattle.join.proofs.Putting.{Stands, output-length, labels-length, relocs-length, next-placed, next-puts, next-count, next-stands}
 use Rattle.join.proofs.write.put_pieces.Statement.{statement}
 use Rattle.join.proofs.write.put_pieces.Tie as tie
 
@@ -83,18 +82,13 @@ loop-again c =
     let after-after : tie.After-after Inv-loop μ-loop = search in
     let v = at-loop .loop in
     let piece = after-piece-at .piece-at .ensures in
-    let stands = v .inv .3 in
     let joins = v .inv .4 in
     let within = in-loop .loop-test .taken in
     let put = after-put-piece .put-piece .ensures in (
       omega (arith, within),
       next-cursor _ (v .k) piece (v .inv .1) (after-after .after .ensures .0),
       next-count joins (record { piece = piece; cursor = v .inv .1 }) within (rw (v .inv .2) at (put .0)),
-      record {
-        coded = put .1 .0 ∙ rw (piece, v .inv .1, stands .coded) (image-more _ _ _ _ _ (v .k) (λ i h. joins .code i (omega (arith, h, within))));
-        labelled = put .1 .1 .0 ∙ rw (piece, v .inv .1, stands .labelled) (labels-more _ _ _ (v .k));
-        listed = put .1 .1 .1 ∙ rw (piece, v .inv .1, v .inv .2, stands .listed) (relocs-more _ _ _ (v .k));
-      },
+      next-stands joins (record { piece = piece; cursor = v .inv .1 }) within (v .inv .3) (v .inv .2) (put .1 .0) (put .1 .1 .0) (put .1 .1 .1),
       joins,
     )
 
