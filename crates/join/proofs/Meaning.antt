@@ -27,8 +27,11 @@ use Rattle.fields.specs.declared.LabelUse.the-variants.{
   A64AddAbsLo12,
 }
 use Rattle.fields.specs.Kinds.{archA64}
-use Rattle.fields.specs.Meaning.{loadMultiple}
+use Rattle.fields.specs.Meaning.{loadMultiple, Clear, meaning, demanded}
+use Rattle.fields.specs.Patch.{patched}
+use Rattle.fields.specs.Reach.{canReach}
 use Rattle.fields.specs.Words64.{modulus, plus, signExtend}
+use Rattle.fields.proofs.Fields.{Field, field-means}
 use Rattle.fields.proofs.Signed.{extend-low, extend-exact}
 use Rattle.buffer.specs.State.{none}
 use Rattle.recording.specs.View.{entries}
@@ -239,6 +242,14 @@ loads-on-multiple p c fits arch load page A64Ldr19 = omega arith
 loads-on-multiple p c fits arch load page A64Adr21 = omega arith
 loads-on-multiple p c fits arch load page A64Adrp21 = omega (arith, base-on-page p c fits arch, page)
 loads-on-multiple p c fits arch load page A64AddAbsLo12 = omega (arith, base-on-page p c fits arch, page)
+
+-- A field that reaches its label in the piece means it in the whole, by Arm's manual, wherever the whole is loaded on a page: its bytes are the piece's own
+-- (on AArch64 nothing is filled), and offset and label both move by the base.
+pub field-moves : (p : Piece) (c : Cursor) → pieceFits p ≡ true → p .arch ≡ archA64 → (load : ℕ) → load % pageSize ≡ 0 → (k : LabelUse) (offset target : ℕ)
+    (bytes : List ℕ) → Field k bytes → offset < modulus → target < modulus → Clear k (wordAt bytes 0) → canReach k offset target ≡ true
+    → meaning k (plus (load + baseOf p c) offset) (wordAt (patched k offset target bytes) 0) ≡ demanded k (plus (load + baseOf p c) target)
+field-moves p c fits arch load page k offset target bytes field near aim clear reaches =
+    field-means k (load + baseOf p c) offset target bytes field near aim (loads-on-multiple p c fits arch load page k) clear reaches
 
 -- One piece of which nothing is to be filled is its own whole: the code as lent, the labels as they are.
 nothing-filled : (known : ℕ → ℕ) (relocs : List ℕ) (p : Piece) (c : Cursor) (code : List ℕ) (m : ℕ)

@@ -66,7 +66,7 @@ const PIECE_SIZE: usize = 28;
 
 const DEFINITION_SIZE: usize = 8;
 
-// How many symbols a table has room for, and where few relocations and definitions are lent; such a few they are.
+// How many symbols a table has entries for: in general, and where at most `FEW_ENTRIES` relocations and definitions are lent.
 const MANY_SYMBOLS: usize = 65536;
 
 const FEW_SYMBOLS: usize = 256;
