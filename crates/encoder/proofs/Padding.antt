@@ -1,13 +1,16 @@
--- Laws of `paddingLength`, of an offset o and a multiple m: it takes o to a multiple, and is the least that does.
+-- Laws of `paddingLength`, of an offset o and a multiple m: it takes o to a multiple, and is the least that does; and of `paddingWithin`, which spends
+-- that or nothing.
 use mathlib.Core.Path.{_≡_, refl, sym, _∙_}
-use mathlib.Core.Logic.{⊎-elim}
+use mathlib.Core.Logic.{inl, inr, ⊎-elim}
 use Prim.Native.Nat.{ℕ, zero, suc, _+_, _-_, _%_, _^_, _≤_, _<_, _∣_}
 use native.Mathlib.Nat.{mod-lt, mod-le, mod-self, mod-eq-of-lt, add-mod-mod, mod-add-mod, sub-zero, zero-add, dvd-mul-right, mod-mod-of-dvd, mod-eq-zero-of-dvd, not-suc-le-zero}
 use native.Mathlib.Omega.{arith}
 use lib.Bits.{bitAnd, and-mask}
 use lib.Pow.{pow-add, pow-pos}
+use borrow.Author.Tests.{le-leb, lt-leb}
+use Rattle.seqs.proofs.Picking.{pick-yes, pick-no, yes-le}
 use Rattle.seqs.proofs.Numbers.{lt-or-ge}
-use Rattle.encoder.specs.Padding.{paddingLength}
+use Rattle.encoder.specs.Padding.{paddingLength, paddingWithin, Spends}
 
 -- The definition, of a multiple above 0.
 pub padding-is : (o m : ℕ) → 0 < m → paddingLength o m ≡ (m - o % m) % m
@@ -53,6 +56,57 @@ padding-unique o m k h e =
     let sum : o + k ≡ o + p + (k - p) = omega arith in
     let over : (k - p) % m ≡ (o + k) % m = rw (padding-aligns o m (omega arith), zero-add, ← sum) at (mod-add-mod (o + p) m (k - p)) in
     omega (arith, sym (mod-eq-of-lt {n = k - p} {m = m} (omega arith)) ∙ over ∙ e)
+
+-- What is needed is spent where it is no more than the most that may be; else nothing is.
+pub within-needed : (o m most : ℕ) → paddingLength o m ≤ most → paddingWithin o m most ≡ paddingLength o m
+unfolding paddingWithin
+within-needed o m most h = pick-yes _ _ _ (le-leb (paddingLength o m) most h)
+
+pub within-none : (o m most : ℕ) → most < paddingLength o m → paddingWithin o m most ≡ 0
+unfolding paddingWithin
+within-none o m most h = pick-no _ _ _ (lt-leb (paddingLength o m) most h)
+
+-- Never more than is needed.
+pub within-below : (o m most : ℕ) → 0 < m → paddingWithin o m most < m
+within-below o m most h =
+    ⊎-elim
+    (λ (over : most < paddingLength o m). rw (within-none o m most over) h)
+    (λ (enough : paddingLength o m ≤ most). rw (within-needed o m most enough) (padding-below o m h))
+    (lt-or-ge most (paddingLength o m))
+
+-- The padding ends on its multiple, or is empty and more than the most was needed; never more than the most is spent.
+pub padding-spends : (o m most : ℕ) → 0 < m → Spends m most o (o + paddingWithin o m most)
+padding-spends o m most h =
+    ⊎-elim
+    (λ (over : most < paddingLength o m).
+    rw (within-none o m most over)
+    (record { ends = inr (omega arith, λ k e. omega (arith, over, padding-least o m k h e)); few = omega arith }))
+    (λ (enough : paddingLength o m ≤ most).
+    rw (within-needed o m most enough) (record { ends = inl (padding-aligns o m h); few = omega (arith, enough) }))
+    (lt-or-ge most (paddingLength o m))
+
+-- Where an alignment ends never falls as its start rises: so no layout puts anything before where the layout before it did.
+pub within-rises : (o p m most : ℕ) → o ≤ p → o + paddingWithin o m most ≤ p + paddingWithin p m most
+unfolding paddingLength paddingWithin
+within-rises o p zero most le = rw (yes-le {A = ℕ} 0 most 0 0 (omega arith)) (omega arith)
+within-rises o p (suc k) most le =
+    let m = suc k in
+    let h : 0 < m = omega arith in
+    let end = o + paddingLength o m in
+    ⊎-elim
+    (λ (over : most < paddingLength o m). rw (within-none o m most over) (omega arith))
+    (λ (enough : paddingLength o m ≤ most).
+    rw (within-needed o m most enough)
+    (⊎-elim
+    (λ (before : p < end).
+    let left : p + (end - p) ≡ end = omega arith in
+    let fewer : paddingLength p m ≤ end - p = padding-least p m (end - p) h (rw left (padding-aligns o m h)) in
+    let far : o + (p - o + paddingLength p m) ≡ p + paddingLength p m = omega arith in
+    let least : paddingLength o m ≤ p - o + paddingLength p m = padding-least o m (p - o + paddingLength p m) h (rw far (padding-aligns p m h)) in
+    rw (within-needed p m most (omega (arith, enough, fewer))) (omega (arith, least)))
+    (λ (past : end ≤ p). omega arith)
+    (lt-or-ge p end)))
+    (lt-or-ge most (paddingLength o m))
 
 -- For a power of two it is asmkit's `offset.wrapping_neg() & (align - 1)`.
 pub padding-masked : (o k : ℕ) → o < 2 ^ 32 → k ≤ 32 → bitAnd ((2 ^ 32 - o) % 2 ^ 32) (2 ^ k - 1) ≡ paddingLength o (2 ^ k)

@@ -3,7 +3,7 @@ ghost use mathlib.Core.Path.{_≡_};
 ghost use Prim.Native.Nat.{_≤_, _<_, min};
 ghost use lib.ListN.{length};
 ghost use Rattle.encoder.specs.Nops.{form, nops};
-ghost use Rattle.encoder.specs.Padding.{paddingLength};
+ghost use Rattle.encoder.specs.Padding.{paddingLength, paddingWithin};
 
 // Row n - 1 starts with the form of n bytes; its rest is 0.
 const NOP_TABLE: [[u8; 9]; 9] = [
@@ -61,4 +61,12 @@ pub fn padding_len(offset: u32, align_to: u32) -> u32
         return 0;
     }
     align_to - past
+}
+
+// The same, or 0 where that is more than `most`.
+pub fn padding_within(offset: u32, align_to: u32, most: u32) -> u32
+    ensures { λ r. ⌜ r ≡ paddingWithin offset «align_to» most ⌝ }
+{
+    let needed = padding_len(offset, align_to);
+    if needed <= most { needed } else { 0 }
 }
