@@ -14,7 +14,7 @@ use Rattle.seqs.proofs.Booleans.{true-is-not-false, both-true, both-false}
 use Rattle.seqs.proofs.Numbers.{lt-or-ge}
 use Rattle.seqs.proofs.Picking.{passed, neither, yes-eq, no-lt}
 use Rattle.words.specs.Words.{wordAt}
-use Rattle.encoder.specs.Padding.{paddingLength}
+use Rattle.encoder.specs.Padding.{paddingWithin}
 use Rattle.fields.specs.Kinds.{decoded, unsupportedCode, lastCode, archX64}
 use Rattle.relax.specs.Events.{eventSize, noCondition, mostJump, shortLen}
 use Rattle.buffer.specs.declared.CodeBuffer.{CodeBuffer}
@@ -291,19 +291,19 @@ constant-label-accepted {b} {constants} {asked} {labels} {constant} h =
       few = leb-true labels mostEntries (both-true (leb asked mostEntries) (leb labels mostEntries) (both-true (leb constants mostEntries) _ (s .limited) .1) .1);
     }
 
-pub record AlignAccepted (b : CodeBuffer) (lent room multiple : ℕ) : Type 0 where
-  pub fits : b .code + paddingLength (b .code) multiple ≤ lent
+pub record AlignAccepted (b : CodeBuffer) (lent room multiple most : ℕ) : Type 0 where
+  pub fits : b .code + paddingWithin (b .code) multiple most ≤ lent
   pub few : lent ≤ mostCode
   pub aligned : isAlignment multiple ≡ true
   pub event : b .arch ≡ archX64 → b .events < room
   pub fewEvents : room ≤ mostEntries
 
-pub align-accepted : {b : CodeBuffer} {lent room multiple : ℕ} → whyAlign b lent room multiple ≡ 0 → AlignAccepted b lent room multiple
+pub align-accepted : {b : CodeBuffer} {lent room multiple most : ℕ} → whyAlign b lent room multiple most ≡ 0 → AlignAccepted b lent room multiple most
 unfolding whyAlign
-align-accepted {b} {lent} {room} {multiple} h =
+align-accepted {b} {lent} {room} {multiple} {most} h =
     let fit = leb (b .code) lent && leb (b .events) room in
     let within = leb lent mostCode && leb room mostEntries in
-    let pad = paddingLength (b .code) multiple in
+    let pad = paddingWithin (b .code) multiple most in
     let w = neither (standing b fit within) _ h in
     let s = stands b fit within (w .0) in
     let code = leb-true (b .code) lent (both-true (leb (b .code) lent) (leb (b .events) room) (s .fits) .0) in

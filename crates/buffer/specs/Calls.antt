@@ -1,5 +1,5 @@
--- What each recording call answers and leaves in what it was lent: document 01, "recording"; document 02, Request Five. A call that is turned down changes
--- nothing lent.
+-- What each recording call answers and leaves in what it was lent: document 01, "recording"; document 02, Requests Five and Seven. A call that is turned
+-- down changes nothing lent.
 use mathlib.Core.Bool.{cond}
 use mathlib.Core.List.{List}
 use Prim.Native.Nat.{ℕ, _+_, _-_, _*_, _/_, _%_}
@@ -10,7 +10,7 @@ use Rattle.seqs.specs.Over.{over}
 use Rattle.seqs.specs.Pick.{pick}
 use Rattle.words.specs.Words.{wordAt, setWord}
 use Rattle.encoder.specs.Nops.{nops}
-use Rattle.encoder.specs.Padding.{paddingLength}
+use Rattle.encoder.specs.Padding.{paddingWithin}
 use Rattle.relax.specs.Events.{setEvent, eventSize, jumpKind, alignmentKind}
 use Rattle.buffer.specs.declared.CodeBuffer.{CodeBuffer}
 use Rattle.buffer.specs.declared.Recorded.{Recorded}
@@ -112,18 +112,18 @@ bindLabel b labels events uses refs relocs label =
 abbrev pub padding : ℕ → ℕ → List ℕ
 padding arch n = cond (zeroPadded arch) (replicate n 0) (nops n)
 
--- "On X64 each alignment records an event, length 0 too."
-unfoldable pub alignedEvents : CodeBuffer → List ℕ → ℕ → CodeBuffer × List ℕ
-alignedEvents b events multiple =
+-- "On X64 each alignment records an event, length 0 too." The event carries the most bytes that the alignment may spend.
+unfoldable pub alignedEvents : CodeBuffer → List ℕ → ℕ → ℕ → CodeBuffer × List ℕ
+alignedEvents b events multiple most =
     pick (keepsEvents (b .arch))
-    (withEvents b (b .events + 1), setEvent events (b .events) alignmentKind (b .code) (paddingLength (b .code) multiple) multiple 0)
+    (withEvents b (b .events + 1), setEvent events (b .events) alignmentKind (b .code) (paddingWithin (b .code) multiple most) multiple most)
     (b, events)
 
-unfoldable pub alignTo : CodeBuffer → List ℕ → List ℕ → ℕ → Recorded × (List ℕ × List ℕ)
-alignTo b code events multiple =
-    let why = whyAlign b (length code) (length events / eventSize) multiple in
-    let n = paddingLength (b .code) multiple in
-    let recorded = alignedEvents b events multiple in
+unfoldable pub alignTo : CodeBuffer → List ℕ → List ℕ → ℕ → ℕ → Recorded × (List ℕ × List ℕ)
+alignTo b code events multiple most =
+    let why = whyAlign b (length code) (length events / eventSize) multiple most in
+    let n = paddingWithin (b .code) multiple most in
+    let recorded = alignedEvents b events multiple most in
     pick (eqb why 0)
     (accepted (withCode (recorded .0) (b .code + n)), (over code (b .code) (padding (b .arch) n), recorded .1))
     (turnedDown b why, (code, events))

@@ -8,7 +8,7 @@ use lib.ListN.{length, getD}
 use Rattle.refusals.specs.Numbers as refusals
 use Rattle.seqs.specs.Pick.{pick, first, orElse}
 use Rattle.words.specs.Words.{wordAt}
-use Rattle.encoder.specs.Padding.{paddingLength}
+use Rattle.encoder.specs.Padding.{paddingWithin}
 use Rattle.fields.specs.declared.Decoded.{Decoded}
 use Rattle.fields.specs.declared.Decoded.the-variants.{Use, Unsupported, Unknown}
 use Rattle.fields.specs.Kinds.{archX86, archX64, archA64, isArch, decoded, supportsArch, unsupportedCode, lastCode}
@@ -74,15 +74,15 @@ whyBind b labels events uses refs relocs label =
 unfoldable pub isAlignment : ℕ → Bool
 isAlignment n = not (eqb n 0) && eqb (mostAlignment % n) 0
 
--- an alignment. 5: it is no power of two, or exceeds 4,096; 11: the table of events is full (X64 alone has one); 12: the padding passes the lent
--- code's end.
-unfoldable pub whyAlign : CodeBuffer → ℕ → ℕ → ℕ → ℕ
-whyAlign b lent room multiple =
+-- an alignment. 5: it is no power of two, or exceeds 4,096; 11: the table of events is full (X64 alone has one); 12: what it spends passes
+-- the lent code's end.
+unfoldable pub whyAlign : CodeBuffer → ℕ → ℕ → ℕ → ℕ → ℕ
+whyAlign b lent room multiple most =
     orElse (standing b (leb (b .code) lent && leb (b .events) room) (leb lent mostCode && leb room mostEntries))
     (first (
     (not (isAlignment multiple), refusals.badAlignment)
     ∷ (keepsEvents (b .arch) && leb room (b .events), refusals.tableFull)
-    ∷ (ltb (lent - b .code) (paddingLength (b .code) multiple), refusals.codeFull)
+    ∷ (ltb (lent - b .code) (paddingWithin (b .code) multiple most), refusals.codeFull)
     ∷ []
     ))
 

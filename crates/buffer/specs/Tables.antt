@@ -17,6 +17,10 @@ mostConstant = 64
 abbrev pub mostAlignment : ℕ
 mostAlignment = 4096
 
+-- the most bytes that an alignment may spend where nothing else is said (document 02, Request Seven)
+abbrev pub defaultMost : ℕ
+defaultMost = 4095
+
 -- the most entries that may be open: uses, refs, events and relocations are 65,536 each
 abbrev pub mostOpen : ℕ
 mostOpen = 262144

@@ -78,8 +78,8 @@ impl CodeBuffer {
         }
     }
 
-    fn why_not_align(self, lent: usize, room: usize, multiple: u32) -> u32
-        ensures { λ r. ⌜ r ≡ whyAlign self lent room multiple ⌝ }
+    fn why_not_align(self, lent: usize, room: usize, multiple: u32, most: u32) -> u32
+        ensures { λ r. ⌜ r ≡ whyAlign self lent room multiple most ⌝ }
     {
         let at = self.code as usize;
         let n = self.events as usize;
@@ -96,22 +96,22 @@ impl CodeBuffer {
         if both(self.arch == fields::X64, room <= n) {
             return refusals::TABLE_FULL;
         }
-        if lent - at < encoder::padding_len(self.code, multiple) as usize {
+        if lent - at < encoder::padding_within(self.code, multiple, most) as usize {
             return refusals::CODE_FULL;
         }
         0
     }
 
     // On X64 every alignment is an event, one that takes no bytes too.
-    fn record_alignment(mut self, events: &mut [u8], multiple: u32) -> CodeBuffer
+    fn record_alignment(mut self, events: &mut [u8], multiple: u32, most: u32) -> CodeBuffer
         requires { ⌜ (self .arch ≡ archX64 → (self .events * eventSize + eventSize ≤ length (now events)) × (self .events < mostEntries)) ⌝ }
-        ensures { λ r. ⌜ (r, now (events .exit)) ≡ alignedEvents self (now (events .entry)) multiple ⌝ }
+        ensures { λ r. ⌜ (r, now (events .exit)) ≡ alignedEvents self (now (events .entry)) multiple most ⌝ }
     {
         if self.arch != fields::X64 {
             return self;
         }
         let n = self.events;
-        let len = encoder::padding_len(self.code, multiple);
+        let len = encoder::padding_within(self.code, multiple, most);
         relax::put_event(
             events,
             n as usize,
@@ -119,24 +119,30 @@ impl CodeBuffer {
             self.code,
             len,
             multiple,
-            0,
+            most,
         );
         self.events = n + 1;
         self
     }
 
-    // Pads the code to a multiple.
-    pub fn try_align_to(mut self, code: &mut [u8], events: &mut [u8], multiple: u32) -> Recorded
-        ensures { λ r. ⌜ (r, (now (code .exit), now (events .exit))) ≡ alignTo self (now (code .entry)) (now (events .entry)) multiple ⌝ }
+    // Pads the code to a multiple, where that takes no more than `most` bytes; else it spends none.
+    pub fn try_align_to(
+        mut self,
+        code: &mut [u8],
+        events: &mut [u8],
+        multiple: u32,
+        most: u32,
+    ) -> Recorded
+        ensures { λ r. ⌜ (r, (now (code .exit), now (events .exit))) ≡ alignTo self (now (code .entry)) (now (events .entry)) multiple most ⌝ }
     {
-        let why = self.why_not_align(code.len(), events.len() / relax::EVENT_SIZE, multiple);
+        let why = self.why_not_align(code.len(), events.len() / relax::EVENT_SIZE, multiple, most);
         if why != 0 {
             return self.turn_down(why);
         }
         let at = self.code as usize;
-        let end = at + encoder::padding_len(self.code, multiple) as usize;
+        let end = at + encoder::padding_within(self.code, multiple, most) as usize;
         pad(self.arch, &mut code[at..end]);
-        let mut buffer = self.record_alignment(events, multiple);
+        let mut buffer = self.record_alignment(events, multiple, most);
         buffer.code = end as u32;
         Recorded { buffer, refusal: 0 }
     }

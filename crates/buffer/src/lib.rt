@@ -30,6 +30,9 @@ pub const MOST_CONSTANT: usize = 64;
 
 pub const MOST_ALIGNMENT: u32 = 4096;
 
+// The most bytes that an alignment may spend where nothing else is said: as many as the largest takes at most.
+pub const DEFAULT_MOST: u32 = 4095;
+
 // The most entries that may be open: uses, refs, events and relocations are `MOST_ENTRIES` each.
 pub const MOST_OPEN: u32 = 262144;
 

@@ -1,4 +1,4 @@
--- The cases of document 01, and those with ADDs and with a pool, hold of the definitions.
+-- The cases of document 01, and those with ADDs, with a pool and with ceilings, hold of the definitions.
 use mathlib.Core.Path.{_≡_, refl}
 use mathlib.Core.List.{map}
 use Rattle.seqs.specs.Every.{every}
@@ -6,7 +6,7 @@ use Rattle.seqs.specs.Over.{over}
 use Rattle.seqs.specs.Pick.{pick}
 use Rattle.words.specs.Words.{wordAt}
 use Rattle.encoder.specs.Nops as nop
-use Rattle.encoder.specs.Padding.{paddingLength}
+use Rattle.encoder.specs.Padding.{paddingLength, paddingWithin}
 use Rattle.fields.specs.Words64.{signExtend, range}
 use Rattle.fields.specs.Bits.{insertBits}
 use Rattle.fields.specs.Kinds.{decoded}
@@ -23,6 +23,6 @@ use Rattle.cases.specs.Cases.{Row, answer, table}
 -- Every case of the table is answered as its row says.
 pub cases-hold : map answer table ≡ map (λ (r : Row). r .expected) table
 unfolding table every pick decoded reachRefusal canReach canReachDelta pagesReach signExtend range insertBits patched heldAddend wordAt over nop.form nop.nopsBy
-    nop.nops paddingLength pooledOne codeAlignment form width roleOf moves items writes starts stands moved jumps reaches isFar farOf any join settle fillUse fillUses fillField fillRefs
+    nop.nops paddingLength paddingWithin pooledOne codeAlignment form width roleOf moves items writes starts stands moved jumps reaches isFar farOf any join settle fillUse fillUses fillField fillRefs
     fillJump fillJumps fillPool fill assembled inPlace refClear refReaches whyNotLaid whyNotWritten useRefusal usesRefusal whyNotInPlace
 cases-hold = refl

@@ -1,5 +1,5 @@
--- The worked cases of document 01, "Reaches and landings", as rows of one table, and rows with a pool and for document 02, Requests One and Four: small
--- recordings, and what finish makes of them by the definitions that its contract names.
+-- The worked cases of document 01, "Reaches and landings", as rows of one table, and rows with a pool and for document 02, Requests One, Four and
+-- Seven: small recordings, and what finish makes of them by the definitions that its contract names.
 use mathlib.Core.Bool.{true, false}
 use mathlib.Core.List.{List, [], _∷_, _++_}
 use Prim.Native.Nat.{ℕ, _+_, _-_}
@@ -12,7 +12,7 @@ use Rattle.fields.specs.Kinds.{archX64, archA64}
 use Rattle.relax.specs.declared.LayoutEvent.{LayoutEvent}
 use Rattle.relax.specs.declared.LayoutEvent.the-variants.{Align}
 use Rattle.buffer.specs.State.{none}
-use Rattle.buffer.specs.Tables.{mostEntries, mostCode}
+use Rattle.buffer.specs.Tables.{mostEntries, mostCode, defaultMost}
 use Rattle.recording.specs.View.{View}
 use Rattle.fresh.specs.Pooled.{Pooled, pooled, codeAlignment}
 use Rattle.fresh.specs.Forms.{moves}
@@ -83,6 +83,10 @@ usedTwice word code =
       pool = [];
     }
 
+-- an alignment: where it starts and its recorded length, its multiple, and the most bytes that it may spend
+abbrev pub aligned : ℕ → ℕ → ℕ → ℕ → LayoutEvent
+aligned start len multiple most = Align (record { start = start; len = len; align = multiple; most = most })
+
 -- code with a constant, which has label 0 and is asked for
 abbrev pub constant : List ℕ → List LayoutEvent → List ℕ → View
 constant code events bytes =
@@ -99,14 +103,16 @@ constant code events bytes =
 
 -- A to L; then ADDs whose field holds something, whose sh is set, and that have two uses; then a constant of 8 bytes on X64 and on AArch64, and a jump to
 -- one of 9 bytes; then constants of 32 and of 33 bytes, and a jump of 5 bytes and 59 zeros before one of 64 bytes, whose alignment gains 3 bytes of padding
--- when the jump becomes short
+-- when the jump becomes short; then alignments to 8 behind a jump: one that gains 3 bytes when the jump becomes short, one that may not spend these, one
+-- that loses its byte; one that spends nothing in the first round and 3 bytes in the second, where the jump is long; and one that spends 2 bytes in the first
+-- and nothing in the second, so that the jump, which stays long, would reach
 unfoldable pub table : List Row
 table =
     record { recording = zeros 132 (jmp 0 0 ∷ []) (132 ∷ []); from = 0; count = 0; expected = finished 129 32 1 0 [] }
     ∷ record { recording = zeros 133 (jmp 0 0 ∷ []) (133 ∷ []); from = 0; count = 0; expected = finished 133 32 2 1 [] }
     ∷ record { recording = zeros 138 (jmp 0 0 ∷ jmp 5 1 ∷ []) (135 ∷ 138 ∷ []); from = 0; count = 0; expected = finished 138 32 3 2 [] }
     ∷ record {
-      recording = zeros 16 (jmp 0 0 ∷ Align (record { start = 5; len = 11; align = 16 }) ∷ []) (16 ∷ []);
+      recording = zeros 16 (jmp 0 0 ∷ aligned 5 11 16 defaultMost ∷ []) (16 ∷ []);
       from = 0;
       count = 16;
       expected = finished 16 32 1 0 (0xEB ∷ 0x0E ∷ 0x66 ∷ 0x0F ∷ 0x1F ∷ 0x84 ∷ 0 ∷ 0 ∷ 0 ∷ 0 ∷ 0 ∷ 0x0F ∷ 0x1F ∷ 0x44 ∷ 0 ∷ 0 ∷ []);
@@ -164,5 +170,35 @@ table =
       from = 0;
       count = 2;
       expected = finished 128 64 1 0 (0xEB ∷ 0x3E ∷ []);
+    }
+    ∷ record {
+      recording = zeros 8 (jmp 0 0 ∷ aligned 8 0 8 5 ∷ []) (8 ∷ []);
+      from = 0;
+      count = 8;
+      expected = finished 8 32 1 0 (0xEB ∷ 0x06 ∷ 0 ∷ 0 ∷ 0 ∷ 0x0F ∷ 0x1F ∷ 0 ∷ []);
+    }
+    ∷ record {
+      recording = zeros 8 (jmp 0 0 ∷ aligned 8 0 8 2 ∷ []) (8 ∷ []);
+      from = 0;
+      count = 5;
+      expected = finished 5 32 1 0 (0xEB ∷ 0x03 ∷ 0 ∷ 0 ∷ 0 ∷ []);
+    }
+    ∷ record {
+      recording = zeros 8 (jmp 0 0 ∷ aligned 7 1 8 1 ∷ []) (8 ∷ []);
+      from = 0;
+      count = 4;
+      expected = finished 4 32 1 0 (0xEB ∷ 0x02 ∷ 0 ∷ 0 ∷ []);
+    }
+    ∷ record {
+      recording = zeros 136 (jmp 0 0 ∷ aligned 5 3 8 3 ∷ []) (136 ∷ []);
+      from = 0;
+      count = 8;
+      expected = finished 136 32 2 1 (0xE9 ∷ 0x83 ∷ 0 ∷ 0 ∷ 0 ∷ 0x0F ∷ 0x1F ∷ 0 ∷ []);
+    }
+    ∷ record {
+      recording = zeros 131 (jmp 0 0 ∷ aligned 9 0 8 2 ∷ []) (131 ∷ []);
+      from = 0;
+      count = 5;
+      expected = finished 131 32 2 1 (0xE9 ∷ 0x7E ∷ 0 ∷ 0 ∷ 0 ∷ []);
     }
     ∷ []

@@ -6,7 +6,7 @@ use mathlib.Core.List.{List}
 use Prim.Native.Nat.{ℕ, _≤_, _<_}
 use borrow.Author.Tests.{eq-eqb, ne-eqb, le-leb, lt-leb}
 use lib.Dec.{eqb, leb, ltb}
-use Rattle.encoder.specs.Padding.{paddingLength}
+use Rattle.encoder.specs.Padding.{paddingWithin}
 use Rattle.buffer.specs.State.{none}
 use Rattle.buffer.specs.Refusals.{isAlignment}
 use Rattle.checks.specs.Entries.{formFits, outside, labelFits}
@@ -16,20 +16,20 @@ or-false true = refl
 or-false false = refl
 
 -- the test of a jump, and that of any other event, as the program makes them
-pub record JumpTested (labels kind start len what cc : ℕ) (fits : Bool) : Type 0 where
+pub record JumpTested (labels kind start len what how : ℕ) (fits : Bool) : Type 0 where
   pub jump : kind ≡ 1
-  pub tested : fits ≡ (leb 2 len && leb len 15 && (ltb what labels && leb cc 16))
+  pub tested : fits ≡ (leb 2 len && leb len 15 && (ltb what labels && leb how 16))
 
-pub record OtherTested (labels kind start len what cc : ℕ) (fits : Bool) : Type 0 where
+pub record OtherTested (labels kind start len what how : ℕ) (fits : Bool) : Type 0 where
   pub other : kind ≢ 1
-  pub tested : fits ≡ (eqb kind 2 && (isAlignment what && eqb len (paddingLength start what)))
+  pub tested : fits ≡ (eqb kind 2 && (isAlignment what && eqb len (paddingWithin start what how)))
 
-module _ {labels kind start len what cc : ℕ} {fits : Bool} where
-  pub form-jump : JumpTested labels kind start len what cc fits → fits ≡ formFits labels kind start len what cc
+module _ {labels kind start len what how : ℕ} {fits : Bool} where
+  pub form-jump : JumpTested labels kind start len what how fits → fits ≡ formFits labels kind start len what how
   unfolding formFits
-  form-jump t = rw (t .jump, t .tested) (or-false (leb 2 len && leb len 15 && (ltb what labels && leb cc 16)))
+  form-jump t = rw (t .jump, t .tested) (or-false (leb 2 len && leb len 15 && (ltb what labels && leb how 16)))
 
-  pub form-alignment : OtherTested labels kind start len what cc fits → fits ≡ formFits labels kind start len what cc
+  pub form-alignment : OtherTested labels kind start len what how fits → fits ≡ formFits labels kind start len what how
   unfolding formFits
   form-alignment t = rw (t .tested, ne-eqb kind 1 (t .other))
 

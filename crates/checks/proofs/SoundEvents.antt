@@ -13,7 +13,7 @@ use Rattle.seqs.proofs.Numbers.{eq-or-ne}
 use Rattle.seqs.proofs.Booleans.{both-true}
 use Rattle.seqs.proofs.Picking.{yes-eq, no-eq}
 use Rattle.words.specs.Words.{wordAt}
-use Rattle.encoder.specs.Padding.{paddingLength}
+use Rattle.encoder.specs.Padding.{paddingWithin}
 use Rattle.relax.specs.Events.{eventAt, endOf, eventWords, eventSize}
 use Rattle.relax.proofs.Columns.{end-at}
 use Rattle.buffer.specs.Refusals.{isAlignment, lastEnd}
@@ -38,34 +38,34 @@ pub or-second : (a b : Bool) → b ≡ true → (a || b) ≡ true
 or-second true b h = refl
 or-second false b h = h
 
-module _ (labels kind start len what cc : ℕ) where
-  form-sound : formFits labels kind start len what cc ≡ true → FormOf labels kind start len what cc
+module _ (labels kind start len what how : ℕ) where
+  form-sound : formFits labels kind start len what how ≡ true → FormOf labels kind start len what how
   unfolding formFits
   form-sound h =
       ⊎-elim
       (λ j.
-      let a = both-true (eqb kind 1) (leb 2 len && leb len 15 && (ltb what labels && leb cc 16)) j in
-      let b = both-true (leb 2 len && leb len 15) (ltb what labels && leb cc 16) (a .1) in
+      let a = both-true (eqb kind 1) (leb 2 len && leb len 15 && (ltb what labels && leb how 16)) j in
+      let b = both-true (leb 2 len && leb len 15) (ltb what labels && leb how 16) (a .1) in
       let l = both-true (leb 2 len) (leb len 15) (b .0) in
-      let d = both-true (ltb what labels) (leb cc 16) (b .1) in
-      inl (eqb-true kind 1 (a .0), leb-true 2 len (l .0), leb-true len 15 (l .1), ltb-true what labels (d .0), leb-true cc 16 (d .1)))
+      let d = both-true (ltb what labels) (leb how 16) (b .1) in
+      inl (eqb-true kind 1 (a .0), leb-true 2 len (l .0), leb-true len 15 (l .1), ltb-true what labels (d .0), leb-true how 16 (d .1)))
       (λ j.
-      let a = both-true (eqb kind 2) (isAlignment what && eqb len (paddingLength start what)) j in
-      let b = both-true (isAlignment what) (eqb len (paddingLength start what)) (a .1) in
-      inr (eqb-true kind 2 (a .0), b .0, eqb-true len (paddingLength start what) (b .1)))
+      let a = both-true (eqb kind 2) (isAlignment what && eqb len (paddingWithin start what how)) j in
+      let b = both-true (isAlignment what) (eqb len (paddingWithin start what how)) (a .1) in
+      inr (eqb-true kind 2 (a .0), b .0, eqb-true len (paddingWithin start what how) (b .1)))
       (or-by
-      (eqb kind 1 && (leb 2 len && leb len 15 && (ltb what labels && leb cc 16)))
-      (eqb kind 2 && (isAlignment what && eqb len (paddingLength start what)))
+      (eqb kind 1 && (leb 2 len && leb len 15 && (ltb what labels && leb how 16)))
+      (eqb kind 2 && (isAlignment what && eqb len (paddingWithin start what how)))
       h)
 
-  form-fits : FormOf labels kind start len what cc → formFits labels kind start len what cc ≡ true
+  form-fits : FormOf labels kind start len what how → formFits labels kind start len what how ≡ true
   unfolding formFits
   form-fits f =
       ⊎-elim
-      (λ j. rw (eq-eqb kind 1 (j .0), le-leb 2 len (j .1), le-leb len 15 (j .2), lt-ltb what labels (j .3), le-leb cc 16 (j .4)))
+      (λ j. rw (eq-eqb kind 1 (j .0), le-leb 2 len (j .1), le-leb len 15 (j .2), lt-ltb what labels (j .3), le-leb how 16 (j .4)))
       (λ j.
-      rw (eq-eqb kind 2 (j .0), j .1, eq-eqb len (paddingLength start what) (j .2))
-      (or-second (eqb kind 1 && (leb 2 len && leb len 15 && (ltb what labels && leb cc 16))) true refl))
+      rw (eq-eqb kind 2 (j .0), j .1, eq-eqb len (paddingWithin start what how) (j .2))
+      (or-second (eqb kind 1 && (leb 2 len && leb len 15 && (ltb what labels && leb how 16))) true refl))
       f
 
 last-end-at : (events : List ℕ) (j : ℕ) → lastEnd events (suc j) ≡ endAt events j

@@ -6,7 +6,7 @@ use Prim.Native.Nat.{ℕ, _+_, _*_}
 use lib.Dec.{eqb, leb, ltb}
 use Rattle.seqs.specs.Every.{all}
 use Rattle.words.specs.Words.{wordAt}
-use Rattle.encoder.specs.Padding.{paddingLength}
+use Rattle.encoder.specs.Padding.{paddingWithin}
 use Rattle.fields.specs.Kinds.{decoded, unsupportedCode, lastCode}
 use Rattle.relax.specs.Events.{eventWords, jumpKind, alignmentKind, noCondition, mostJump, shortLen}
 use Rattle.buffer.specs.declared.CodeBuffer.{CodeBuffer}
@@ -16,11 +16,12 @@ use Rattle.buffer.specs.Tables.{lastOffset, mostConstant, lastReloc, useWords, 
 use Rattle.recording.specs.Calls.{Recording}
 use Rattle.recording.specs.Sound.{startAt, endAt, labelOf}
 
--- The columns of an event: a jump (length 2..15, a known label, a condition up to 16), or an alignment (a power of two up to 4,096, "of least length").
+-- The columns of an event: a jump (length 2..15, a known label, a condition up to 16), or an alignment (a power of two up to 4,096, "that
+-- length alone" that it spends at its start: document 02, Request Seven).
 unfoldable pub formFits : ℕ → ℕ → ℕ → ℕ → ℕ → ℕ → Bool
-formFits labels kind start len what cc =
-    eqb kind jumpKind && (leb shortLen len && leb len mostJump && (ltb what labels && leb cc noCondition))
-    || eqb kind alignmentKind && (isAlignment what && eqb len (paddingLength start what))
+formFits labels kind start len what how =
+    eqb kind jumpKind && (leb shortLen len && leb len mostJump && (ltb what labels && leb how noCondition))
+    || eqb kind alignmentKind && (isAlignment what && eqb len (paddingWithin start what how))
 
 -- "an event past that end or starting before the last one's end"
 unfoldable pub eventFits : List ℕ → ℕ → ℕ → ℕ → Bool

@@ -17,21 +17,22 @@ use buffer::CodeBuffer;
 // Marks that cost a small recording next to nothing to clear.
 pub const FEW_MARKS: usize = 256;
 
-// A jump has 2 to 15 bytes, a known label, and a condition up to 16; an alignment is on a power of two up to 4,096, with the least padding.
-fn form_fits(labels: u32, kind: u32, start: u32, len: u32, what: u32, cc: u32) -> bool
-    ensures { λ r. ⌜ r ≡ formFits labels kind start len what cc ⌝ }
+// A jump has 2 to 15 bytes, a known label, and a condition up to 16; an alignment is on a power of two up to 4,096, with the padding that
+// it spends at its start.
+fn form_fits(labels: u32, kind: u32, start: u32, len: u32, what: u32, how: u32) -> bool
+    ensures { λ r. ⌜ r ≡ formFits labels kind start len what how ⌝ }
 {
     if kind == relax::JUMP {
         return buffer::both(
             buffer::both(relax::SHORT_LEN <= len, len <= relax::MOST_JUMP),
-            buffer::both(what < labels, cc <= relax::NO_CONDITION),
+            buffer::both(what < labels, how <= relax::NO_CONDITION),
         );
     }
     buffer::both(
         kind == relax::ALIGNMENT,
         buffer::both(
             buffer::bytes::is_alignment(what),
-            len == encoder::padding_len(start, what),
+            len == encoder::padding_within(start, what, how),
         ),
     )
 }
@@ -44,8 +45,8 @@ fn event_fits(events: &[u8], labels: u32, code: u32, j: usize) -> bool
     let start = words::word_at(events, j * relax::EVENT_WORDS + 1);
     let len = words::word_at(events, j * relax::EVENT_WORDS + 2);
     let what = words::word_at(events, j * relax::EVENT_WORDS + 3);
-    let cc = words::word_at(events, j * relax::EVENT_WORDS + 4);
-    let formed = form_fits(labels, kind, start, len, what, cc);
+    let how = words::word_at(events, j * relax::EVENT_WORDS + 4);
+    let formed = form_fits(labels, kind, start, len, what, how);
     let last = buffer::jumps::last_end(events, j);
     buffer::both(
         formed,

@@ -7,6 +7,7 @@ use Prim.Native.Nat.{ℕ, _+_, _-_, _%_, _≤_, _<_}
 use lib.ListN.{length, getD, replicate}
 use Rattle.words.specs.Words.{wordAt, overWords}
 use Rattle.encoder.specs.Intel.{AreNops}
+use Rattle.encoder.specs.Padding.{Spends}
 use Rattle.fields.specs.declared.LabelUse.{LabelUse}
 use Rattle.fields.specs.declared.Decoded.the-variants.{Use}
 use Rattle.fields.specs.Words64.{plus, signExtend}
@@ -104,6 +105,9 @@ module _ {p : Pooled} {c : Choice} {code : List ℕ} (d : Relaxed p c code) wher
       → AreNops (part code (newStart p c i) (newEnd p c i - newStart p c i))
   padding-reads = d .padding
 
+  alignments-spend : (i : ℕ) (a : Alignment) → i < length (p .events) → eventOf p i ≡ Align a → Spends (a .align) (a .most) (newStart p c i) (newEnd p c i)
+  alignments-spend = d .spends
+
   events-lie-within : (i : ℕ) → i < length (p .events) → newEnd p c i ≤ length code
   events-lie-within = d .within
 
@@ -122,6 +126,10 @@ module _ {p : Pooled} {code : List ℕ} (d : InPlace p code) where
       → (base : ℕ) → meaning k (plus base (useOf p i .offset)) (wordAt (part code (useOf p i .offset) (patchSize k)) 0) % 4294967296
       ≡ demanded k (plus base (plus (getD (p .labels) (useOf p i .label) none) (signExtend 32 (wordAt (heldBy p i k) 0)))) % 4294967296
   uses-add = d .adds
+
+  kept-alignments-spend : (i : ℕ) (a : Alignment) → i < length (p .events) → eventOf p i ≡ Align a
+      → Spends (a .align) (a .most) (a .start) (a .start + a .len)
+  kept-alignments-spend = d .spends
 
   uncovered-stays : (a n : ℕ) → ((j : ℕ) → UseMisses p a n j) → ((j : ℕ) → ConstantMisses here p a n j) → part code a n ≡ part (p .code) a n
   uncovered-stays = d .copied

@@ -19,11 +19,13 @@ use Rattle.fields.specs.declared.Decoded.{Decoded}
 use Rattle.fields.specs.declared.Decoded.the-variants.{Use}
 use Rattle.fields.specs.Kinds.{info, patchSize, isArch, decoded}
 use Rattle.fields.specs.Reach.{canReach, reachRefusal}
+use Rattle.relax.specs.declared.Alignment.{Alignment}
 use Rattle.relax.specs.declared.LayoutEvent.{LayoutEvent}
+use Rattle.relax.specs.declared.LayoutEvent.the-variants.{Align}
 use Rattle.relax.specs.declared.Segment.{Segment}
 use Rattle.relax.specs.Events.{eventOf, eventAt, endOf, startOf, noEvent}
 use Rattle.buffer.specs.declared.CodeBuffer.{CodeBuffer}
-use Rattle.buffer.specs.State.{none}
+use Rattle.buffer.specs.State.{none, keepsEvents}
 use Rattle.buffer.specs.Refusals.{foreign}
 use Rattle.buffer.specs.Tables.{mostEntries, refWords}
 use Rattle.recording.specs.Calls.{Recording}
@@ -33,6 +35,7 @@ use Rattle.recording.proofs.Views.{length-entries, getD-entries}
 use Rattle.fresh.specs.Pooled.{constantAlignment, Pooled, pooled}
 use Rattle.fresh.specs.Rounds.{jumps, settled}
 use Rattle.fresh.specs.Order.{Apart, WellFormed}
+use Rattle.fresh.specs.steps.Runs.{Modest}
 use Rattle.fresh.proofs.Constants.{alignment-cases, alignment-range}
 use Rattle.fresh.proofs.AlignedEnds.{AlignsOn, EndsOn}
 use Rattle.fresh.proofs.Least.{Bound}
@@ -43,6 +46,7 @@ use Rattle.pool.specs.steps.Pool.{sizeAt, poolStart, poolOffset, poolEvent, poo
 use Rattle.pool.proofs.Pool.{poolStart-suc, poolStart-grows}
 use Rattle.fields.specs.Kinds.{sizeOf}
 use Rattle.fields.specs.Reach.{reachOf}
+use Rattle.layout.proofs.Pooling.{all-modest}
 use Rattle.emit.specs.steps.Emit.{Writes}
 use Rattle.finish.specs.steps.Tables.{poolPlaced, tablesPooled}
 use Rattle.finish.specs.steps.Ready.{Landed, Ready}
@@ -51,12 +55,14 @@ use Rattle.seqs.specs.Every.{every}
 use Rattle.finish.specs.Refusals.{isBound, jumpBound, relocBound, allBound, refClear, refReaches, useRefusal, usesRefusal}
 use Rattle.finish.proofs.SoundRecording.{tied, offsets-small, pooled-is, ready}
 use Rattle.finish.proofs.PooledInOrder.{AtTable, AtPool, event-at, ref-apart, pool-apart, well-formed, recorded-writes}
+use Rattle.finish.proofs.RelaxedRequires.{recorded}
 use Rattle.demands.specs.Demand2 as demand
 use Rattle.demands.specs.Demand2.{Bytes, useOf, refOf, constantOf}
 use Rattle.demands.proofs.Bytes.{bytes-take, bytes-pooled}
 use Rattle.demands.proofs.Relaxing.{Fitting}
 use Rattle.demands.proofs.Staying.{Reaching}
 use Rattle.demands.proofs.Answers.{Fit, Assembled, Kept}
+use Rattle.demands.proofs.Spending.{column-spends, pool-spends}
 
 -- a kind that is not foreign to X64 is one of x86
 x86-alone : (t : Bool) → not (isArch t 2) ≡ false → t ≡ true
@@ -154,6 +160,38 @@ module _ (r : Recording) (s : Sound r) (few : r .buffer .asked ≤ mostEntries) 
       let l : i < b .refs = omega (arith, ap length e, length-entries (tables.refAt (r .refs)) (b .refs)) in
       (l, ap (λ (x : List tables.Ref). getD x i (record { offset = 0; label = 0; code = 0; addend = 0 })) e ∙ getD-entries (tables.refAt (r .refs)) (b .refs) i _ l)
 
+  -- on X64 the events are those of the table, and those of the pool behind them
+  abbrev all-events : List LayoutEvent
+  all-events = tables.entries (eventAt (r .events)) (b .events) ++ tables.entries (poolEvent (b .code) (r .constants) (r .asked)) (b .asked)
+
+  many-events : length all-events ≡ b .events + b .asked
+  many-events =
+      length-append (tables.entries (eventAt (r .events)) (b .events)) (tables.entries (poolEvent (b .code) (r .constants) (r .asked)) (b .asked))
+      ∙ rw (length-entries (eventAt (r .events)) (b .events), length-entries (poolEvent (b .code) (r .constants) (r .asked)) (b .asked)) refl
+
+  events-are : p .events
+      ≡ tables.entries (eventAt (r .events)) (b .events) ++ cond (keepsEvents (b .arch)) (tables.entries (poolEvent (b .code) (r .constants) (r .asked)) (b .asked)) []
+  events-are = ap (λ (x : Pooled). x .events) (pooled-is r s few)
+
+  -- an alignment among the events, which only X64 has
+  spending : (i : ℕ) (a : Alignment) → i < length (p .events) → demand.eventOf p i ≡ Align a → demand.SpendsAsRecorded a
+  unfolding eventAt
+  spending i a h is =
+      ⊎-elim
+      (λ (is64 : b .arch ≡ 2).
+      let e : p .events ≡ all-events = events-are ∙ rw is64 refl in
+      ⊎-elim
+      (λ (t : AtTable (r .events) (b .events) i (getD all-events i noEvent)).
+      column-spends (b .labels) _ _ _ _ _ (s .events .entry i (t .below) .form) a (sym (t .is) ∙ (ap (λ (es : List LayoutEvent). getD es i noEvent) (sym e) ∙ is)))
+      (λ (t : AtPool (r .constants) (r .asked) (b .code) (b .events) (b .asked) i (getD all-events i noEvent)).
+      pool-spends (b .code) (r .constants) (r .asked) (t .number) a (sym (t .is) ∙ (ap (λ (es : List LayoutEvent). getD es i noEvent) (sym e) ∙ is)))
+      (event-at (r .events) (r .constants) (r .asked) (b .code) (b .events) (b .asked) i noEvent (omega (arith, ap length e, many-events))))
+      (λ (ne : b .arch ≢ 2).
+      let none : b .events ≡ 0 = ⊎-elim (λ (e : b .arch ≡ 2). absurd (ne e)) (λ (z : b .events ≡ 0). z) (s .events .tracked) in
+      let no : p .events ≡ [] = events-are ∙ rw (ne-eqb (b .arch) 2 ne, none) refl in
+      absurd (omega (arith, ap length no)))
+      (eq-or-ne (b .arch) 2)
+
   -- without a jump
   pub reaching : {ss : List Segment} {labels output code table : List ℕ} {len : ℕ} → Bytes (r .code) → Fit r ss output → Kept p labels output code table len → Reaching p
   reaching bytes fit kept =
@@ -163,6 +201,7 @@ module _ (r : Recording) (s : Sound r) (few : r .buffer .asked ≤ mostEntries) 
         labels = λ l. omega (arith, label-word l);
         within = λ i k h is. use-fits p (useOf p i) k is (use-refused p (p .uses) _ (kept .none-refused) i h) .0;
         reach = λ i k h is. use-fits p (useOf p i) k is (use-refused p (p .uses) _ (kept .none-refused) i h) .1;
+        spends = spending;
       }
 
   -- only X64 keeps events
@@ -209,9 +248,7 @@ module _ (r : Recording) (s : Sound r) (few : r .buffer .asked ≤ mostEntries) 
     table-known i h = recorded-writes (r .events) (b .events) (b .labels) (b .code) (b .arch) (s .events) i h
 
     many : length (q .events) ≡ b .events + b .asked
-    many =
-        length-append (tables.entries (eventAt (r .events)) (b .events)) (tables.entries (poolEvent (b .code) (r .constants) (r .asked)) (b .asked))
-        ∙ rw (length-entries (eventAt (r .events)) (b .events), length-entries (poolEvent (b .code) (r .constants) (r .asked)) (b .asked)) refl
+    many = many-events
 
     event-known : (i : ℕ) → i < length (q .events) → Writes (getD (q .events) i noEvent)
     event-known i h =
@@ -235,6 +272,7 @@ module _ (r : Recording) (s : Sound r) (few : r .buffer .asked ≤ mostEntries) 
           alignment = _;
           is = refl;
           some = omega (arith, alignment-range (sizeAt (r .constants) (r .asked) k));
+          enough = omega (arith, alignment-range (sizeAt (r .constants) (r .asked) k));
           multiple =
               ⊎-elim
               (λ (same : i ≡ k). rw (← same) (mod-self (constantAlignment (sizeAt (r .constants) (r .asked) i))))
@@ -292,6 +330,9 @@ module _ (r : Recording) (s : Sound r) (few : r .buffer .asked ≤ mostEntries) 
           small = omega (arith, length-assembled p c, done .fits, fit .room);
           fits = none-fits p c (rounds-last (rounds-settle p));
           padded = λ e. omega (arith, ap (λ (x : Pooled). x .arch) pooled-q, e);
+          modest =
+              subst (λ (x : Pooled). Modest (x .events)) (sym pooled-q)
+              (all-modest (r .events) (b .events) (b .code) (r .constants) (r .asked) (recorded ready64) (b .asked));
           bound = jumps-bound p (tables.view r .relocs) bounds;
           known = λ i v h is. subst Writes is (all-known i h);
           native = ref-native;

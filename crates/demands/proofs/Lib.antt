@@ -8,6 +8,7 @@ pub mod Relaxing
 pub mod Bytes
 pub mod Staying
 pub mod Answers
+pub mod Spending
 pub mod Discharged
 pub mod Offsets
 pub mod Recorded

@@ -11,8 +11,10 @@ use lib.Seq.{length-take-le}
 use borrow.Author.Tests.{eqb-true, eqb-false}
 use Rattle.seqs.specs.Over.{over}
 use Rattle.seqs.proofs.Numbers.{eq-or-ne}
+use Rattle.seqs.proofs.Picking.{yes-eq}
 use Rattle.seqs.proofs.Overwrites.{part-before}
-use Rattle.encoder.specs.Padding.{paddingLength}
+use Rattle.encoder.specs.Padding.{paddingWithin, Spends}
+use Rattle.encoder.proofs.Padding.{padding-spends}
 use Rattle.relax.specs.declared.Segment.{Segment}
 use Rattle.relax.specs.Events.{eventSize}
 use Rattle.buffer.specs.declared.CodeBuffer.{CodeBuffer}
@@ -20,8 +22,9 @@ use Rattle.buffer.specs.declared.Recorded.{Recorded}
 use Rattle.buffer.specs.declared.Made.{Made}
 use Rattle.buffer.specs.State.{withRefusal, refusing}
 use Rattle.buffer.specs.Refusals.{whyAlign}
-use Rattle.buffer.specs.Calls.{putBytes, getLabel, bindLabel, padding, alignTo, useLabel, recordRef, recordJump, addConstant, askedFirst, constantLabel, addReloc}
+use Rattle.buffer.specs.Calls.{putBytes, getLabel, bindLabel, padding, alignedEvents, alignTo, useLabel, recordRef, recordJump, addConstant, askedFirst, constantLabel, addReloc}
 use Rattle.buffer.proofs.Appends.{padding-length}
+use Rattle.buffer.proofs.Accepted.{align-accepted}
 use Rattle.recording.specs.Calls.{
   Recording,
   Word,
@@ -56,6 +59,7 @@ use Rattle.recording.proofs.Laws.{see-align, see-align-elsewhere}
 use Rattle.fresh.specs.Pooled.{pooledOne, pooledTo, pooled}
 use Rattle.fresh.specs.Forms.{moves}
 use Rattle.finish.specs.Finish.{finish}
+use Rattle.finish.proofs.PooledInOrder.{alignment-range}
 use Rattle.demands.specs.Demand2.{Padded, AlignPadded, finishedCode}
 use Rattle.demands.proofs.Placing.{part-between}
 use Rattle.demands.proofs.Staying.{stays-padded}
@@ -107,12 +111,12 @@ call-begins newLabel r =
 call-begins (bind l) r =
     either _ (λ (a : Recorded × List ℕ). Begins (view r .code) (view (withLabelTable r (a .0 .buffer) (a .1)) .code)) _ _
     (begins-same (view r .code)) (begins-same (view r .code))
-call-begins (align m) r =
+call-begins (align m most) r =
     either _
     (λ (a : Recorded × (List ℕ × List ℕ)).
     Begins (view r .code) (view (withEventTable (withCodeTable r (a .0 .buffer) (a .1 .0)) (a .0 .buffer) (a .1 .1)) .code))
     _ _
-    (begins-over (r .code) (padding (r .buffer .arch) (paddingLength (r .buffer .code) (m .value))) (r .buffer .code) (paddingLength (r .buffer .code) (m .value)))
+    (begins-over (r .code) (padding (r .buffer .arch) (paddingWithin (r .buffer .code) (m .value) (most .value))) (r .buffer .code) (paddingWithin (r .buffer .code) (m .value) (most .value)))
     (refusing-begins r _)
 call-begins (use-label o l c) r =
     either _ (λ (a : Recorded × List ℕ). Begins (view r .code) (view (withUseTable r (a .0 .buffer) (a .1)) .code)) _ _
@@ -150,36 +154,50 @@ pooled-begins arch v zero = begins-same (v .code)
 pooled-begins arch v (suc n) =
     begins-on (v .code) (pooledTo arch v n .code) (pooledTo arch v (suc n) .code) (pooled-begins arch v n) (record { more = _; is = refl })
 
--- an alignment that is not turned down pads
-aligned : (r : Recording) (m : Word) → answered (align m) r ≡ 0
-    → view (after (align m) r) .code ≡ view r .code ++ padding (r .buffer .arch) (paddingLength (r .buffer .code) (m .value))
+-- an alignment that answers 0 was not turned down
+taken : (r : Recording) (m most : Word) → answered (align m most) r ≡ 0 → whyAlign (r .buffer) (length (r .code)) (length (r .events) / eventSize) (m .value) (most .value) ≡ 0
 unfolding alignTo
-aligned r m e =
-    let why = whyAlign (r .buffer) (length (r .code)) (length (r .events) / eventSize) (m .value) in
-    let taken : eqb why 0 ≡ true = chosen-zero (λ (x : Recorded × (List ℕ × List ℕ)). x .0 .refusal) (eqb why 0) _ _ (λ q. eqb-false why 0 q) e in
-    let zero = eqb-true why 0 taken in
+taken r m most e =
+    let why = whyAlign (r .buffer) (length (r .code)) (length (r .events) / eventSize) (m .value) (most .value) in
+    eqb-true why 0 (chosen-zero (λ (x : Recorded × (List ℕ × List ℕ)). x .0 .refusal) (eqb why 0) _ _ (λ q. eqb-false why 0 q) e)
+
+-- On every architecture: from the offset before it to the offset after it an alignment ends on its multiple, or is empty where that would have taken more
+-- than it may spend; it never spends more.
+pub recorded-spends : (r : Recording) (m most : Word) → answered (align m most) r ≡ 0
+    → Spends (m .value) (most .value) (r .buffer .code) (after (align m most) r .buffer .code)
+unfolding alignTo alignedEvents
+recorded-spends r m most e =
+    let b = r .buffer in
+    let why = taken r m most e in
+    rw (yes-eq _ 0 _ _ why) (padding-spends (b .code) (m .value) (most .value) (alignment-range (m .value) (align-accepted why .aligned) .0))
+
+-- an alignment that is not turned down pads
+aligned : (r : Recording) (m most : Word) → answered (align m most) r ≡ 0
+    → view (after (align m most) r) .code ≡ view r .code ++ padding (r .buffer .arch) (paddingWithin (r .buffer .code) (m .value) (most .value))
+aligned r m most e =
+    let zero = taken r m most e in
     ⊎-elim
     (λ (x64 : r .buffer .arch ≡ 2).
-    ap (λ (v : View). v .code) (see-align r m zero x64)
-    ∙ ap (λ (arch : ℕ). view r .code ++ padding arch (paddingLength (r .buffer .code) (m .value))) (sym x64))
-    (λ (other : r .buffer .arch ≢ 2). ap (λ (v : View). v .code) (see-align-elsewhere r m zero other))
+    ap (λ (v : View). v .code) (see-align r m most zero x64)
+    ∙ ap (λ (arch : ℕ). view r .code ++ padding arch (paddingWithin (r .buffer .code) (m .value) (most .value))) (sym x64))
+    (λ (other : r .buffer .arch ≢ 2). ap (λ (v : View). v .code) (see-align-elsewhere r m most zero other))
     (eq-or-ne (r .buffer .arch) 2)
 
 -- Without a jump: the padding of an alignment recorded by a call, whatever calls and growth follow, byte by byte where no use and no constant covers it.
-pub recorded-padding : (r : Recording) → Sound r → (m : Word) → answered (align m) r ≡ 0 → (f : Recording) → Leads (after (align m) r) f
+pub recorded-padding : (r : Recording) → Sound r → (m most : Word) → answered (align m most) r ≡ 0 → (f : Recording) → Leads (after (align m most) r) f
     → (ss : List Segment) (output : List ℕ) → finish f ss output .0 .refusal ≡ 0 → moves (pooled (f .buffer .arch) (view f) .events) ≡ false
-    → AlignPadded r (m .value) (pooled (f .buffer .arch) (view f)) (finishedCode f ss output)
-recorded-padding r s m e f later ss output done none =
+    → AlignPadded r (m .value) (most .value) (pooled (f .buffer .arch) (view f)) (finishedCode f ss output)
+recorded-padding r s m most e f later ss output done none =
     let arch = f .buffer .arch in
     let v = view f in
     let p = pooled arch v in
     let start = r .buffer .code in
-    let n = paddingLength start (m .value) in
+    let n = paddingWithin start (m .value) (most .value) in
     let pad = padding (r .buffer .arch) n in
     let on =
-    begins-on (view (after (align m) r) .code) (v .code) (p .code) (leads-begin (after (align m) r) f later) (pooled-begins arch v (length (v .asked))) in
+    begins-on (view (after (align m most) r) .code) (v .code) (p .code) (leads-begin (after (align m most) r) f later) (pooled-begins arch v (length (v .asked))) in
     let is : p .code ≡ view r .code ++ (pad ++ on .more) =
-    on .is ∙ ap (λ (l : List ℕ). l ++ on .more) (aligned r m e) ∙ append-assoc (view r .code) pad (on .more) in
+    on .is ∙ ap (λ (l : List ℕ). l ++ on .more) (aligned r m most e) ∙ append-assoc (view r .code) pad (on .more) in
     subst (Padded p (r .buffer .arch) start n) (sym (finish-answered f ss output done .straight none .is))
     (stays-padded p (r .buffer .arch) start n
     (part-between (p .code) (view r .code) pad (on .more) start n is (sym (length-take-le start (r .code) (s .code .room))) (sym (padding-length (r .buffer .arch) n))))

@@ -10,7 +10,7 @@ use lib.ListN.{length, getD}
 use borrow.Author.Tests.{ne-eqb}
 use Rattle.seqs.specs.Over.{over}
 use Rattle.seqs.proofs.Numbers.{eq-or-ne}
-use Rattle.encoder.specs.Padding.{paddingLength}
+use Rattle.encoder.specs.Padding.{paddingWithin, Spends}
 use Rattle.encoder.specs.Intel.{AreNops}
 use Rattle.encoder.proofs.Reading.{nops-read}
 use Rattle.fields.specs.declared.LabelUse.{LabelUse}
@@ -33,7 +33,9 @@ use Rattle.fresh.specs.Demand.{Reach, Fits}
 use Rattle.fresh.specs.Order.{Apart, WellFormed}
 use Rattle.fresh.proofs.AlignedEnds.{EndsOn}
 use Rattle.fresh.proofs.Least.{Bound}
-use Rattle.fresh.proofs.Forms.{field-inside}
+use Rattle.fresh.specs.steps.Runs.{Small, Modest}
+use Rattle.fresh.proofs.Forms.{field-inside, alignment-spends}
+use Rattle.fresh.proofs.Loops.{modest-at}
 use Rattle.fresh.proofs.Fill.{length-assembled, length-fillRefs}
 use Rattle.fresh.proofs.Within.{moved-le, moved-within, end-within}
 use Rattle.fields.specs.Kinds.{sizeOf}
@@ -54,6 +56,7 @@ pub record Fitting (p : Pooled) (c : Choice) : Type 0 where
   pub small : length (placed p c) < 2147483648
   pub fits : Fits p c
   pub padded : p .arch ≢ 6
+  pub modest : Modest (p .events)
   pub bound : Bound (p .labels) (p .events)
   pub known : (i : ℕ) (v : RelaxableJump) → i < length (p .events) → eventOf p i ≡ Jump v → Encodes (v .cc)
   pub native : (i : ℕ) (k : LabelUse) → i < length (p .refs) → decoded (refOf p i .code) ≡ Use k → info k .x86 ≡ true
@@ -215,7 +218,7 @@ module _ (p : Pooled) (c : Choice) (fitting : Fitting p c) where
 
   align-nops : (a : Alignment) (recorded : List ℕ) (long : Bool) (n : ℕ) → AreNops (form (p .arch) (Align a) recorded long n)
   unfolding form
-  align-nops a recorded long n = rw (ne-eqb (p .arch) 6 (fitting .padded)) (nops-read (paddingLength n (a .align)))
+  align-nops a recorded long n = rw (ne-eqb (p .arch) 6 (fitting .padded)) (nops-read (paddingWithin n (a .align) (a .most)))
 
   -- an alignment is no jump, and other jumps miss it
   no-jump-covers : (i : ℕ) (a : Alignment) → i < length (p .events) → eventOf p i ≡ Align a
@@ -239,6 +242,13 @@ module _ (p : Pooled) (c : Choice) (fitting : Fitting p c) where
       ∙ ap (λ (e : LayoutEvent). form (p .arch) e (standing i h .recorded) (getD c i false) s) is))
       (align-nops a (standing i h .recorded) (getD c i false) s)
 
+  alignments-spend : (i : ℕ) (a : Alignment) → i < length (p .events) → eventOf p i ≡ Align a → Spends (a .align) (a .most) (newStart p c i) (newEnd p c i)
+  alignments-spend i a h is =
+      let long = getD c i false in
+      let s = newStart p c i in
+      subst (λ (e : LayoutEvent). Spends (a .align) (a .most) s (s + width e long s)) (sym is)
+      (alignment-spends a long s (subst Small is (modest-at (p .events) i (fitting .modest) h) .0))
+
   -- Every field, jump and padding of the code of a fresh assembly.
   pub assembled-means : Relaxed p c (assembled p c)
   assembled-means =
@@ -247,4 +257,5 @@ module _ (p : Pooled) (c : Choice) (fitting : Fitting p c) where
         jumps = jump-reads;
         within = λ i h. omega (arith, length-assembled p c, end-within p c i h);
         padding = padding-nops;
+        spends = alignments-spend;
       }

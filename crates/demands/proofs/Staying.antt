@@ -30,6 +30,8 @@ use Rattle.fields.specs.Reach.{canReach}
 use Rattle.fields.specs.Patch.{heldAddend, patchedUse}
 use Rattle.fields.specs.Meaning.{meaning, demanded, Clear}
 use Rattle.fields.proofs.Fields.{Field, field-means, use-adds-held}
+use Rattle.relax.specs.declared.Alignment.{Alignment}
+use Rattle.relax.specs.declared.LayoutEvent.the-variants.{Align}
 use Rattle.buffer.specs.State.{none}
 use Rattle.buffer.specs.Calls.{padding}
 use Rattle.buffer.proofs.Appends.{padding-length}
@@ -37,7 +39,7 @@ use Rattle.recording.specs.View as tables
 use Rattle.fresh.specs.Pooled.{Pooled, pooledOne, askedConstant, pooledTo, pooled}
 use Rattle.fresh.specs.Fill.{part, fillUses, inPlace}
 use Rattle.fresh.proofs.Fill.{length-fillUses}
-use Rattle.demands.specs.Demand2.{Bytes, useOf, UseMisses, ConstantMisses, Means, heldBy, InPlace, IsPadding, padStart, padLength, Padded, PoolPadded}
+use Rattle.demands.specs.Demand2.{Bytes, useOf, eventOf, SpendsAsRecorded, UseMisses, ConstantMisses, Means, heldBy, InPlace, IsPadding, padStart, padLength, Padded, PoolPadded}
 use Rattle.demands.proofs.Kept.{length-part, uses-kept, pool-kept, use-filled}
 use Rattle.demands.proofs.Placing.{part-between}
 use Rattle.demands.proofs.Bytes.{bytes-part, bytes-filled, pooled-arch}
@@ -53,6 +55,7 @@ pub record Reaching (p : Pooled) : Type 0 where
   pub within : (i : ℕ) (k : LabelUse) → i < length (p .uses) → decoded (useOf p i .code) ≡ Use k → useOf p i .offset + patchSize k ≤ length (p .code)
   pub reach : (i : ℕ) (k : LabelUse) → i < length (p .uses) → decoded (useOf p i .code) ≡ Use k
       → canReach k (useOf p i .offset) (getD (p .labels) (useOf p i .label) none) ≡ true
+  pub spends : (i : ℕ) (a : Alignment) → i < length (p .events) → eventOf p i ≡ Align a → SpendsAsRecorded a
 
 -- a field of code 0 that held 0 adds nothing, nor does one of another code
 nothing-held : (k : LabelUse) (held : List ℕ) → (codeOf k ≡ 0 → wordAt held 0 ≡ 0) → heldAddend k held ≡ 0
@@ -132,7 +135,7 @@ module _ (p : Pooled) (reaching : Reaching p) where
 
   -- Every field of the code of a recording without a jump.
   pub in-place-means : InPlace p (inPlace p)
-  in-place-means = record { uses = use-means; adds = use-adds; copied = all-stay p }
+  in-place-means = record { uses = use-means; adds = use-adds; spends = reaching .spends; copied = all-stay p }
 
 -- the padding before constant j stands in the pooled code
 record PadStands (arch : ℕ) (v : tables.View) (j n : ℕ) : Type 0 where

@@ -17,7 +17,7 @@ use Rattle.seqs.proofs.Booleans.{both-true}
 use Rattle.words.specs.Words.{wordAt, bytesOfAll}
 use Rattle.encoder.specs.Intel.{AreNops}
 use Rattle.encoder.specs.Nops as nop
-use Rattle.encoder.specs.Padding.{paddingLength}
+use Rattle.encoder.specs.Padding.{paddingLength, paddingWithin, Spends}
 use Rattle.fields.specs.Words64.{plus, signExtend, range}
 use Rattle.fields.specs.Bits.{insertBits}
 use Rattle.fields.specs.Kinds.{archX86, archX64, archA64, decoded}
@@ -31,6 +31,7 @@ use Rattle.relax.specs.declared.Segment.{Segment}
 use Rattle.relax.specs.Events.{conditionOf, eventOf, eventAt}
 use Rattle.buffer.specs.State.{none}
 use Rattle.buffer.specs.Refusals.{standing, isAlignment, lastEnd}
+use Rattle.buffer.specs.Tables.{defaultMost}
 use Rattle.checks.specs.Entries.{formFits, eventFits, keptOnly, eventsFit, outside, labelFits, labelsFit, useFits, usesFit, refFits, refsFit, relocsFit, constantFits, constantsFit, askedFits, askedOnce, isAsked, orderFits, entriesFit}
 use Rattle.checks.specs.Lent.{countsFit, withinLimits}
 use Rattle.fresh.specs.Pooled.{pooledOne, codeAlignment}
@@ -55,14 +56,15 @@ bytes-of [] e i = omega arith
 bytes-of (b ∷ l) e zero = ltb-true b 256 (both-true (ltb b 256) (every (λ (x : ℕ). ltb x 256) l) e .0)
 bytes-of (b ∷ l) e (suc i) = bytes-of l (both-true (ltb b 256) (every (λ (x : ℕ). ltb x 256) l) e .1) i
 
--- On X64: a ref, a conditional jump, an alignment, and constants of 8 and 9 bytes that are asked for in reverse order. Label 0 is bound at 16.
+-- On X64: a ref, a conditional jump, an alignment to 16 that may spend 10 bytes and one to 32 that may spend 5, and constants of 8 and 9 bytes that are
+-- asked for in reverse order. Label 0 is bound at 16.
 abbrev x64 : Lent
 x64 =
     record {
-      counts = bytesOfAll (archX64 ∷ 0 ∷ 0 ∷ 0 ∷ 16 ∷ 3 ∷ 2 ∷ 0 ∷ 1 ∷ 2 ∷ 2 ∷ 0 ∷ 0 ∷ []);
+      counts = bytesOfAll (archX64 ∷ 0 ∷ 0 ∷ 0 ∷ 16 ∷ 3 ∷ 3 ∷ 0 ∷ 1 ∷ 2 ∷ 2 ∷ 0 ∷ 0 ∷ []);
       code = replicate 16 0;
       labels = bytesOfAll (16 ∷ none ∷ none ∷ []);
-      events = bytesOfAll (1 ∷ 4 ∷ 6 ∷ 0 ∷ 4 ∷ 2 ∷ 10 ∷ 6 ∷ 16 ∷ 0 ∷ []);
+      events = bytesOfAll (1 ∷ 4 ∷ 6 ∷ 0 ∷ 4 ∷ 2 ∷ 10 ∷ 6 ∷ 16 ∷ 10 ∷ 2 ∷ 16 ∷ 0 ∷ 32 ∷ 5 ∷ []);
       uses = [];
       refs = bytesOfAll (0 ∷ 0 ∷ 0 ∷ 4 ∷ []);
       constants =
@@ -73,7 +75,7 @@ x64 =
     }
 
 abbrev table : List Segment
-table = replicate 4 (record { «old_start» = 0; «old_end» = 0; «new_start» = 0; «new_end» = 0 })
+table = replicate 5 (record { «old_start» = 0; «old_end» = 0; «new_start» = 0; «new_end» = 0 })
 
 abbrev x64-answer : Answer
 x64-answer = finish x64 table (replicate 40 0) (replicate 24 0)
@@ -93,6 +95,9 @@ record X64Meets : Type 0 where
   -- the alignment from 6 to 16, where 6 bytes were recorded, and the padding of the second constant of the pool, from 25 to 32
   align : AreNops (0x66 ∷ 0x0F ∷ 0x1F ∷ 0x84 ∷ 0 ∷ 0 ∷ 0 ∷ 0 ∷ 0 ∷ 0x90 ∷ [])
   pool : AreNops (0x0F ∷ 0x1F ∷ 0x80 ∷ 0 ∷ 0 ∷ 0 ∷ 0 ∷ [])
+  -- the alignment to 16 spends just what it may; the one to 32, at 16, would need 16 and is skipped
+  spent : Spends 16 10 6 16
+  skipped : Spends 32 5 16 16
   -- a fresh assembly that is told the long jumps has these 40 bytes and labels; one round was made
   long : Choice
   rounds : Rounds (pooledIn x64) (allShort (pooledIn x64 .events)) long 1
@@ -103,10 +108,10 @@ record X64Meets : Type 0 where
 
 -- no second ref, and no constant before 16
 abbrev x64-choice : Choice
-x64-choice = false ∷ false ∷ false ∷ false ∷ []
+x64-choice = false ∷ false ∷ false ∷ false ∷ false ∷ []
 
 x64-clear : (j : ℕ) → ConstantMisses (moved (pooledIn x64) x64-choice) (pooledIn x64) 0 4 j
-unfolding every all count naming over pick wordAt nop.form nop.nopsBy nop.nops paddingLength decoded signExtend range canReachDelta patched conditionOf eventOf eventAt standing isAlignment
+unfolding every all count naming over pick wordAt nop.form nop.nopsBy nop.nops paddingLength paddingWithin decoded signExtend range canReachDelta patched conditionOf eventOf eventAt standing isAlignment
     lastEnd formFits eventFits keptOnly eventsFit outside labelFits labelsFit usesFit refFits refsFit relocsFit constantFits constantsFit askedFits askedOnce
     isAsked orderFits entriesFit countsFit withinLimits pooledOne form width roleOf moves items writes starts stands moved jumps reaches isFar farOf any join settle fillField
     fillRefs fillJump fillJumps fillPool fill assembled segments poolBoundBefore relocBound allBound refClear refReaches whyNotLaid whyNotWritten whyUnfit relocated relaxed
@@ -116,7 +121,7 @@ x64-clear (suc zero) known x from to low high = omega arith
 x64-clear (suc (suc j)) known x from to low high = let few : suc (suc j) < 2 = known in omega arith
 
 x64-meets : X64Meets
-unfolding every all count naming over pick wordAt nop.form nop.nopsBy nop.nops paddingLength decoded signExtend range canReachDelta patched conditionOf eventOf eventAt standing isAlignment
+unfolding every all count naming over pick wordAt nop.form nop.nopsBy nop.nops paddingLength paddingWithin decoded signExtend range canReachDelta patched conditionOf eventOf eventAt standing isAlignment
     lastEnd formFits eventFits keptOnly eventsFit outside labelFits labelsFit usesFit refFits refsFit relocsFit constantFits constantsFit askedFits askedOnce
     isAsked orderFits entriesFit countsFit withinLimits pooledOne form width roleOf moves items writes starts stands moved jumps reaches isFar farOf any join settle fillField
     fillRefs fillJump fillJumps fillPool fill assembled segments poolBoundBefore relocBound allBound refClear refReaches whyNotLaid whyNotWritten whyUnfit relocated relaxed
@@ -129,8 +134,10 @@ x64-meets =
       taken = refl;
       ref = λ base. two .refs 0 X86JmpRel32 (omega arith) refl (λ j later known. absurd (omega arith)) x64-clear base (omega arith);
       jump = λ base. two .jumps 0 (record { start = 4; len = 6; label = 0; cc = On 4 }) (omega arith) refl base;
-      align = two .padding 1 (record { start = 10; len = 6; align = 16 }) (omega arith) refl;
-      pool = two .padding 3 (record { start = 25; len = 7; align = 8 }) (omega arith) refl;
+      align = two .padding 1 (record { start = 10; len = 6; align = 16; most = 10 }) (omega arith) refl;
+      pool = two .padding 4 (record { start = 25; len = 7; align = 8; most = defaultMost }) (omega arith) refl;
+      spent = two .spends 1 (record { start = 10; len = 6; align = 16; most = 10 }) (omega arith) refl;
+      skipped = two .spends 2 (record { start = 16; len = 0; align = 32; most = 5 }) (omega arith) refl;
       long = three .choice;
       rounds = three .rounds;
       size = three .finished;
@@ -204,7 +211,7 @@ behind-all a n before zero known x from to low high = omega arith
 behind-all a n before (suc j) known x from to low high = let few : suc j < 1 = known in omega arith
 
 a64-meets : A64Meets
-unfolding every all count naming over pick wordAt paddingLength decoded signExtend range insertBits canReach canReachDelta pagesReach reachRefusal patched heldAddend conditionOf eventOf
+unfolding every all count naming over pick wordAt paddingLength paddingWithin decoded signExtend range insertBits canReach canReachDelta pagesReach reachRefusal patched heldAddend conditionOf eventOf
     eventAt standing lastEnd keptOnly eventsFit outside labelFits labelsFit useFits usesFit refsFit relocsFit constantFits constantsFit askedFits askedOnce isAsked orderFits
     entriesFit countsFit withinLimits pooledOne roleOf moves fillUse fillUses fillPool inPlace poolBoundBefore relocBound allBound useRefusal usesRefusal whyNotInPlace whyUnfit
     unrelaxed placedBy finishing.finish finish
@@ -262,7 +269,7 @@ record WideMeets : Type 0 where
   less : (m : ℕ) → 32 ≤ m → wordOf (finish unasked [] (replicate 1 0) (replicate 24 0)) 2 ≤ m
 
 wide-meets : WideMeets
-unfolding every all count naming over pick wordAt nop.form nop.nopsBy nop.nops paddingLength standing lastEnd keptOnly eventsFit outside labelFits labelsFit usesFit refsFit relocsFit
+unfolding every all count naming over pick wordAt nop.form nop.nopsBy nop.nops paddingLength paddingWithin standing lastEnd keptOnly eventsFit outside labelFits labelsFit usesFit refsFit relocsFit
     constantFits constantsFit askedFits askedOnce isAsked orderFits entriesFit countsFit withinLimits pooledOne codeAlignment moves fillUses fillPool inPlace poolBoundBefore
     relocBound allBound usesRefusal whyNotInPlace whyUnfit unrelaxed placedBy finishing.finish finish
 wide-meets =

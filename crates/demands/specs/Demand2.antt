@@ -7,7 +7,7 @@ use mathlib.Core.List.{List, []}
 use Prim.Native.Nat.{ℕ, _+_, _-_, _%_, _≤_, _<_}
 use lib.ListN.{length, getD, take, replicate}
 use Rattle.words.specs.Words.{wordAt}
-use Rattle.encoder.specs.Padding.{paddingLength}
+use Rattle.encoder.specs.Padding.{paddingLength, paddingWithin, Spends}
 use Rattle.encoder.specs.Intel.{AreNops}
 use Rattle.fields.specs.declared.LabelUse.{LabelUse}
 use Rattle.fields.specs.declared.Decoded.the-variants.{Use}
@@ -90,8 +90,14 @@ pub record Relaxed (p : Pooled) (c : Choice) (code : List ℕ) : Type 0 where
   -- all padding, an alignment's or a pooled constant's, is NOPs; nothing covers it
   pub padding : (i : ℕ) (a : Alignment) → i < length (p .events) → eventOf p i ≡ Align a
       → AreNops (part code (newStart p c i) (newEnd p c i - newStart p c i))
+  -- an alignment ends on its multiple, or is empty where that would have taken more than it may spend (document 02, Request Seven)
+  pub spends : (i : ℕ) (a : Alignment) → i < length (p .events) → eventOf p i ≡ Align a → Spends (a .align) (a .most) (newStart p c i) (newEnd p c i)
   -- and all of it lies within the code
   pub within : (i : ℕ) → i < length (p .events) → newEnd p c i ≤ length code
+
+-- from its recorded start to its recorded end
+abbrev pub SpendsAsRecorded : Alignment → Type 0
+SpendsAsRecorded a = Spends (a .align) (a .most) (a .start) (a .start + a .len)
 
 -- what stands in the field of use i, of kind k, when its turn comes
 abbrev pub heldBy : Pooled → ℕ → LabelUse → List ℕ
@@ -111,6 +117,8 @@ pub record InPlace (p : Pooled) (code : List ℕ) : Type 0 where
       → ((j : ℕ) → ConstantMisses (λ (offset : ℕ). offset) p (useOf p i .offset) (patchSize k) j)
       → (base : ℕ) → meaning k (plus base (useOf p i .offset)) (wordAt (part code (useOf p i .offset) (patchSize k)) 0) % 4294967296
       ≡ demanded k (plus base (plus (getD (p .labels) (useOf p i .label) none) (signExtend 32 (wordAt (heldBy p i k) 0)))) % 4294967296
+  -- an alignment that is kept ends on its multiple, or is empty where that would have taken more than it may spend; nothing has moved
+  pub spends : (i : ℕ) (a : Alignment) → i < length (p .events) → eventOf p i ≡ Align a → SpendsAsRecorded a
   -- what no use and no constant covers, recorded padding too, stays as it was recorded and padded
   pub copied : (a n : ℕ) → ((j : ℕ) → UseMisses p a n j) → ((j : ℕ) → ConstantMisses (λ (offset : ℕ). offset) p a n j) → part code a n ≡ part (p .code) a n
 
@@ -138,8 +146,8 @@ abbrev pub PoolPadded : ℕ → tables.View → List ℕ → Type 0
 PoolPadded arch v code = (j : ℕ) → j < length (v .asked) → Padded (pooled arch v) arch (padStart arch v j) (padLength arch v j) code
 
 -- the padding of an alignment that was recorded when the recording was r; p is the pooled recording in the end
-abbrev pub AlignPadded : Recording → ℕ → Pooled → List ℕ → Type 0
-AlignPadded r multiple p code = Padded p (r .buffer .arch) (r .buffer .code) (paddingLength (r .buffer .code) multiple) code
+abbrev pub AlignPadded : Recording → ℕ → ℕ → Pooled → List ℕ → Type 0
+AlignPadded r multiple most p code = Padded p (r .buffer .arch) (r .buffer .code) (paddingWithin (r .buffer .code) multiple most) code
 
 -- the finished bytes: as many of the output as the answer says
 abbrev pub finishedCode : Recording → List Segment → List ℕ → List ℕ

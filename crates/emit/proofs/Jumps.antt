@@ -13,7 +13,7 @@ use Rattle.relax.specs.declared.RelaxableJump.{RelaxableJump}
 use Rattle.relax.specs.declared.LayoutEvent.{LayoutEvent}
 use Rattle.relax.specs.declared.LayoutEvent.the-variants.{Jump, Align}
 use Rattle.fresh.specs.Forms.{shortForm, longForm, form, width}
-use Rattle.encoder.specs.Padding.{paddingLength}
+use Rattle.encoder.specs.Padding.{paddingWithin}
 use Rattle.buffer.specs.Calls.{padding}
 use Rattle.fresh.proofs.Forms.{length-form}
 use Rattle.emit.specs.steps.Emit.{jumpForm, Encodes, Writes}
@@ -64,4 +64,4 @@ jump-width event j long at n e h = h ∙ (sym (length-form 0 event [] long at) �
 pub align-form : (event : LayoutEvent) (a : Alignment) (long : Bool) (at arch : ℕ) (bytes part : List ℕ) → event ≡ Align a
     → length part ≡ width event long at → padding arch (length part) ≡ form arch event bytes long at
 unfolding form width
-align-form event a long at arch bytes part e h = let l : length part ≡ paddingLength at (a .align) = rw e at h in rw (l, e)
+align-form event a long at arch bytes part e h = let l : length part ≡ paddingWithin at (a .align) (a .most) = rw e at h in rw (l, e)

@@ -53,7 +53,7 @@ recorded-ordered events n labels len arch s =
     rw (getD-entries (eventAt events) n i noEvent li, getD-entries (eventAt events) n j noEvent lt, end-at events i, start-at events j)
     (s .entry j lt .follows i h))
 
-alignment-range : (n : ℕ) → isAlignment n ≡ true → (0 < n) × (n ≤ 4096)
+pub alignment-range : (n : ℕ) → isAlignment n ≡ true → (0 < n) × (n ≤ 4096)
 unfolding isAlignment
 alignment-range n h =
     let f = both-true (not (eqb n 0)) (eqb (4096 % n) 0) h in

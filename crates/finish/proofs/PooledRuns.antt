@@ -16,6 +16,7 @@ use Rattle.fresh.specs.Fresh.{Choice, isLong, others}
 use Rattle.fresh.specs.Segments.{segment}
 use Rattle.fresh.specs.Order.{Ordered}
 use Rattle.fresh.specs.steps.Runs.{formAt, runs, after}
+use Rattle.fresh.proofs.Constants.{constant-spends}
 use Rattle.fresh.proofs.Choices.{isLong-getD, others-getD}
 use Rattle.fresh.proofs.Events.{ordered-le}
 use Rattle.fresh.proofs.Loops.{length-runs}
@@ -92,6 +93,7 @@ module _ (code : List ℕ) (es : List LayoutEvent) (constants asked : List ℕ) 
       let ends : length (code ++ pool) ≡ poolStart len constants asked n
       = length-append code pool ∙ rw (← long) (length-poolBytes 2 len constants asked n) in
       let at : there .new + (startOf e - there .old) ≡ poolStart to constants asked n = r .here in
+      let spent = constant-spends (poolStart to constants asked n) (sizeAt constants asked n) in
       let all-events = sym (append-assoc es (entries (poolEvent len constants asked) n) (e ∷ [])) in
       let padded : endOf e ≡ length ((code ++ pool) ++ pad)
       = omega (arith, ends, length-append (code ++ pool) pad, padding-length 2 (poolPadding len constants asked n)) in
@@ -104,11 +106,11 @@ module _ (code : List ℕ) (es : List LayoutEvent) (constants asked : List ℕ) 
             ap (λ (l : List ℕ). runs 2 0 0 l (es ++ (entries (poolEvent len constants asked) n ++ (e ∷ []))) c) (sym (append-assoc code pool (pad ++ zeros)))
             ∙ ap (λ (l : List LayoutEvent). runs 2 0 0 ((code ++ pool) ++ (pad ++ zeros)) l c) all-events
             ∙ runs-snoc before 0 0 (code ++ pool) (pad ++ zeros) c e (rw ends (r .ordered)) (sym ends)
-            ∙ rw (r .whole, at, rest)
+            ∙ rw (r .whole, at, rest, spent)
             (append-assoc (runs 2 0 0 code es c) (poolBytes 2 to constants asked n) (padding 2 (poolPadding to constants asked n) ++ zeros));
         here =
             ap (λ (l : List LayoutEvent). (after (length l) 0 0 l c) .new + (poolStart len constants asked (suc n) - (after (length l) 0 0 l c) .old)) all-events
-            ∙ rw (after-snoc before 0 0 c e, at)
+            ∙ rw (after-snoc before 0 0 c e, at, spent)
             (omega (
               arith,
               poolStart-suc len constants asked n,

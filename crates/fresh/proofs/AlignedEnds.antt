@@ -22,11 +22,12 @@ use Rattle.fresh.specs.Order.{Ordered, Lies, WellFormed}
 use Rattle.fresh.proofs.Forms.{padding-ends}
 use Rattle.fresh.proofs.Segments.{chosen-no, chosen-in, chosen-past, decided-none, moved-map}
 
--- an event that is an alignment on a multiple of m
+-- an event that is an alignment on a multiple of m, and may spend whatever an offset needs
 pub record AlignsOn (m : ℕ) (e : LayoutEvent) : Type 0 where
   pub alignment : Alignment
   pub is : e ≡ Align alignment
   pub some : 0 < alignment .align
+  pub enough : alignment .align ≤ suc (alignment .most)
   pub multiple : alignment .align % m ≡ 0
 
 -- a multiple of a multiple of m is one of m
@@ -35,7 +36,7 @@ multiple-of x k m e h = sym (mod-mod-of-dvd m x (dvd-of-mod-eq-zero m h)) ∙ ap
 
 aligns-on : {m : ℕ} {e : LayoutEvent} → AlignsOn m e → (long : Bool) (n : ℕ) → (n + width e long n) % m ≡ 0
 aligns-on {m} {e} on long n =
-    rw (on .is) (multiple-of (n + width (Align (on .alignment)) long n) (on .alignment .align) m (padding-ends (on .alignment) long n (on .some)) (on .multiple))
+    rw (on .is) (multiple-of (n + width (Align (on .alignment)) long n) (on .alignment .align) m (padding-ends (on .alignment) long n (on .some) (on .enough)) (on .multiple))
 
 -- every event that starts at t or before it
 abbrev AllOn : ℕ → ℕ → List LayoutEvent → Type 0

@@ -15,7 +15,7 @@ use Rattle.relax.specs.Events.{shortLen}
 use Rattle.fresh.specs.Forms.{width, Branch, pads, branches, roleOf, branchOf}
 use Rattle.fresh.specs.Fresh.{Choice, isLong, others}
 use Rattle.fresh.specs.Rounds.{reaches, isFar, firstStart, otherStarts, farOf, any, join}
-use Rattle.fresh.specs.Demand.{Reach}
+use Rattle.fresh.specs.Demand.{Reach, Includes}
 use Rattle.fresh.proofs.Tests.{no-confusion, by-role}
 
 -- the first entry of a list, and those after it
@@ -26,6 +26,15 @@ isLong-getD (b ∷ c) = refl
 pub others-getD : (c : Choice) (i : ℕ) → getD (others c) i false ≡ getD c (suc i) false
 others-getD [] i = refl
 others-getD (b ∷ c) i = refl
+
+-- a choice that includes another does so event by event
+pub isLong-in : (c d : Choice) → Includes c d → isLong c ≡ true → isLong d ≡ true
+unfolding Includes
+isLong-in c d h e = isLong-getD d ∙ h 0 (sym (isLong-getD c) ∙ e)
+
+pub others-in : (c d : Choice) → Includes c d → Includes (others c) (others d)
+unfolding Includes
+others-in c d h i e = others-getD d i ∙ h (suc i) (sym (others-getD c i) ∙ e)
 
 pub firstStart-getD : (starts : List ℕ) → firstStart starts ≡ getD starts 0 0
 firstStart-getD [] = refl

@@ -7,8 +7,9 @@ use Prim.Native.Nat.{ℕ, zero, suc, _%_, _≤_, _<_, max}
 use native.Mathlib.Omega.{arith}
 use lib.Dec.{leb}
 use lib.ListN.{length, getD}
-use Rattle.encoder.specs.Padding.{paddingLength}
-use Rattle.encoder.proofs.Padding.{padding-below}
+use Rattle.encoder.specs.Padding.{paddingLength, paddingWithin}
+use Rattle.encoder.proofs.Padding.{padding-below, within-needed}
+use Rattle.buffer.specs.Tables.{defaultMost}
 use Rattle.fresh.specs.Pooled.{constantAlignment, Placed, codeAlignment}
 
 -- what holds of 8, 16 and 64 holds of every constant's alignment
@@ -27,6 +28,10 @@ alignment-range = alignment-cases (λ (a : ℕ). (8 ≤ a) × (a ≤ 64)) (omega
 pub constant-padding : (offset n : ℕ) → paddingLength offset (constantAlignment n) ≤ 63
 constant-padding offset n =
     let range = alignment-range n in omega (arith, range, padding-below offset (constantAlignment n) (omega (arith, range)))
+
+-- So the default lets a constant's alignment spend all that it needs.
+pub constant-spends : (offset n : ℕ) → paddingWithin offset (constantAlignment n) defaultMost ≡ paddingLength offset (constantAlignment n)
+constant-spends offset n = within-needed offset (constantAlignment n) defaultMost (omega (arith, constant-padding offset n))
 
 -- Code with a pool is aligned on 32 or 64.
 pub code-alignment-known : (ks : List Placed) → (codeAlignment ks ≡ 32) ⊎ (codeAlignment ks ≡ 64)

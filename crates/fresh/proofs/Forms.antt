@@ -2,12 +2,12 @@
 use mathlib.Core.Path.{_≡_, refl}
 use mathlib.Core.Bool.{Bool, true, false}
 use mathlib.Core.List.{List}
-use Prim.Native.Nat.{ℕ, _+_, _%_, _≤_, _<_}
+use Prim.Native.Nat.{ℕ, suc, _+_, _%_, _≤_, _<_}
 use native.Mathlib.Omega.{arith}
 use lib.Dec.{lit≤}
 use lib.ListN.{length}
-use Rattle.encoder.specs.Padding.{paddingLength}
-use Rattle.encoder.proofs.Padding.{padding-aligns, padding-below}
+use Rattle.encoder.specs.Padding.{paddingWithin, Spends}
+use Rattle.encoder.proofs.Padding.{padding-aligns, padding-below, within-needed, within-below, padding-spends}
 use Rattle.fields.specs.Kinds.{info, patchSize}
 use Rattle.relax.specs.declared.Alignment.{Alignment}
 use Rattle.relax.specs.declared.Condition.{Condition}
@@ -37,14 +37,14 @@ pub length-form : (arch : ℕ) (e : LayoutEvent) (bytes : List ℕ) (long : Bool
 unfolding width form
 length-form arch (Jump j) bytes false n = length-shortForm (j .cc)
 length-form arch (Jump j) bytes true n = length-longForm (j .cc)
-length-form arch (Align a) bytes long n = padding-length arch (paddingLength n (a .align))
+length-form arch (Align a) bytes long n = padding-length arch (paddingWithin n (a .align) (a .most))
 
 -- An event of modest size takes at most 4,096 bytes.
 pub width-small : (e : LayoutEvent) (long : Bool) (n : ℕ) → Small e → width e long n ≤ 4096
 unfolding width
 width-small (Jump j) true n h = omega (arith, longLen-range (j .cc))
 width-small (Jump j) false n h = lit≤ tt
-width-small (Align a) long n h = omega (arith, h .0, h .1, padding-below n (a .align) (h .0))
+width-small (Align a) long n h = omega (arith, h .0, h .1, within-below n (a .align) (a .most) (h .0))
 
 -- A branch is no shorter when it is long, wherever it stands.
 pub branch-wider : (e : LayoutEvent) (b : Branch) → roleOf e ≡ branches b → (long longer : Bool) (n m : ℕ) → (long ≡ true → longer ≡ true)
@@ -77,7 +77,13 @@ unfolding roleOf
 home-reached (Jump j) b r = let is : branchOf j ≡ b = cc in rw (← is) (lit≤ tt)
 home-reached (Align a) b r = let z : _≡_ {A = ℕ} 0 1 = cc in absurd (omega arith)
 
--- Where an alignment's padding ends is a multiple.
-pub padding-ends : (a : Alignment) (long : Bool) (n : ℕ) → 0 < a .align → (n + width (Align a) long n) % a .align ≡ 0
+-- An alignment ends on its multiple, or is empty where that would have taken more than it may spend; it never spends more.
+pub alignment-spends : (a : Alignment) (long : Bool) (n : ℕ) → 0 < a .align → Spends (a .align) (a .most) n (n + width (Align a) long n)
 unfolding width
-padding-ends a long n h = padding-aligns n (a .align) h
+alignment-spends a long n h = padding-spends n (a .align) (a .most) h
+
+-- One that may spend whatever an offset needs ends on its multiple.
+pub padding-ends : (a : Alignment) (long : Bool) (n : ℕ) → 0 < a .align → a .align ≤ suc (a .most) → (n + width (Align a) long n) % a .align ≡ 0
+unfolding width
+padding-ends a long n h enough =
+    rw (within-needed n (a .align) (a .most) (omega (arith, padding-below n (a .align) h))) (padding-aligns n (a .align) h)

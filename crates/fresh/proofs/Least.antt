@@ -18,7 +18,7 @@ use Rattle.fresh.specs.Fresh.{Choice, isLong, others, Item, plain, event
 use Rattle.fresh.specs.Rounds.{allShort, far, join, Rounds, last, again}
 use Rattle.fresh.specs.Demand.{Reach, Fits, Includes, Branches, NoAlign}
 use Rattle.fresh.proofs.Tests.{split, no-confusion, by-role}
-use Rattle.fresh.proofs.Choices.{isLong-getD, others-getD, farOf-getD, farOf-out, pads-near, reach-near}
+use Rattle.fresh.proofs.Choices.{isLong-getD, others-getD, isLong-in, others-in, farOf-getD, farOf-out, pads-near, reach-near}
 use Rattle.fresh.proofs.Forms.{branch-wider, home-reached}
 
 -- the labels that jumps name are bound
@@ -35,14 +35,6 @@ eventCount : List Item → ℕ
 eventCount [] = 0
 eventCount (plain b ∷ is) = eventCount is
 eventCount (event e bytes ∷ is) = suc (eventCount is)
-
-isLong-in : (c d : Choice) → Includes c d → isLong c ≡ true → isLong d ≡ true
-unfolding Includes
-isLong-in c d h e = isLong-getD d ∙ h 0 (sym (isLong-getD c) ∙ e)
-
-others-in : (c d : Choice) → Includes c d → Includes (others c) (others d)
-unfolding Includes
-others-in c d h i e = others-getD d i ∙ h (suc i) (sym (others-getD c i) ∙ e)
 
 -- an event that names a label is no shorter where the choice is larger
 wider : (e : LayoutEvent) → Branches (roleOf e) → (c d : Choice) (n m : ℕ) → Includes c d → width e (isLong c) n ≤ width e (isLong d) m

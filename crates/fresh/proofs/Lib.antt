@@ -11,6 +11,7 @@ pub mod Rounds
 pub mod Segments
 pub mod AlignedEnds
 pub mod Walk
+pub mod Rising
 pub mod Least
 pub mod Within
 pub mod Apart

@@ -4,7 +4,7 @@
 use mathlib.Core.Bool.{Bool, true, false, _||_}
 use mathlib.Core.List.{List, [], _∷_}
 use Prim.Native.Nat.{ℕ, _+_, _-_}
-use Rattle.encoder.specs.Padding.{paddingLength}
+use Rattle.encoder.specs.Padding.{paddingWithin}
 use Rattle.fields.specs.declared.LabelUse.{LabelUse}
 use Rattle.fields.specs.declared.LabelUse.the-variants.{X86JmpRel32, X86BranchRel8}
 use Rattle.relax.specs.declared.Condition.{Condition}
@@ -29,13 +29,13 @@ longForm (On c) = 0x0F ∷ (0x80 + c) ∷ 0 ∷ 0 ∷ 0 ∷ 0 ∷ []
 unfoldable pub width : LayoutEvent → Bool → ℕ → ℕ
 width (Jump j) false n = shortLen
 width (Jump j) true n = longLen (j .cc)
-width (Align a) long n = paddingLength n (a .align)
+width (Align a) long n = paddingWithin n (a .align) (a .most)
 
 -- what is written for an event there, on an architecture; `bytes` are the event's recorded ones, which none of these forms keeps
 unfoldable pub form : ℕ → LayoutEvent → List ℕ → Bool → ℕ → List ℕ
 form arch (Jump j) bytes false n = shortForm (j .cc)
 form arch (Jump j) bytes true n = longForm (j .cc)
-form arch (Align a) bytes long n = padding arch (paddingLength n (a .align))
+form arch (Align a) bytes long n = padding arch (paddingWithin n (a .align) (a .most))
 
 -- a field of a kind, so many bytes after an event's start
 pub record Field : Type 0 where

@@ -9,6 +9,7 @@ use Rattle.encoder.specs.Padding.{paddingLength}
 use Rattle.relax.specs.declared.LayoutEvent.{LayoutEvent}
 use Rattle.relax.specs.declared.LayoutEvent.the-variants.{Align}
 use Rattle.buffer.specs.State.{none, keepsEvents}
+use Rattle.buffer.specs.Tables.{defaultMost}
 use Rattle.buffer.specs.Calls.{padding}
 use Rattle.recording.specs.View.{Use, Ref, Constant, View}
 
@@ -40,7 +41,7 @@ pooledOne p k =
     record {
       arch = p .arch;
       code = p .code ++ (padding (p .arch) len ++ replicate (length (k .bytes)) 0);
-      events = p .events ++ cond (keepsEvents (p .arch)) (Align (record { start = start; len = len; align = multiple }) ∷ []) [];
+      events = p .events ++ cond (keepsEvents (p .arch)) (Align (record { start = start; len = len; align = multiple; most = defaultMost }) ∷ []) [];
       labels = set (p .labels) (k .label) (start + len);
       uses = p .uses;
       refs = p .refs;

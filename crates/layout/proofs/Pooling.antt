@@ -12,6 +12,7 @@ use Rattle.relax.specs.declared.LayoutEvent.{LayoutEvent}
 use Rattle.relax.specs.declared.LayoutEvent.the-variants.{Align}
 use Rattle.relax.specs.declared.Segment.{Segment}
 use Rattle.relax.specs.Events.{eventAt, endOf, startOf, noEvent}
+use Rattle.buffer.specs.Tables.{defaultMost}
 use Rattle.recording.specs.View.{entries}
 use Rattle.fresh.specs.Pooled.{constantAlignment}
 use Rattle.fresh.specs.Forms.{width}
@@ -19,7 +20,7 @@ use Rattle.fresh.specs.Fresh.{Choice}
 use Rattle.fresh.specs.Segments.{segment, segments}
 use Rattle.fresh.specs.Order.{Ordered}
 use Rattle.fresh.specs.steps.Runs.{Small, Modest, Cursor, after}
-use Rattle.fresh.proofs.Constants.{alignment-range, constant-padding}
+use Rattle.fresh.proofs.Constants.{alignment-range, constant-padding, constant-spends}
 use Rattle.fresh.proofs.Loops.{length-segments, segments-snoc}
 use Rattle.pool.specs.steps.Pool.{sizeAt, poolStart, poolPadding, poolEvent, PoolFits, mostPooled}
 use Rattle.layout.specs.steps.Layout.{endFrom, finishedLength, allEvents, Recorded}
@@ -30,12 +31,12 @@ use Rattle.layout.proofs.Turns.{after-snoc}
 pub pool-padding : (offset n multiple r : ℕ) → multiple ≡ constantAlignment n → r ≡ paddingLength offset multiple → r ≤ 63
 pool-padding offset n multiple r h e = rw (e, h) (constant-padding offset n)
 
--- the segment of an alignment that starts at the recorded offset t, whose new offset is u
-align-segment : (old new t u len multiple : ℕ) (long : Bool) → u ≡ new + (t - old)
-    → segment old new (Align (record { start = t; len = len; align = multiple })) long
-    ≡ record { «old_start» = t; «old_end» = t + len; «new_start» = u; «new_end» = u + paddingLength u multiple }
+-- the segment of a constant's alignment that starts at the recorded offset t, whose new offset is u
+align-segment : (old new t u len size : ℕ) (long : Bool) → u ≡ new + (t - old)
+    → segment old new (Align (record { start = t; len = len; align = constantAlignment size; most = defaultMost })) long
+    ≡ record { «old_start» = t; «old_end» = t + len; «new_start» = u; «new_end» = u + paddingLength u (constantAlignment size) }
 unfolding width
-align-segment old new t u len multiple long h = rw h refl
+align-segment old new t u len size long h = rw (← h, constant-spends u size) refl
 
 -- The segments of the first j alignments stand over a table's from segment n on, and the loop stands at the recorded offset `old` and the new offset `new`.
 pub record PoolLaid (before ss : List Segment) (constants asked : List ℕ) (n from to j old new : ℕ) : Type 0 where
@@ -69,7 +70,7 @@ module _ {before ss : List Segment} {constants asked : List ℕ} {n from to j ol
   unfolding there
   the-segment =
       rw (p, q, s, laid .start)
-      (align-segment (there .old) (there .new) (poolStart from constants asked j) new (poolPadding from constants asked j) (constantAlignment (sizeAt constants asked j)) _
+      (align-segment (there .old) (there .new) (poolStart from constants asked j) new (poolPadding from constants asked j) (sizeAt constants asked j) _
       (laid .sum ∙ rw (laid .start) refl)
       ∙ refl)
 
@@ -171,10 +172,10 @@ module _ (events : List ℕ) (n code : ℕ) (constants asked : List ℕ) where
         let first = segments 0 0 (entries (eventAt events) n) c in
         let u = (one j) .new + (t - (one j) .old) in
         let len = poolPadding code constants asked j in
-        let multiple = constantAlignment (sizeAt constants asked j) in
-        let s : Segment = record { «old_start» = t; «old_end» = t + len; «new_start» = u; «new_end» = u + paddingLength u multiple } in
-        let s1 = align-segment ((one j) .old) ((one j) .new) t u len multiple (getD c (length (allEvents events n code constants asked j)) false) refl in
-        let s2 = align-segment ((two j) .old) ((two j) .new) t u len multiple (getD [] (length (entries (poolEvent code constants asked) j)) false) (q .same t (omega arith)) in
+        let size = sizeAt constants asked j in
+        let s : Segment = record { «old_start» = t; «old_end» = t + len; «new_start» = u; «new_end» = u + paddingLength u (constantAlignment size) } in
+        let s1 = align-segment ((one j) .old) ((one j) .new) t u len size (getD c (length (allEvents events n code constants asked j)) false) refl in
+        let s2 = align-segment ((two j) .old) ((two j) .new) t u len size (getD [] (length (entries (poolEvent code constants asked) j)) false) (q .same t (omega arith)) in
         let next-one : one (suc j) ≡ record { old = t + len; new = s .«new_end» }
         = rw (all-suc j) (after-snoc (allEvents events n code constants asked j) 0 0 c e ∙ ap (λ (x : Segment). record { old = t + len; new = x .«new_end» }) s1) in
         let next-two : two (suc j) ≡ record { old = t + len; new = s .«new_end» }

@@ -129,7 +129,9 @@ pub fn width_of(event: LayoutEvent, long: bool, at: u32) -> u32
                 relax::SHORT_LEN
             }
         }
-        LayoutEvent::Align(alignment) => encoder::padding_len(at, alignment.align),
+        LayoutEvent::Align(alignment) => {
+            encoder::padding_within(at, alignment.align, alignment.most)
+        }
     }
 }
 

@@ -29,7 +29,7 @@ abbrev pub binds : Call → Bool
 binds (bytes l) = false
 binds newLabel = false
 binds (bind l) = true
-binds (align m) = false
+binds (align m most) = false
 binds (use-label o l c) = false
 binds (ref o l c d) = false
 binds (jump p n l c) = false
@@ -70,7 +70,7 @@ module _ (r : Recording) (limit : ℕ) (bounded : limit ≤ none) where
       (λ z. one-label-more (label-accepted z .fits))
       (refused _)
   below-kept (bind l) h = absurd (true-is-not-false h)
-  below-kept (align m) h =
+  below-kept (align m most) h =
       either _ (λ (a : Recorded × (List ℕ × List ℕ)). Same (r .labels) (a .0 .buffer .labels)) _ _
       (either _ (λ (a : CodeBuffer × List ℕ). Same (r .labels) (a .0 .labels)) _ _ refl refl)
       (refused _)

@@ -10,7 +10,7 @@ use Rattle.seqs.proofs.Booleans.{both-false}
 use Rattle.words.proofs.Laws.{length-setWord}
 use Rattle.words.proofs.Entries.{length-setWords, three-words, four-words, five-words, six-words}
 use Rattle.seqs.specs.Over.{over}
-use Rattle.encoder.specs.Padding.{paddingLength}
+use Rattle.encoder.specs.Padding.{paddingWithin}
 use Rattle.fields.specs.Kinds.{archX64}
 use Rattle.relax.specs.Events.{setEvent, eventAt, eventWords, eventSize, jumpKind, alignmentKind}
 use Rattle.words.specs.Words.{setWord}
@@ -139,19 +139,19 @@ module _ (r : Recording) (f : Fitting r) where
       (record { namers = namers-of _ refl refl refl refl; labels = omega (arith, f .labels, length-setWord (r .labels) (l .value) (b .code)) })
       (record { namers = f .namers; labels = f .labels })
 
-  fits-align : (m : Word) → Fitting (after (align m) r)
+  fits-align : (m most : Word) → Fitting (after (align m most) r)
   unfolding alignTo alignedEvents setEvent
-  fits-align m =
+  fits-align m most =
       let k = b .events * eventWords in
-      let pad = paddingLength (b .code) (m .value) in
-      tested (whyAlign b (length (r .code)) (length (r .events) / eventSize) (m .value)) 0
+      let pad = paddingWithin (b .code) (m .value) (most .value) in
+      tested (whyAlign b (length (r .code)) (length (r .events) / eventSize) (m .value) (most .value)) 0
       (λ (a : Recorded × (List ℕ × List ℕ)). Fitting (withEventTable (withCodeTable r (a .0 .buffer) (a .1 .0)) (a .0 .buffer) (a .1 .1))) _ _
       (λ h.
       tested (b .arch) archX64
       (λ (a : CodeBuffer × List ℕ). Fitting (withEventTable (withCodeTable r (withCode (a .0) (b .code + pad)) (over (r .code) (b .code) (padding (b .arch) pad))) (withCode (a .0) (b .code + pad)) (a .1))) _ _
       (λ x64.
       let g = align-accepted h in
-      events-fit f (b .events + 1) _ _ _ _ (omega (arith, g .event x64, ap length (five-words (r .events) k alignmentKind (b .code) pad (m .value) 0), length-setWords (r .events) k (alignmentKind ∷ b .code ∷ pad ∷ m .value ∷ 0 ∷ [])))
+      events-fit f (b .events + 1) _ _ _ _ (omega (arith, g .event x64, ap length (five-words (r .events) k alignmentKind (b .code) pad (m .value) (most .value)), length-setWords (r .events) k (alignmentKind ∷ b .code ∷ pad ∷ m .value ∷ most .value ∷ [])))
       (omega (arith, g .event x64, g .fewEvents)))
       (record { namers = namers-of _ refl refl refl refl; labels = f .labels }))
       (record { namers = refused _ .namers; labels = refused _ .labels })
@@ -239,7 +239,7 @@ pub call-fits : (c : Call) (r : Recording) → Fitting r → Fitting (after c r)
 call-fits (bytes l) r f = fits-bytes r f l
 call-fits newLabel r f = fits-label r f
 call-fits (bind l) r f = fits-bind r f l
-call-fits (align m) r f = fits-align r f m
+call-fits (align m most) r f = fits-align r f m most
 call-fits (use-label o l c) r f = fits-use r f o l c
 call-fits (ref o l c d) r f = fits-ref r f o l c d
 call-fits (jump p n l c) r f = fits-jump r f p n l c

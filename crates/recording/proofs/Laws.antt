@@ -13,7 +13,7 @@ use Rattle.seqs.proofs.Overwrites.{take-over-end}
 use Rattle.seqs.proofs.Booleans.{both-false}
 use Rattle.seqs.proofs.Picking.{pick-no, yes-eq, no-eq}
 use Rattle.words.proofs.Entries.{three-words, four-words, five-words, six-words}
-use Rattle.encoder.specs.Padding.{paddingLength}
+use Rattle.encoder.specs.Padding.{paddingWithin}
 use Rattle.relax.specs.Events.{eventOf, setEvent, eventWords, eventSize}
 use Rattle.buffer.specs.declared.CodeBuffer.{CodeBuffer}
 use Rattle.buffer.specs.declared.Recorded.{Recorded}
@@ -64,7 +64,7 @@ turned-down-unseen newLabel r =
     either _ (λ (a : Made × List ℕ). a .0 .refusal ≢ 0 → view (withLabelTable r (a .0 .buffer) (a .1)) ≡ view r) _ _ (λ ne. absurd (ne refl)) (λ ne. refusing-unseen r _)
 turned-down-unseen (bind l) r =
     either _ (λ (a : Recorded × List ℕ). a .0 .refusal ≢ 0 → view (withLabelTable r (a .0 .buffer) (a .1)) ≡ view r) _ _ (λ ne. absurd (ne refl)) (λ ne. refl)
-turned-down-unseen (align m) r =
+turned-down-unseen (align m most) r =
     either _
     (λ (a : Recorded × (List ℕ × List ℕ)). a .0 .refusal ≢ 0 → view (withEventTable (withCodeTable r (a .0 .buffer) (a .1 .0)) (a .0 .buffer) (a .1 .1)) ≡ view r)
     _ _ (λ ne. absurd (ne refl)) (λ ne. refusing-unseen r _)
@@ -177,57 +177,56 @@ module _ (r : Recording) where
       (appended (r .relocs) _ (n * relocWords) (o .value ∷ k .value ∷ t .value ∷ 0 ∷ low ∷ high ∷ []) (six-words (r .relocs) (n * relocWords) (o .value) (k .value) (t .value) 0 low high)
       (omega arith) (o .small, (k .small, (t .small, (omega arith, (omega arith, (omega arith, tt))))))))
 
-  padded : (m : Word) → whyAlign (r .buffer) (length (r .code)) (length (r .events) / eventSize) (m .value) ≡ 0
-      → let pad = paddingLength (r .buffer .code) (m .value) in
+  padded : (m most : Word) → whyAlign (r .buffer) (length (r .code)) (length (r .events) / eventSize) (m .value) (most .value) ≡ 0
+      → let pad = paddingWithin (r .buffer .code) (m .value) (most .value) in
       take (r .buffer .code + pad) (over (r .code) (r .buffer .code) (padding (r .buffer .arch) pad)) ≡ take (r .buffer .code) (r .code) ++ padding (r .buffer .arch) pad
-  padded m h =
+  padded m most h =
       let b = r .buffer in
-      let pad = paddingLength (b .code) (m .value) in
+      let pad = paddingWithin (b .code) (m .value) (most .value) in
       let fits = align-accepted h .fits in
       let size = padding-length (b .arch) pad in
       ap (λ (n : ℕ). take (b .code + n) (over (r .code) (b .code) (padding (b .arch) pad))) (sym size)
       ∙ take-over-end (r .code) (b .code) (padding (b .arch) pad) (omega arith)
 
   -- an alignment pads, and on X64 it is an event
-  pub see-align : (m : Word) → whyAlign (r .buffer) (length (r .code)) (length (r .events) / eventSize) (m .value) ≡ 0 → r .buffer .arch ≡ 2
-      → view (after (align m) r)
-      ≡ seeEvents (seeCode (view r) (view r .code ++ padding 2 (paddingLength (r .buffer .code) (m .value))))
-      (view r .events ++ (eventOf 2 (r .buffer .code) (paddingLength (r .buffer .code) (m .value)) (m .value) 0 ∷ []))
+  pub see-align : (m most : Word) → whyAlign (r .buffer) (length (r .code)) (length (r .events) / eventSize) (m .value) (most .value) ≡ 0 → r .buffer .arch ≡ 2
+      → view (after (align m most) r)
+      ≡ seeEvents (seeCode (view r) (view r .code ++ padding 2 (paddingWithin (r .buffer .code) (m .value) (most .value))))
+      (view r .events ++ (eventOf 2 (r .buffer .code) (paddingWithin (r .buffer .code) (m .value) (most .value)) (m .value) (most .value) ∷ []))
   unfolding alignTo alignedEvents setEvent
-  see-align m h x64 =
+  see-align m most h x64 =
       let b = r .buffer in
       let k = b .events in
-      let pad = paddingLength (b .code) (m .value) in
+      let pad = paddingWithin (b .code) (m .value) (most .value) in
       let f = align-accepted h in
       let fits = f .fits in
       let few = f .few in
       let room = f .event x64 in
-      let small = m .small in
       ap (λ (a : Recorded × (List ℕ × List ℕ)). view (withEventTable (withCodeTable r (a .0 .buffer) (a .1 .0)) (a .0 .buffer) (a .1 .1))) (yes-eq _ 0 _ _ h)
       ∙ ap
       (λ (a : CodeBuffer × List ℕ).
       view (withEventTable (withCodeTable r (withCode (a .0) (b .code + pad)) (over (r .code) (b .code) (padding (b .arch) pad))) (withCode (a .0) (b .code + pad)) (a .1)))
       (yes-eq _ 2 _ _ x64)
       ∙ rw (
-        padded m h,
+        padded m most h,
         x64,
-        one-event-more (r .events) _ k 2 (b .code) pad (m .value) 0
-            (appended (r .events) _ (k * eventWords) (2 ∷ b .code ∷ pad ∷ m .value ∷ 0 ∷ []) (five-words (r .events) (k * eventWords) 2 (b .code) pad (m .value) 0) (omega arith)
-            (omega arith, (omega arith, (omega arith, (small, (omega arith, tt)))))),
+        one-event-more (r .events) _ k 2 (b .code) pad (m .value) (most .value)
+            (appended (r .events) _ (k * eventWords) (2 ∷ b .code ∷ pad ∷ m .value ∷ most .value ∷ []) (five-words (r .events) (k * eventWords) 2 (b .code) pad (m .value) (most .value)) (omega arith)
+            (omega arith, (omega arith, (omega arith, (m .small, (most .small, tt)))))),
       )
 
-  pub see-align-elsewhere : (m : Word) → whyAlign (r .buffer) (length (r .code)) (length (r .events) / eventSize) (m .value) ≡ 0 → r .buffer .arch ≢ 2
-      → view (after (align m) r) ≡ seeCode (view r) (view r .code ++ padding (r .buffer .arch) (paddingLength (r .buffer .code) (m .value)))
+  pub see-align-elsewhere : (m most : Word) → whyAlign (r .buffer) (length (r .code)) (length (r .events) / eventSize) (m .value) (most .value) ≡ 0 → r .buffer .arch ≢ 2
+      → view (after (align m most) r) ≡ seeCode (view r) (view r .code ++ padding (r .buffer .arch) (paddingWithin (r .buffer .code) (m .value) (most .value)))
   unfolding alignTo alignedEvents
-  see-align-elsewhere m h other =
+  see-align-elsewhere m most h other =
       let b = r .buffer in
-      let pad = paddingLength (b .code) (m .value) in
+      let pad = paddingWithin (b .code) (m .value) (most .value) in
       ap (λ (a : Recorded × (List ℕ × List ℕ)). view (withEventTable (withCodeTable r (a .0 .buffer) (a .1 .0)) (a .0 .buffer) (a .1 .1))) (yes-eq _ 0 _ _ h)
       ∙ ap
       (λ (a : CodeBuffer × List ℕ).
       view (withEventTable (withCodeTable r (withCode (a .0) (b .code + pad)) (over (r .code) (b .code) (padding (b .arch) pad))) (withCode (a .0) (b .code + pad)) (a .1)))
       (no-eq _ 2 _ _ other)
-      ∙ rw (padded m h)
+      ∙ rw (padded m most h)
 
   -- asking again changes nothing
   pub see-asking-again : (n : Word)

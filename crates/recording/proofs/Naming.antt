@@ -109,8 +109,8 @@ jump-names-at f events i =
 pub jump-names-new : (f : ℕ → Bool) (start len label cc : ℕ) → jumpNames f (eventOf jumpKind start len label cc) ≡ f label
 jump-names-new f start len label cc = jump-names-of f jumpKind start len label cc
 
-pub alignment-names-none : (f : ℕ → Bool) (start len multiple : ℕ) → jumpNames f (eventOf alignmentKind start len multiple 0) ≡ false
-alignment-names-none f start len multiple = jump-names-of f alignmentKind start len multiple 0
+pub alignment-names-none : (f : ℕ → Bool) (start len multiple most : ℕ) → jumpNames f (eventOf alignmentKind start len multiple most) ≡ false
+alignment-names-none f start len multiple most = jump-names-of f alignmentKind start len multiple most
 
 -- a target that names the label L is L + 2^31
 target-is : (w l : ℕ) → (leb labelTarget w && eqb (w - labelTarget) l) ≡ eqb w (labelTarget + l)

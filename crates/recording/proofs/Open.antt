@@ -13,7 +13,7 @@ use Rattle.seqs.proofs.Booleans.{both-false}
 use Rattle.seqs.proofs.Numbers.{eq-or-ne}
 use Rattle.seqs.proofs.Picking.{yes-eq, no-eq}
 use Rattle.words.specs.Words.{wordAt, setWord}
-use Rattle.encoder.specs.Padding.{paddingLength}
+use Rattle.encoder.specs.Padding.{paddingWithin}
 use Rattle.relax.specs.Events.{eventOf, eventSize, jumpKind, alignmentKind}
 use Rattle.buffer.specs.declared.CodeBuffer.{CodeBuffer}
 use Rattle.buffer.specs.declared.Recorded.{Recorded}
@@ -123,36 +123,36 @@ module _ (r : Recording) where
       (refused r _)
 
   -- an alignment names no label
-  align-unresolved : (m : Word) → after (align m) r .buffer .unresolved ≡ r .buffer .unresolved
+  align-unresolved : (m most : Word) → after (align m most) r .buffer .unresolved ≡ r .buffer .unresolved
   unfolding alignTo alignedEvents
-  align-unresolved m =
+  align-unresolved m most =
       either _ (λ (a : Recorded × (List ℕ × List ℕ)). a .0 .buffer .unresolved ≡ r .buffer .unresolved) _ _
       (either _ (λ (a : CodeBuffer × List ℕ). a .0 .unresolved ≡ r .buffer .unresolved) _ _ refl refl)
       (refusing-keeps (r .buffer) _)
 
-  align-sees : (m : Word) → openOf (view (after (align m) r)) ≡ openOf (view r)
+  align-sees : (m most : Word) → openOf (view (after (align m most) r)) ≡ openOf (view r)
   unfolding alignTo naming pick
-  align-sees m =
+  align-sees m most =
       let b = r .buffer in
-      let why = whyAlign b (length (r .code)) (length (r .events) / eventSize) (m .value) in
-      let pad = paddingLength (b .code) (m .value) in
+      let why = whyAlign b (length (r .code)) (length (r .events) / eventSize) (m .value) (most .value) in
+      let pad = paddingWithin (b .code) (m .value) (most .value) in
       ⊎-elim
       (λ (h : why ≡ 0).
       ⊎-elim
       (λ (x64 : b .arch ≡ 2).
-      ap openOf (see-align r m h x64)
-      ∙ naming-event (isOpen (view r .labels)) (view r) (eventOf alignmentKind (b .code) pad (m .value) 0)
-      ∙ rw (alignment-names-none (isOpen (view r .labels)) (b .code) pad (m .value)) (omega arith))
-      (λ other. ap openOf (see-align-elsewhere r m h other))
+      ap openOf (see-align r m most h x64)
+      ∙ naming-event (isOpen (view r .labels)) (view r) (eventOf alignmentKind (b .code) pad (m .value) (most .value))
+      ∙ rw (alignment-names-none (isOpen (view r .labels)) (b .code) pad (m .value) (most .value)) (omega arith))
+      (λ other. ap openOf (see-align-elsewhere r m most h other))
       (eq-or-ne (b .arch) 2))
       (λ ne.
       ap openOf
-      (turned-down-unseen (align m) r
+      (turned-down-unseen (align m most) r
       (λ z. ne (sym (ap (λ (a : Recorded × (List ℕ × List ℕ)). a .0 .refusal) (no-eq why 0 _ _ ne)) ∙ z))))
       (eq-or-ne why 0)
 
-  kept-align : (m : Word) → Kept r (after (align m) r)
-  kept-align m = unchanged (align-unresolved m) (align-sees m)
+  kept-align : (m most : Word) → Kept r (after (align m most) r)
+  kept-align m most = unchanged (align-unresolved m most) (align-sees m most)
 
   kept-use : (o l c : Word) → Kept r (after (use-label o l c) r)
   unfolding useLabel naming
@@ -257,7 +257,7 @@ pub open-kept : (c : Call) (r : Recording) → r .buffer .code < 4294967296
 open-kept (bytes l) r small = kept-bytes r l .change
 open-kept newLabel r small = kept-label r .change
 open-kept (bind l) r small = kept-bind r l small .change
-open-kept (align m) r small = kept-align r m .change
+open-kept (align m most) r small = kept-align r m most .change
 open-kept (use-label o l c) r small = kept-use r o l c .change
 open-kept (ref o l c d) r small = kept-ref r o l c d .change
 open-kept (jump p n l c) r small = kept-jump r p n l c .change

@@ -46,7 +46,7 @@ pub keeps-sound : (c : Call) (r : Recording) → Sound r → Sound (after c r)
 keeps-sound (bytes l) r s = keeps-bytes r l s
 keeps-sound newLabel r s = keeps-newLabel r s
 keeps-sound (bind l) r s = keeps-bind r l s
-keeps-sound (align m) r s = keeps-align r m s
+keeps-sound (align m most) r s = keeps-align r m most s
 keeps-sound (use-label o l c) r s = keeps-use r o l c s
 keeps-sound (ref o l c d) r s = keeps-ref r o l c d s
 keeps-sound (jump p n l c) r s = keeps-jump r p n l c s

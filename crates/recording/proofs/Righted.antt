@@ -8,7 +8,7 @@ use lib.Dec.{eqb, leb, ltb}
 use lib.ListN.{length}
 use Rattle.seqs.specs.Pick.{pick}
 use Rattle.seqs.specs.Over.{over}
-use Rattle.encoder.specs.Padding.{paddingLength}
+use Rattle.encoder.specs.Padding.{paddingWithin}
 use Rattle.fields.specs.Kinds.{lastCode}
 use Rattle.words.specs.Words.{wordAt}
 use Rattle.relax.specs.Events.{eventSize}
@@ -110,36 +110,36 @@ module _ (r : Recording) (n : ℕ) (few : n ≤ mostOpen) (few-before : r .buffe
       (λ (m : ℕ). (record { buffer = other; refusal = m }, r .labels)) (λ (m : ℕ). (record { buffer = b; refusal = m }, r .labels))
       (refl, λ k. refl) (λ m. (refl, λ k. refl)))
 
-  align-why : (lent room multiple : ℕ) → whyAlign other lent room multiple ≡ whyAlign b lent room multiple
+  align-why : (lent room multiple most : ℕ) → whyAlign other lent room multiple most ≡ whyAlign b lent room multiple most
   unfolding whyAlign
-  align-why lent room multiple = rw (stood (leb (b .code) lent && leb (b .events) room) (leb lent mostCode && leb room mostEntries))
+  align-why lent room multiple most = rw (stood (leb (b .code) lent && leb (b .events) room) (leb lent mostCode && leb room mostEntries))
 
   -- an alignment's event, beside the counts
   abbrev numbered : ℕ → CodeBuffer × List ℕ → CodeBuffer × List ℕ
   numbered k x = (withOpen (x .0) k, x .1)
 
-  event-same : (m k : ℕ) → numbered k (alignedEvents other (r .events) m) ≡ numbered k (alignedEvents b (r .events) m)
+  event-same : (m most k : ℕ) → numbered k (alignedEvents other (r .events) m most) ≡ numbered k (alignedEvents b (r .events) m most)
   unfolding alignedEvents
-  event-same m k = together (keepsEvents (b .arch)) (λ (x y : CodeBuffer × List ℕ). numbered k x ≡ numbered k y) _ _ _ _ refl refl
+  event-same m most k = together (keepsEvents (b .arch)) (λ (x y : CodeBuffer × List ℕ). numbered k x ≡ numbered k y) _ _ _ _ refl refl
 
-  apart-align : (m : Word) → Apart (align m) r n
+  apart-align : (m most : Word) → Apart (align m most) r n
   unfolding alignTo
-  apart-align m =
-      let pad = paddingLength (b .code) (m .value) in
+  apart-align m most =
+      let pad = paddingWithin (b .code) (m .value) (most .value) in
       let code = over (r .code) (b .code) (padding (b .arch) pad) in
       apart-by
       (decided
       (λ (x y : Recorded × (List ℕ × List ℕ)).
       (x .0 .refusal ≡ y .0 .refusal)
       × ((k : ℕ) → withNumber (withEventTable (withCodeTable r (x .0 .buffer) (x .1 .0)) (x .0 .buffer) (x .1 .1)) k ≡ withNumber (withEventTable (withCodeTable r (y .0 .buffer) (y .1 .0)) (y .0 .buffer) (y .1 .1)) k))
-      (align-why (length (r .code)) (length (r .events) / eventSize) (m .value)) _ _
+      (align-why (length (r .code)) (length (r .events) / eventSize) (m .value) (most .value)) _ _
       (λ (i : ℕ). (turnedDown other i, (r .code, r .events))) (λ (i : ℕ). (turnedDown b i, (r .code, r .events))) (
         refl,
         λ k.
             ap
             (λ (x : CodeBuffer × List ℕ).
             withEventTable (withCodeTable r (withCode (x .0) (b .code + pad)) code) (withCode (x .0) (b .code + pad)) (x .1))
-            (event-same (m .value) k),
+            (event-same (m .value) (most .value) k),
       )
       (λ i. (refl, left-same i)))
 
@@ -242,7 +242,7 @@ module _ (r : Recording) (n : ℕ) (few : n ≤ mostOpen) (few-before : r .buffe
   apart (bytes l) = apart-bytes l
   apart newLabel = apart-label
   apart (bind l) = apart-bind l
-  apart (align m) = apart-align m
+  apart (align m most) = apart-align m most
   apart (use-label o l c) = apart-use o l c
   apart (ref o l c d) = apart-ref o l c d
   apart (jump p m l c) = apart-jump p m l c

@@ -14,7 +14,7 @@ use Rattle.seqs.specs.Over.{over}
 use Rattle.seqs.proofs.Booleans.{both-false}
 use Rattle.seqs.proofs.Overwrites.{length-over}
 use Rattle.words.specs.Words.{wordAt}
-use Rattle.encoder.specs.Padding.{paddingLength}
+use Rattle.encoder.specs.Padding.{paddingWithin}
 use Rattle.relax.specs.Events.{setEvent, eventWords, eventSize}
 use Rattle.words.proofs.Entries.{three-words, four-words, five-words, six-words}
 use Rattle.buffer.specs.declared.CodeBuffer.{CodeBuffer}
@@ -285,13 +285,13 @@ keeps-jump r p n l c s =
     s)
     (refused r s why)
 
-pub keeps-align : (r : Recording) (m : Word) → Sound r → Sound (after (align m) r)
+pub keeps-align : (r : Recording) (m most : Word) → Sound r → Sound (after (align m most) r)
 unfolding alignTo alignedEvents setEvent
-keeps-align r m s =
+keeps-align r m most s =
     let b = r .buffer in
     let k = b .events * eventWords in
-    let pad = paddingLength (b .code) (m .value) in
-    let why = whyAlign b (length (r .code)) (length (r .events) / eventSize) (m .value) in
+    let pad = paddingWithin (b .code) (m .value) (most .value) in
+    let why = whyAlign b (length (r .code)) (length (r .events) / eventSize) (m .value) (most .value) in
     let more : b .code ≤ b .code + pad = omega arith in
     tested why 0
     (λ (a : Recorded × (List ℕ × List ℕ)). Sound (withEventTable (withCodeTable r (a .0 .buffer) (a .1 .0)) (a .0 .buffer) (a .1 .1))) _ _
@@ -305,17 +305,16 @@ keeps-align r m s =
     (λ (e : CodeBuffer × List ℕ). Sound (withEventTable (withCodeTable r (withCode (e .0) (b .code + pad)) code) (withCode (e .0) (b .code + pad)) (e .1))) _ _
     (λ x64.
     let room = f .event x64 in
-    let small = m .small in
     let a =
-    appended (r .events) _ k (2 ∷ b .code ∷ pad ∷ m .value ∷ 0 ∷ []) (five-words (r .events) k 2 (b .code) pad (m .value) 0) (omega arith)
-    (omega arith, (omega arith, (omega arith, (small, (omega arith, tt))))) in
+    appended (r .events) _ k (2 ∷ b .code ∷ pad ∷ m .value ∷ most .value ∷ []) (five-words (r .events) k 2 (b .code) pad (m .value) (most .value)) (omega arith)
+    (omega arith, (omega arith, (omega arith, (m .small, (most .small, tt))))) in
     record {
       code = grown;
       labels =
-          labels-beside-event (r .events) _ (b .events) 2 (b .code) pad (m .value) 0 a (r .labels) (b .labels) (b .code) (b .code + pad) more
+          labels-beside-event (r .events) _ (b .events) 2 (b .code) pad (m .value) (most .value) a (r .labels) (b .labels) (b .code) (b .code + pad) more
           (λ i h. ⊎-elim (λ u. inl u) (λ bound. inr (inl (bound .0))) (s .labels .entry i h)) (s .labels);
       events =
-          append-event (r .events) _ (b .events) 2 (b .code) pad (m .value) 0 a (b .labels) (b .code) (b .code + pad) (b .arch) room x64
+          append-event (r .events) _ (b .events) 2 (b .code) pad (m .value) (most .value) a (b .labels) (b .code) (b .code + pad) (b .arch) room x64
           (inr (refl, f .aligned, refl)) (le-refl _) more
           (λ i h. s .events .entry i h .ends)
           (s .events);

@@ -111,9 +111,9 @@ label-word : {b : CodeBuffer} (room : ℕ) → Words b → whyLabel b room < 429
 unfolding whyLabel
 label-word room w = chosen _ _ _ (chosen _ _ _ (omega arith) (omega arith)) (stood _ _ _ w)
 
-align-word : {b : CodeBuffer} (lent room multiple : ℕ) → Words b → whyAlign b lent room multiple < 4294967296
+align-word : {b : CodeBuffer} (lent room multiple most : ℕ) → Words b → whyAlign b lent room multiple most < 4294967296
 unfolding whyAlign
-align-word lent room multiple w = chosen _ _ _ (chosen _ _ _ (omega arith) (chosen _ _ _ (omega arith) (chosen _ _ _ (omega arith) (omega arith)))) (stood _ _ _ w)
+align-word lent room multiple most w = chosen _ _ _ (chosen _ _ _ (omega arith) (chosen _ _ _ (omega arith) (chosen _ _ _ (omega arith) (omega arith)))) (stood _ _ _ w)
 
 use-word : {b : CodeBuffer} (known room label code : ℕ) → Words b → whyUse b known room label code < 4294967296
 unfolding whyUse
@@ -158,8 +158,8 @@ call-words newLabel r w =
     (λ h. let f = label-accepted h in word-labels w (omega (arith, f .fits, f .few)))
     (turned-down w (label-word (length (r .labels) / labelSize) w))
 call-words (bind l) r w = either _ Recorded·words _ _ (word-open w (omega (arith, w .unresolved))) w
-call-words (align m) r w =
-    tested (whyAlign (r .buffer) (length (r .code)) (length (r .events) / eventSize) (m .value)) 0 (λ (a : Recorded × (List ℕ × List ℕ)). Words (a .0 .buffer)) _ _
+call-words (align m most) r w =
+    tested (whyAlign (r .buffer) (length (r .code)) (length (r .events) / eventSize) (m .value) (most .value)) 0 (λ (a : Recorded × (List ℕ × List ℕ)). Words (a .0 .buffer)) _ _
     (λ h.
     let f = align-accepted h in
     word-code
@@ -167,7 +167,7 @@ call-words (align m) r w =
     (λ x64. word-events w (omega (arith, f .event x64, f .fewEvents)))
     w)
     (omega (arith, f .fits, f .few)))
-    (turned-down w (align-word (length (r .code)) (length (r .events) / eventSize) (m .value) w))
+    (turned-down w (align-word (length (r .code)) (length (r .events) / eventSize) (m .value) (most .value) w))
 call-words (use-label o l c) r w =
     tested (whyUse (r .buffer) (length (r .labels) / labelSize) (length (r .uses) / useSize) (l .value) (c .value)) 0 Recorded·words _ _
     (λ h. let f = use-accepted h in word-open (word-uses w (omega (arith, f .fits, f .few))) (omega (arith, f .few-open, one-le (eqb (wordAt (r .labels) (l .value)) none))))

@@ -28,7 +28,8 @@ pub data Call : Type 0 where
   bytes : List ℕ → Call
   newLabel : Call
   bind : Word → Call
-  align : Word → Call
+  -- multiple, most
+  align : Word → Word → Call
   -- offset, label, code
   use-label : Word → Word → Word → Call
   -- offset, label, code, addend
@@ -73,8 +74,8 @@ after (bytes l) r = let a = putBytes (r .buffer) (r .code) l in withCodeTable r 
 after newLabel r = let a = getLabel (r .buffer) (r .labels) in withLabelTable r (a .0 .buffer) (a .1)
 after (bind l) r =
     let a = bindLabel (r .buffer) (r .labels) (r .events) (r .uses) (r .refs) (r .relocs) (l .value) in withLabelTable r (a .0 .buffer) (a .1)
-after (align m) r =
-    let a = alignTo (r .buffer) (r .code) (r .events) (m .value) in
+after (align m k) r =
+    let a = alignTo (r .buffer) (r .code) (r .events) (m .value) (k .value) in
     withEventTable (withCodeTable r (a .0 .buffer) (a .1 .0)) (a .0 .buffer) (a .1 .1)
 after (use-label o l c) r = let a = useLabel (r .buffer) (r .labels) (r .uses) (o .value) (l .value) (c .value) in withUseTable r (a .0 .buffer) (a .1)
 after (ref o l c d) r = let a = recordRef (r .buffer) (r .labels) (r .refs) (o .value) (l .value) (c .value) (d .value) in withRefTable r (a .0 .buffer) (a .1)
@@ -91,7 +92,7 @@ abbrev pub answered : Call → Recording → ℕ
 answered (bytes l) r = putBytes (r .buffer) (r .code) l .0 .refusal
 answered newLabel r = getLabel (r .buffer) (r .labels) .0 .refusal
 answered (bind l) r = bindLabel (r .buffer) (r .labels) (r .events) (r .uses) (r .refs) (r .relocs) (l .value) .0 .refusal
-answered (align m) r = alignTo (r .buffer) (r .code) (r .events) (m .value) .0 .refusal
+answered (align m k) r = alignTo (r .buffer) (r .code) (r .events) (m .value) (k .value) .0 .refusal
 answered (use-label o l c) r = useLabel (r .buffer) (r .labels) (r .uses) (o .value) (l .value) (c .value) .0 .refusal
 answered (ref o l c d) r = recordRef (r .buffer) (r .labels) (r .refs) (o .value) (l .value) (c .value) (d .value) .0 .refusal
 answered (jump s n l c) r = recordJump (r .buffer) (r .labels) (r .events) (s .value) (n .value) (l .value) (c .value) .0 .refusal

@@ -6,7 +6,7 @@ use mathlib.Core.List.{List}
 use Prim.Native.Nat.{ℕ, _+_, _*_, _/_, _≤_, _<_}
 use lib.ListN.{length}
 use Rattle.words.specs.Words.{wordAt}
-use Rattle.encoder.specs.Padding.{paddingLength}
+use Rattle.encoder.specs.Padding.{paddingWithin}
 use Rattle.fields.specs.Kinds.{decoded, archX64, unsupportedCode, lastCode}
 use Rattle.relax.specs.Events.{eventWords, eventSize, jumpKind, alignmentKind, noCondition, mostJump, shortLen}
 use Rattle.buffer.specs.State.{none, labelTarget}
@@ -35,12 +35,12 @@ pub record LabelsSound (labels : List ℕ) (count : ℕ) (events : List ℕ) (ev
   pub limit : count ≤ mostEntries
   pub entry : (i : ℕ) → i < count → LabelSound events eventCount code (wordAt labels i)
 
--- The columns of an event. A jump: length 2..15, a known label, a condition up to 16. An alignment: a power of two up to 4,096, and the least length
--- that reaches its multiple.
+-- The columns of an event. A jump: length 2..15, a known label, a condition up to 16. An alignment: a power of two up to 4,096, and the length that
+-- it spends at its start: "number 1 then accepts that length alone" (document 02, Request Seven).
 abbrev pub FormOf : ℕ → ℕ → ℕ → ℕ → ℕ → ℕ → Type 0
-FormOf labels kind start len what cc =
-    ((kind ≡ jumpKind) × (shortLen ≤ len) × (len ≤ mostJump) × (what < labels) × (cc ≤ noCondition))
-    ⊎ ((kind ≡ alignmentKind) × (isAlignment what ≡ true) × (len ≡ paddingLength start what))
+FormOf labels kind start len what how =
+    ((kind ≡ jumpKind) × (shortLen ≤ len) × (len ≤ mostJump) × (what < labels) × (how ≤ noCondition))
+    ⊎ ((kind ≡ alignmentKind) × (isAlignment what ≡ true) × (len ≡ paddingWithin start what how))
 
 abbrev pub EventForm : List ℕ → ℕ → ℕ → Type 0
 EventForm events labels j =

@@ -1,4 +1,5 @@
--- Events and their table: document 01, "an event read from its columns is a jump with its condition, or an alignment".
+-- Events and their table: document 01, "an event read from its columns is a jump with its condition, or an alignment"; document 02,
+-- Request Seven: an alignment "carries the most bytes it may spend".
 use mathlib.Core.List.{List}
 use Prim.Native.Nat.{ℕ, _+_, _*_}
 use lib.Dec.{eqb}
@@ -41,10 +42,10 @@ jumpKind = 1
 abbrev pub alignmentKind : ℕ
 alignmentKind = 2
 
--- the columns of an event: kind (a jump's, else an alignment), start, length, label or multiple, condition or 0
+-- the columns of an event: kind (a jump's, else an alignment), start, length, label or multiple, condition or the most bytes of padding
 unfoldable pub eventOf : ℕ → ℕ → ℕ → ℕ → ℕ → LayoutEvent
-eventOf kind start len what cc =
-    pick (eqb kind jumpKind) (Jump (record { start = start; len = len; label = what; cc = conditionOf cc })) (Align (record { start = start; len = len; align = what }))
+eventOf kind start len what how =
+    pick (eqb kind jumpKind) (Jump (record { start = start; len = len; label = what; cc = conditionOf how })) (Align (record { start = start; len = len; align = what; most = how }))
 
 -- event i of the table
 unfoldable pub eventAt : List ℕ → ℕ → LayoutEvent
@@ -53,8 +54,8 @@ eventAt events i =
 
 -- the table with these columns as event i
 unfoldable pub setEvent : List ℕ → ℕ → ℕ → ℕ → ℕ → ℕ → ℕ → List ℕ
-setEvent events i kind start len what cc =
-    setWord (setWord (setWord (setWord (setWord events (i * eventWords) kind) (i * eventWords + 1) start) (i * eventWords + 2) len) (i * eventWords + 3) what) (i * eventWords + 4) cc
+setEvent events i kind start len what how =
+    setWord (setWord (setWord (setWord (setWord events (i * eventWords) kind) (i * eventWords + 1) start) (i * eventWords + 2) len) (i * eventWords + 3) what) (i * eventWords + 4) how
 
 -- where an event was recorded, how many bytes of it were, and the offset after it
 abbrev pub startOf : LayoutEvent → ℕ
@@ -70,4 +71,4 @@ endOf e = startOf e + extentOf e
 
 -- what a list of events has past its end
 abbrev pub noEvent : LayoutEvent
-noEvent = Align (record { start = 0; len = 0; align = 0 })
+noEvent = Align (record { start = 0; len = 0; align = 0; most = 0 })

@@ -40,12 +40,13 @@ impl RelaxableJump {
     }
 }
 
-// Padding up to a multiple of `align`.
+// Padding up to a multiple of `align`, where that takes no more than `most` bytes; else none.
 pub struct Alignment {
     pub start: u32,
     // Bytes recorded.
     pub len: u32,
     pub align: u32,
+    pub most: u32,
 }
 
 pub enum LayoutEvent {
@@ -83,7 +84,7 @@ pub const JUMP: u32 = 1;
 
 pub const ALIGNMENT: u32 = 2;
 
-// Event `i` of the table. An entry is kind (`JUMP`, else an alignment), start, length, label or multiple, condition or 0.
+// Event `i` of the table. An entry is kind (`JUMP`, else an alignment), start, length, label or multiple, condition or the most bytes of padding.
 pub fn event_at(events: &[u8], i: usize) -> LayoutEvent
     requires { ⌜ i * eventSize + eventSize ≤ length (now events) ⌝ }
     ensures { λ r. ⌜ r ≡ eventAt (now (events .entry)) i ⌝ }
@@ -93,9 +94,9 @@ pub fn event_at(events: &[u8], i: usize) -> LayoutEvent
     let start = words::word_at(events, k + 1);
     let len = words::word_at(events, k + 2);
     let what = words::word_at(events, k + 3);
-    let cc = words::word_at(events, k + 4);
+    let how = words::word_at(events, k + 4);
     if kind == JUMP {
-        let cc = condition_of(cc);
+        let cc = condition_of(how);
         return LayoutEvent::Jump(RelaxableJump {
             start,
             len,
@@ -107,20 +108,21 @@ pub fn event_at(events: &[u8], i: usize) -> LayoutEvent
         start,
         len,
         align: what,
+        most: how,
     })
 }
 
 // Writes entry `i` of the table.
-pub fn put_event(events: &mut [u8], i: usize, kind: u32, start: u32, len: u32, what: u32, cc: u32)
+pub fn put_event(events: &mut [u8], i: usize, kind: u32, start: u32, len: u32, what: u32, how: u32)
     requires { ⌜ i * eventSize + eventSize ≤ length (now events) ⌝ }
-    ensures { λ _. ⌜ now (events .exit) ≡ setEvent (now (events .entry)) i kind start len what cc ⌝ }
+    ensures { λ _. ⌜ now (events .exit) ≡ setEvent (now (events .entry)) i kind start len what how ⌝ }
 {
     let k = i * EVENT_WORDS;
     words::put_word(events, k, kind);
     words::put_word(events, k + 1, start);
     words::put_word(events, k + 2, len);
     words::put_word(events, k + 3, what);
-    words::put_word(events, k + 4, cc);
+    words::put_word(events, k + 4, how);
 }
 
 pub fn event_start(event: LayoutEvent) -> u32

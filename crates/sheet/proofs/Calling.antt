@@ -13,7 +13,7 @@ use lib.Seq.{take-all}
 use Rattle.seqs.specs.Pick.{pick}
 use Rattle.seqs.proofs.Booleans.{both-false}
 use Rattle.seqs.proofs.Numbers.{lt-or-ge, eq-or-ne}
-use Rattle.seqs.proofs.Picking.{no-eq}
+use Rattle.seqs.proofs.Picking.{yes-eq, no-eq}
 use Rattle.words.specs.Words.{wordAt}
 use Rattle.fields.specs.Words64.{signExtend}
 use Rattle.buffer.specs.declared.CodeBuffer.{CodeBuffer}
@@ -22,12 +22,19 @@ use Rattle.buffer.specs.declared.Made.{Made}
 use Rattle.buffer.specs.Calls.{putBytes, getLabel, bindLabel, alignTo, useLabel, recordRef, recordJump, addConstant, constantLabel, addReloc}
 use Rattle.recording.specs.Calls.{Recording, Call}
 use Rattle.checks.specs.Lent.{recordingOf}
-use Rattle.sheet.specs.Run.{word, signedWord, bytesIn, callOf, called}
+use Rattle.sheet.specs.Run.{word, mostIn, signedWord, bytesIn, callOf, called}
 use Rattle.sheet.specs.Form.{argumentSize, mostBytes}
 
 -- a word of an argument, as the program reads it
 pub as-word : (w : ℕ) (arguments : List ℕ) (k : ℕ) → w ≡ wordAt arguments k → w < 4294967296 → w ≡ word arguments k .value
 as-word w arguments k e small = rw (← e) (sym (mod-eq-of-lt small))
+
+-- the most that an alignment may spend, as the program reads it
+pub as-default : (arguments : List ℕ) → wordAt arguments 1 ≡ 0 → 4095 ≡ mostIn arguments .value
+as-default arguments e = rw (yes-eq (wordAt arguments 1) 0 4095 (wordAt arguments 1) e) refl
+
+pub as-most : (w : ℕ) (arguments : List ℕ) → w ≡ wordAt arguments 1 → w ≢ 0 → w < 4294967296 → w ≡ mostIn arguments .value
+as-most w arguments e some small = rw (← e, no-eq w 0 4095 w some) (sym (mod-eq-of-lt small))
 
 pub as-signed : (d w : ℕ) (arguments : List ℕ) (k : ℕ) → d ≡ signExtend 32 w → w ≡ wordAt arguments k → d < 18446744073709551616
     → d ≡ signedWord arguments k .value
@@ -80,11 +87,11 @@ module _ (b : CodeBuffer) (kind : ℕ) (arguments code labels events uses refs c
       let p = rw g0 at e in
       rw k (ap (λ (a : Recorded × List ℕ). (a .0 .refusal, recordingOf (a .0 .buffer) (a .1) labels events uses refs constants asked relocs)) p)
 
-  pub align-called : {r : Recorded} {code' events' : List ℕ} {m : ℕ} → kind ≡ 4 → m ≡ word arguments 0 .value → (r, (code', events')) ≡ alignTo b code events m
+  pub align-called : {r : Recorded} {code' events' : List ℕ} {m most : ℕ} → kind ≡ 4 → m ≡ word arguments 0 .value → most ≡ mostIn arguments .value → (r, (code', events')) ≡ alignTo b code events m most
       → Calls (r .refusal) (recordingOf (r .buffer) code' labels events' uses refs constants asked relocs)
   unfolding pick callOf
-  align-called k g0 e =
-      let p = rw g0 at e in
+  align-called k g0 g1 e =
+      let p = rw (g0, g1) at e in
       rw k (ap (λ (a : Recorded × (List ℕ × List ℕ)). (a .0 .refusal, recordingOf (a .0 .buffer) (a .1 .0) labels (a .1 .1) uses refs constants asked relocs)) p)
 
   pub label-called : {m : Made} {labels' : List ℕ} → kind ≡ 2 → (m, labels') ≡ getLabel b labels

@@ -1,4 +1,5 @@
--- The form of a sheet: document 01, "A sheet of calls". "A sheet is a count n (word), n kind bytes, then n arguments of four words."
+-- The form of a sheet: document 01, "A sheet of calls"; document 02, Request Seven. "A sheet is a count n (word), n kind bytes, then n arguments of
+-- four words."
 use mathlib.Core.Bool.{Bool, true, _&&_, _||_}
 use mathlib.Core.List.{List, [], _∷_}
 use Prim.Native.Nat.{ℕ, suc, _+_, _*_}
@@ -76,7 +77,7 @@ inRange kind arguments =
 
 -- how many bytes of an argument each kind from 0 on uses: four for each of its words
 abbrev pub usedBytes : List ℕ
-usedBytes = 0 ∷ 4 ∷ 0 ∷ 4 ∷ 4 ∷ 12 ∷ 16 ∷ 16 ∷ 4 ∷ 4 ∷ 16 ∷ []
+usedBytes = 0 ∷ 4 ∷ 0 ∷ 4 ∷ 8 ∷ 12 ∷ 16 ∷ 16 ∷ 4 ∷ 4 ∷ 16 ∷ []
 
 -- and the bytes that a count counts
 unfoldable pub used : ℕ → List ℕ → ℕ

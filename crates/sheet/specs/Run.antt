@@ -1,5 +1,5 @@
--- Running a sheet: document 01, "A sheet of calls". "Form is checked over the whole sheet before any call runs (index 0 for a wrong length). It stops at its
--- first refusal, giving its number and the call's index from 0; without one it gives 0 and n."
+-- Running a sheet: document 01, "A sheet of calls"; document 02, Request Seven. "Form is checked over the whole sheet before any call runs (index 0 for a
+-- wrong length). It stops at its first refusal, giving its number and the call's index from 0; without one it gives 0 and n."
 use mathlib.Core.List.{List, [], _∷_}
 use Prim.Native.Nat.{ℕ, suc, _%_}
 use native.Mathlib.Omega.{arith}
@@ -10,6 +10,7 @@ use Rattle.seqs.specs.Pick.{pick}
 use Rattle.words.specs.Words.{wordAt}
 use Rattle.fields.specs.Words64.{signExtend}
 use Rattle.buffer.specs.Refusals.{standing}
+use Rattle.buffer.specs.Tables.{defaultMost}
 use Rattle.recording.specs.Calls.{Recording, Word, Word64, Call, bytes, newLabel, bind, align, use-label, ref, jump, constant, constant-label, relocation, answered, after}
 use Rattle.checks.specs.Lent.{countsFit, withinLimits}
 use Rattle.sheet.specs.Form.{isWhole, kindsOf, argumentsOf, firstBroken, bytesCall, newLabelCall, bindCall, alignCall, useCall, refCall, jumpCall, constantCall, constantLabelCall, argumentSize}
@@ -22,6 +23,10 @@ word arguments k = record { value = wordAt arguments k % 4294967296; small = ome
 abbrev pub signedWord : List ℕ → ℕ → Word64
 signedWord arguments k = record { value = signExtend 32 (wordAt arguments k) % 18446744073709551616; small = omega arith }
 
+-- the most bytes that an alignment may spend: its second word, "with 0 meaning the default"
+abbrev pub mostIn : List ℕ → Word
+mostIn arguments = record { value = pick (eqb (wordAt arguments 1) 0) defaultMost (wordAt arguments 1) % 4294967296; small = omega arith }
+
 -- the bytes behind a count
 abbrev pub bytesIn : List ℕ → List ℕ
 bytesIn arguments = take (wordAt arguments 0) (drop 4 arguments)
@@ -32,7 +37,7 @@ callOf kind a =
     pick (eqb kind bytesCall) (bytes (bytesIn a))
     (pick (eqb kind newLabelCall) newLabel
     (pick (eqb kind bindCall) (bind (word a 0))
-    (pick (eqb kind alignCall) (align (word a 0))
+    (pick (eqb kind alignCall) (align (word a 0) (mostIn a))
     (pick (eqb kind useCall) (use-label (word a 0) (word a 1) (word a 2))
     (pick (eqb kind refCall) (ref (word a 0) (word a 1) (word a 2) (word a 3))
     (pick (eqb kind jumpCall) (jump (word a 0) (word a 1) (word a 2) (word a 3))

@@ -87,7 +87,7 @@ fn in_range(kind: u8, arguments: &[u8]) -> bool
 }
 
 // How many bytes of its argument each kind uses, counted bytes apart.
-const USED_BYTES: [usize; 11] = [0, 4, 0, 4, 4, 12, 16, 16, 4, 4, 16];
+const USED_BYTES: [usize; 11] = [0, 4, 0, 4, 8, 12, 16, 16, 4, 4, 16];
 
 fn used_bytes(kind: u8) -> usize
     ensures { λ r. ⌜ r ≡ getD usedBytes kind 0 ⌝ }

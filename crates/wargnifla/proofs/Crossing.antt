@@ -23,7 +23,7 @@ use Rattle.join.specs.Pieces as joining
 use Rattle.join.specs.Join as joins
 use Rattle.elf.specs.Elf as elf
 use Rattle.sheet.specs.Run as sheets
-use Rattle.wargnifla.specs.Boundary.{countsSize, Lent, countsAt, countsOf, recordOf, recordAt, start, putBytes, addConstant, addReloc, lentOf, lentWith, runSheet, finish, writeRelas, join}
+use Rattle.wargnifla.specs.Boundary.{countsSize, Lent, countsAt, countsOf, recordOf, recordAt, start, putBytes, align, addConstant, addReloc, lentOf, lentWith, runSheet, finish, writeRelas, join}
 
 -- bytes with four words written, and as they were after each of the first three
 pub record FourWritten (t : List ℕ) (k a b c d : ℕ) (one two three four : List ℕ) : Type 0 where
@@ -134,6 +134,22 @@ module _ (counts counts' : List ℕ) where
     bytes-cross b a h r e w =
         rw w
         (ap (λ (x : Recorded × List ℕ). (x .0 .refusal, (overWords counts (countsOf (x .0 .buffer)), x .1))) (e ∙ ap (λ (x : CodeBuffer). calls.putBytes x code bytes) r)
+        ∙ sym (no-lt _ countsSize _ _ h))
+
+  module _ (code code' events events' : List ℕ) (multiple most : ℕ) where
+    pub align-short : length counts < countsSize → (1, (counts, (code, events))) ≡ align counts code events multiple most
+    unfolding align
+    align-short h = sym (yes-lt _ countsSize _ _ h)
+
+    pub align-crosses : (b : CodeBuffer) (a : Recorded) → countsSize ≤ length counts → b ≡ countsAt counts
+        → (a, (code', events')) ≡ calls.alignTo b code events multiple most → counts' ≡ overWords counts (countsOf (a .buffer))
+        → (a .refusal, (counts', (code', events'))) ≡ align counts code events multiple most
+    unfolding align
+    align-crosses b a h r e w =
+        rw w
+        (ap
+        (λ (x : Recorded × (List ℕ × List ℕ)). (x .0 .refusal, (overWords counts (countsOf (x .0 .buffer)), x .1)))
+        (e ∙ ap (λ (x : CodeBuffer). calls.alignTo x code events multiple most) r)
         ∙ sym (no-lt _ countsSize _ _ h))
 
   module _ (constants constants' bytes : List ℕ) where

@@ -20,8 +20,8 @@ use Rattle.recording.proofs.Open.{Right, call-right, calls-right, grown-right, 
 use Rattle.recording.proofs.Words.{Words, call-words, calls-words, start-words}
 use Rattle.sheet.specs.Run as sheets
 use Rattle.sheet.proofs.Sheets.{sheet-makes-calls}
-use Rattle.wargnifla.specs.Boundary.{countsSize, countsAt, countsOf, Lent, lentOf, recordingIn, lentWith, start, putBytes, addConstant, addReloc, runSheet}
-use Rattle.wargnifla.specs.Sequences.{afterStart, afterBytes, afterConstant, afterReloc, Recorded, starts, sheet, bytes, constant, relocation, grows}
+use Rattle.wargnifla.specs.Boundary.{countsSize, countsAt, countsOf, Lent, lentOf, recordingIn, lentWith, start, putBytes, align, addConstant, addReloc, runSheet}
+use Rattle.wargnifla.specs.Sequences.{afterStart, afterBytes, afterAlign, afterConstant, afterReloc, Recorded, starts, sheet, bytes, alignment, constant, relocation, grows}
 use Rattle.wargnifla.proofs.Counts.{counts-read}
 
 -- what holds of all that is lent: its counts have their bytes and are words, the recording is sound, and its number of open entries is right
@@ -69,6 +69,15 @@ bytes-left bs m room =
     ap (λ (a : ℕ × (List ℕ × List ℕ)). lentOf (a .1 .0) (a .1 .1) (m .labels) (m .events) (m .uses) (m .refs) (m .constants) (m .asked) (m .relocs))
     (no-lt {A = ℕ × (List ℕ × List ℕ)} (length (m .counts)) countsSize _ _ room)
 
+align-left : (multiple most : Word) (m : Lent) → countsSize ≤ length (m .counts)
+    → afterAlign multiple most m ≡ lentWith (m .counts) (after (call.align multiple most) (recordingIn m))
+unfolding align
+align-left multiple most m room =
+    ap
+    (λ (a : ℕ × (List ℕ × (List ℕ × List ℕ))).
+    lentOf (a .1 .0) (a .1 .1 .0) (m .labels) (a .1 .1 .1) (m .uses) (m .refs) (m .constants) (m .asked) (m .relocs))
+    (no-lt {A = ℕ × (List ℕ × (List ℕ × List ℕ))} (length (m .counts)) countsSize _ _ room)
+
 constant-left : (bs : List ℕ) (m : Lent) → countsSize ≤ length (m .counts)
     → afterConstant bs m ≡ lentWith (m .counts) (after (call.constant bs) (recordingIn m))
 unfolding addConstant
@@ -97,6 +106,8 @@ recorded-good l (sheet s m made) =
     (with-recording (m .counts) (afterAll (calls .0) (recordingIn m)) (g .room) (calls-words (calls .0) (recordingIn m) (g .words))
     (calls-sound (calls .0) (recordingIn m) (g .sound)) (calls-right (calls .0) (recordingIn m) (g .words) (g .right)))
 recorded-good l (bytes bs m made) = let g = recorded-good m made in subst Good (sym (bytes-left bs m (g .room))) (called (call.bytes bs) m g)
+recorded-good l (alignment multiple most m made) =
+    let g = recorded-good m made in subst Good (sym (align-left multiple most m (g .room))) (called (call.align multiple most) m g)
 recorded-good l (constant bs m made) = let g = recorded-good m made in subst Good (sym (constant-left bs m (g .room))) (called (call.constant bs) m g)
 recorded-good l (relocation o k t d m made) =
     let g = recorded-good m made in subst Good (sym (reloc-left o k t d m (g .room))) (called (call.relocation o k t d) m g)

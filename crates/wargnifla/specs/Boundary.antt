@@ -81,6 +81,12 @@ putBytes counts code bytes =
     let a = calls.putBytes (countsAt counts) code bytes in
     pick (tooShort counts) (refusals.malformed, (counts, code)) (a .0 .refusal, (overWords counts (countsOf (a .0 .buffer)), a .1))
 
+-- the answer, the counts, the code and the events
+unfoldable pub align : List ℕ → List ℕ → List ℕ → ℕ → ℕ → ℕ × (List ℕ × (List ℕ × List ℕ))
+align counts code events multiple most =
+    let a = calls.alignTo (countsAt counts) code events multiple most in
+    pick (tooShort counts) (refusals.malformed, (counts, (code, events))) (a .0 .refusal, (overWords counts (countsOf (a .0 .buffer)), a .1))
+
 -- the answer, the counts, the constants and the number
 unfoldable pub addConstant : List ℕ → List ℕ → List ℕ → ℕ × (List ℕ × (List ℕ × ℕ))
 addConstant counts constants bytes =

@@ -9,7 +9,7 @@ ghost use lib.ListN.{length};
 ghost use Rattle.seqs.specs.Over.{over};
 ghost use Rattle.words.specs.Words.{bytesOfAll, overWords};
 ghost use Rattle.join.specs.Pieces as joining;
-ghost use Rattle.wargnifla.specs.Boundary.{countsAt, countsOf, recordOf, recordAt, start, putBytes, addConstant, addReloc, lentOf, runSheet, finish, writeRelas, readRelas, join, countsSize, recordSize};
+ghost use Rattle.wargnifla.specs.Boundary.{countsAt, countsOf, recordOf, recordAt, start, putBytes, align, addConstant, addReloc, lentOf, runSheet, finish, writeRelas, readRelas, join, countsSize, recordSize};
 use buffer::CodeBuffer;
 use finish::CodeBufferFinalized;
 use relax::Segment;
@@ -126,6 +126,26 @@ pub extern "C" fn wargnifla_put_bytes(counts: &mut [u8], code: &mut [u8], bytes:
         return refusals::MALFORMED;
     }
     let answer = counts_at(counts).put_bytes(code, bytes);
+    let buffer = answer.buffer;
+    put_counts(counts, buffer);
+    answer.refusal
+}
+
+// Pads the code to a multiple, where that takes no more than `most` bytes; else it spends none.
+#[no_mangle]
+pub extern "C" fn wargnifla_align(
+    counts: &mut [u8],
+    code: &mut [u8],
+    events: &mut [u8],
+    multiple: u32,
+    most: u32,
+) -> u32
+    ensures { λ r. ⌜ (r, (now (counts .exit), (now (code .exit), now (events .exit)))) ≡ align (now (counts .entry)) (now (code .entry)) (now (events .entry)) multiple most ⌝ }
+{
+    if counts.len() < COUNTS_SIZE {
+        return refusals::MALFORMED;
+    }
+    let answer = counts_at(counts).try_align_to(code, events, multiple, most);
     let buffer = answer.buffer;
     put_counts(counts, buffer);
     answer.refusal

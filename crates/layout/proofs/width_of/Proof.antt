@@ -22,7 +22,7 @@ returns-3 : tie.Need-returns-3
 unfolding width
 returns-3 c =
     let after-event2 : tie.After-event2 = search in
-    rw (after-event2 .event2 .given .1) (c .padding-len .ensures)
+    rw (after-event2 .event2 .given .1) (c .padding-within .ensures)
 
 pub width-of-spec : {M : Type 1} → statement M
 width-of-spec =

@@ -12,7 +12,7 @@ use Rattle.relax.specs.declared.LayoutEvent.{LayoutEvent}
 use Rattle.relax.specs.declared.LayoutEvent.the-variants.{Align}
 use Rattle.buffer.specs.State.{none}
 use Rattle.buffer.specs.Calls.{padding}
-use Rattle.buffer.specs.Tables.{mostEntries, mostConstant, labelSize, constantWords, constantSize, constantHead, askedSize}
+use Rattle.buffer.specs.Tables.{mostEntries, mostConstant, defaultMost, labelSize, constantWords, constantSize, constantHead, askedSize}
 use Rattle.fresh.specs.Pooled.{constantAlignment}
 
 -- the most bytes that a pooled constant takes: 63 of padding and 64 of its own
@@ -64,6 +64,7 @@ poolEvent from constants asked j =
       start = poolStart from constants asked j;
       len = poolPadding from constants asked j;
       align = constantAlignment (sizeAt constants asked j);
+      most = defaultMost;
     })
 
 -- what the first n constants take: padding, and zeros where their bytes will stand

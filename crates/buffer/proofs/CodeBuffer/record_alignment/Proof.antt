@@ -27,9 +27,9 @@ returns-2 : tie.Need-returns-2
 unfolding alignedEvents
 returns-2 c =
     let after-put-event : tie.After-put-event = search in
-    let measured : tie.After-padding-len = search in
+    let measured : tie.After-padding-within = search in
     let else1 : tie.Else1 = search in
-    rw (after-put-event .put-event .ensures, measured .padding-len .ensures) (sym (yes-eq _ 2 _ _ (else1 .if1 .left)))
+    rw (after-put-event .put-event .ensures, measured .padding-within .ensures) (sym (yes-eq _ 2 _ _ (else1 .if1 .left)))
 
 pub record-alignment-spec : {M : Type 1} → statement M
 record-alignment-spec =

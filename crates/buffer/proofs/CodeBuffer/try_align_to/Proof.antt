@@ -23,7 +23,7 @@ part-pad-end c =
     let else1 : tie.Else1 = search in
     let after-why-not-align : tie.After-why-not-align = search in
     let fits = align-accepted (sym (after-why-not-align .why-not-align .ensures) ∙ else1 .if1 .left) in
-    omega (arith, c .padding-len .ensures, fits .fits)
+    omega (arith, c .padding-within .ensures, fits .fits)
 
 record-alignment-requires : tie.Need-record-alignment-requires
 record-alignment-requires c κs =
@@ -34,28 +34,28 @@ record-alignment-requires c κs =
 
 cast-buffer : tie.Need-cast-buffer
 cast-buffer c =
-    let after-padding-len : tie.After-padding-len = search in
+    let after-padding-within : tie.After-padding-within = search in
     let checked : tie.Else1 = search in
     let after-why-not-align : tie.After-why-not-align = search in
     let fits = align-accepted (sym (after-why-not-align .why-not-align .ensures) ∙ checked .if1 .left) in
-    omega (arith, after-padding-len .padding-len .ensures, fits .fits, fits .few)
+    omega (arith, after-padding-within .padding-within .ensures, fits .fits, fits .few)
 
 returns-2 : tie.Need-returns-2
 unfolding alignTo
 returns-2 c =
     let after-record-alignment : tie.After-record-alignment = search in
     let after-pad : tie.After-pad = search in
-    let measured : tie.After-padding-len = search in
+    let measured : tie.After-padding-within = search in
     let checked : tie.Else1 = search in
     let after-why-not-align : tie.After-why-not-align = search in
     let start : tie.Start = search in
     let a = start .args in
     let at = a .self .code in
-    let n = measured .padding-len .result in
+    let n = measured .padding-within .result in
     let why = sym (after-why-not-align .why-not-align .ensures) ∙ checked .if1 .left in
     let fits = align-accepted why in
-    let padded = over-padded (a .code .now) at (at + n - at) n (a .self .arch) (omega arith) (omega (arith, measured .padding-len .ensures, fits .fits)) in
-    rw (← after-record-alignment .record-alignment .ensures, ← measured .padding-len .ensures, after-pad .pad .ensures, padded) (sym (yes-eq _ 0 _ _ why))
+    let padded = over-padded (a .code .now) at (at + n - at) n (a .self .arch) (omega arith) (omega (arith, measured .padding-within .ensures, fits .fits)) in
+    rw (← after-record-alignment .record-alignment .ensures, ← measured .padding-within .ensures, after-pad .pad .ensures, padded) (sym (yes-eq _ 0 _ _ why))
 
 pub try-align-to-spec : {M : Type 1} → statement M
 try-align-to-spec =

@@ -14,10 +14,10 @@ returns c =
 returns-2 : tie.Need-returns-2
 returns-2 c =
     let after-both4 : tie.After-both4 = search in
-    let after-padding-len : tie.After-padding-len = search in
+    let spent : tie.After-padding-within = search in
     let after-is-alignment : tie.After-is-alignment = search in
     let else1 : tie.Else1 = search in
-    form-alignment (record { other = else1 .if1 .left; tested = rw (after-both4 .both4 .ensures, after-padding-len .padding-len .ensures, after-is-alignment .is-alignment .ensures) at (c .both5 .ensures) })
+    form-alignment (record { other = else1 .if1 .left; tested = rw (after-both4 .both4 .ensures, spent .padding-within .ensures, after-is-alignment .is-alignment .ensures) at (c .both5 .ensures) })
 
 pub form-fits-spec : {M : Type 1} → statement M
 form-fits-spec =

@@ -89,7 +89,7 @@ abbrev pub y7· : Syntax.Ty
 y7· = Syntax.tyStruct (114 ∷ 101 ∷ 108 ∷ 97 ∷ 120 ∷ 58 ∷ 58 ∷ 82 ∷ 101 ∷ 108 ∷ 97 ∷ 120 ∷ 97 ∷ 98 ∷ 108 ∷ 101 ∷ 74 ∷ 117 ∷ 109 ∷ 112 ∷ []) (Syntax.tcons y0· (Syntax.tcons y0· (Syntax.tcons y0· (Syntax.tcons (Syntax.tyEnum (114 ∷ 101 ∷ 108 ∷ 97 ∷ 120 ∷ 58 ∷ 58 ∷ 67 ∷ 111 ∷ 110 ∷ 100 ∷ 105 ∷ 116 ∷ 105 ∷ 111 ∷ 110 ∷ []) (Syntax.ttcons Syntax.tnil (Syntax.ttcons (Syntax.tcons y0· Syntax.tnil) Syntax.ttnil))) Syntax.tnil))))
 
 abbrev pub y8· : Syntax.Ty
-y8· = Syntax.tyStruct (114 ∷ 101 ∷ 108 ∷ 97 ∷ 120 ∷ 58 ∷ 58 ∷ 65 ∷ 108 ∷ 105 ∷ 103 ∷ 110 ∷ 109 ∷ 101 ∷ 110 ∷ 116 ∷ []) (Syntax.tcons y0· (Syntax.tcons y0· (Syntax.tcons y0· Syntax.tnil)))
+y8· = Syntax.tyStruct (114 ∷ 101 ∷ 108 ∷ 97 ∷ 120 ∷ 58 ∷ 58 ∷ 65 ∷ 108 ∷ 105 ∷ 103 ∷ 110 ∷ 109 ∷ 101 ∷ 110 ∷ 116 ∷ []) (Syntax.tcons y0· (Syntax.tcons y0· (Syntax.tcons y0· (Syntax.tcons y0· Syntax.tnil))))
 
 abbrev pub y9· : Syntax.Ty
 y9· = Syntax.tyStruct (38 ∷ 91 ∷ 93 ∷ []) (Syntax.tcons y2· (Syntax.tcons y1· Syntax.tnil))

@@ -70,7 +70,7 @@ abbrev pub y5· : Syntax.Ty
 y5· = Syntax.tyStruct (114 ∷ 101 ∷ 108 ∷ 97 ∷ 120 ∷ 58 ∷ 58 ∷ 82 ∷ 101 ∷ 108 ∷ 97 ∷ 120 ∷ 97 ∷ 98 ∷ 108 ∷ 101 ∷ 74 ∷ 117 ∷ 109 ∷ 112 ∷ []) (Syntax.tcons y0· (Syntax.tcons y0· (Syntax.tcons y0· (Syntax.tcons (Syntax.tyEnum (114 ∷ 101 ∷ 108 ∷ 97 ∷ 120 ∷ 58 ∷ 58 ∷ 67 ∷ 111 ∷ 110 ∷ 100 ∷ 105 ∷ 116 ∷ 105 ∷ 111 ∷ 110 ∷ []) (Syntax.ttcons Syntax.tnil (Syntax.ttcons (Syntax.tcons y0· Syntax.tnil) Syntax.ttnil))) Syntax.tnil))))
 
 abbrev pub y6· : Syntax.Ty
-y6· = Syntax.tyStruct (114 ∷ 101 ∷ 108 ∷ 97 ∷ 120 ∷ 58 ∷ 58 ∷ 65 ∷ 108 ∷ 105 ∷ 103 ∷ 110 ∷ 109 ∷ 101 ∷ 110 ∷ 116 ∷ []) (Syntax.tcons y0· (Syntax.tcons y0· (Syntax.tcons y0· Syntax.tnil)))
+y6· = Syntax.tyStruct (114 ∷ 101 ∷ 108 ∷ 97 ∷ 120 ∷ 58 ∷ 58 ∷ 65 ∷ 108 ∷ 105 ∷ 103 ∷ 110 ∷ 109 ∷ 101 ∷ 110 ∷ 116 ∷ []) (Syntax.tcons y0· (Syntax.tcons y0· (Syntax.tcons y0· (Syntax.tcons y0· Syntax.tnil))))
 
 abbrev pub y7· : Syntax.Ty
 y7· = Syntax.tyRef (Syntax.named 1) Syntax.imm y3·

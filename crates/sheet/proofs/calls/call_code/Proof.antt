@@ -17,11 +17,12 @@ returns c =
 returns-2 : tie.Need-returns-2
 returns-2 c =
     let after-try-align-to : tie.After-try-align-to = search in
+    let after-most-in : tie.After-most-in = search in
     let after-word-at : tie.After-word-at = search in
     let else1 : tie.Else1 = search in
     let start : tie.Start = search in
     let a = start .args in
-    λ labels uses refs constants asked relocs. align-called (a .b) (a .kind) (a .arguments .now) (a .code .now) labels (a .events .now) uses refs constants asked relocs (the-other (start .pre .1) (else1 .if1 .left)) (as-word (after-word-at .word-at .result) _ 0 (after-word-at .word-at .ensures) (omega arith)) (after-try-align-to .try-align-to .ensures)
+    λ labels uses refs constants asked relocs. align-called (a .b) (a .kind) (a .arguments .now) (a .code .now) labels (a .events .now) uses refs constants asked relocs (the-other (start .pre .1) (else1 .if1 .left)) (as-word (after-word-at .word-at .result) _ 0 (after-word-at .word-at .ensures) (omega arith)) (after-most-in .most-in .ensures) (after-try-align-to .try-align-to .ensures)
 
 pub call-code-spec : {M : Type 1} → statement M
 call-code-spec =
@@ -35,6 +36,7 @@ call-code-spec =
     (λ c κs. search needs)
     (λ c. search needs)
     returns
+    (λ c κs. search needs)
     (λ c κs. search needs)
     (λ c κs. search needs)
     (λ c. search needs)
