@@ -11,8 +11,13 @@ pub enum Call<B = Arc<[u8]>> {
     NewLabel,
     /// Binds a label to the current offset.
     Bind(u32),
-    /// Pads to a multiple.
-    Align(u32),
+    /// Pads to a multiple, or not at all where that takes more bytes than it may spend.
+    Align {
+        /// The multiple.
+        multiple: u32,
+        /// The most bytes that it may spend; 0 stands for [`DEFAULT_MOST`](crate::DEFAULT_MOST).
+        most: u32,
+    },
     /// Records a use of a label.
     Use {
         /// Where the field starts.
@@ -76,13 +81,18 @@ pub const CALL_NAMES: [&str; 10] = [
 ];
 
 impl<B> Call<B> {
+    /// Pads to a multiple, with the default in the place of a ceiling.
+    pub const fn align(multiple: u32) -> Self {
+        Self::Align { multiple, most: 0 }
+    }
+
     /// The kind of the call in a sheet.
     pub const fn kind(&self) -> u8 {
         match self {
             Self::Bytes(_) => 1,
             Self::NewLabel => 2,
             Self::Bind(_) => 3,
-            Self::Align(_) => 4,
+            Self::Align { .. } => 4,
             Self::Use { .. } => 5,
             Self::Ref { .. } => 6,
             Self::Jump { .. } => 7,
@@ -103,7 +113,7 @@ impl<B> Call<B> {
             Self::Bytes(bytes) => Call::Bytes(map(bytes)),
             Self::NewLabel => Call::NewLabel,
             Self::Bind(label) => Call::Bind(label),
-            Self::Align(multiple) => Call::Align(multiple),
+            Self::Align { multiple, most } => Call::Align { multiple, most },
             Self::Use {
                 offset,
                 label,
@@ -158,7 +168,7 @@ mod tests {
 
     #[test]
     fn a_call_stays_the_same_however_it_holds_its_bytes() {
-        let text = "n; l 0; b 0102; a 4; u 1 0 1; r 1 0 0 -4; j 0 5 0 e; c 07; k 0; o 4 1 l0 -9";
+        let text = "n; l 0; b 0102; a 4; a 8 3; u 1 0 1; r 1 0 0 -4; j 0 5 0 e; c 07; k 0; o 4 1 l0 -9";
         let read = read_text(text, None, |call, calls| {
             calls.push(call);
             Ok(())

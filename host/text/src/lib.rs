@@ -13,6 +13,7 @@ mod call;
 mod definitions;
 mod kinds;
 mod labels;
+mod padding;
 mod place;
 mod placing;
 mod reader;
@@ -28,6 +29,7 @@ use std::borrow::Cow;
 pub use call::{CALL_NAMES, Call};
 pub use definitions::{Definition, ExternalName};
 pub use kinds::{Arch, Condition, LabelUse, Reach, Reloc};
+pub use padding::{DEFAULT_MOST, Padding, most_of_word};
 pub use place::{Note, Span, TextError};
 use placing::Placing;
 use reader::{check_count, read_steps};
@@ -268,6 +270,42 @@ mod tests {
     }
 
     #[test]
+    fn an_alignment_may_have_a_ceiling() {
+        let most = |text: &str| match calls(text)[..] {
+            [TextCall::Call(Call::Align { multiple: 16, most })] => most,
+            _ => panic!("one alignment to 16"),
+        };
+        assert_eq!(most("align 16"), 0);
+        assert_eq!(most("align 16 1"), 1);
+        assert_eq!(most("a 0x10 0xF"), 15);
+        assert_eq!(most("align 16 4095"), 4095);
+        assert_eq!(most("align 16 4294967295"), u32::MAX);
+    }
+
+    #[test]
+    fn ceilings_that_are_none_are_named() {
+        let fails = |text: &str, marked: &str, expected: &str| {
+            let error = read(text).unwrap_err();
+            assert_eq!(error.sentence, expected);
+            assert_eq!(&text[error.place.columns()], marked, "{error}");
+        };
+        let sentence = "an align that may spend 0 bytes fits no sheet, whose 0 is the default, 4095: \
+                        leave MOST out for the default, or leave the align out";
+        fails("b 90; align 16 0", "0", sentence);
+        fails("a 16 0x00", "0x00", sentence);
+        let sentence = "'-1' is no number; one is decimal, or hexadecimal after 0x";
+        fails("align 16 -1", "-1", sentence);
+        let sentence = "'all' is no number; one is decimal, or hexadecimal after 0x";
+        fails("align 16 all", "all", sentence);
+        let sentence = "'4294967296' is above 4294967295";
+        fails("align 16 4294967296", "4294967296", sentence);
+        let sentence = "align takes MULTIPLE and perhaps MOST, and 3 words stand here";
+        fails("align 16 3 7", "7", sentence);
+        let sentence = "align takes MULTIPLE and perhaps MOST, and nothing stands here";
+        fails("align", "align", sentence);
+    }
+
+    #[test]
     fn malformed_groups_are_named() {
         fails("n\n3 n", 2, "'3' starts no call");
         fails("n\n3 ( n", 2, "not closed");
@@ -398,6 +436,8 @@ mod tests {
             assert_eq!(Condition::from_name(condition).unwrap().number(), number);
         }
         assert_eq!(calls("n; z 3; a 8; JMP 0")[4], calls("n; j 8 5 0")[1]);
+        assert_eq!(calls("n; z 3; a 8 5; jmp 0")[4], calls("n; j 8 5 0")[1]);
+        assert_eq!(calls("n; z 3; a 8 4; jmp 0")[4], calls("n; j 3 5 0")[1]);
         fails("jmp", 1, "jmp takes LABEL, and nothing stands here");
         fails("arch aarch64\njmp end", 2, "a jump of x86");
     }

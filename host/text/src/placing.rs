@@ -1,7 +1,7 @@
 //! Steps made into calls, each at the offset where it comes to stand.
 
 use crate::text_call::Step;
-use crate::{Arch, Call, Condition, LabelUse, TextCall};
+use crate::{Arch, Call, Condition, LabelUse, Padding, TextCall, most_of_word};
 
 /// Steps made into calls, each at the offset where it comes to stand.
 pub(crate) struct Placing<C, A> {
@@ -32,8 +32,9 @@ impl<C, A: Fn(TextCall, &mut Vec<C>) -> Result<(), String>> Placing<C, A> {
         match &call {
             TextCall::Call(Call::Bytes(bytes)) => self.offset += bytes.len() as u64,
             TextCall::Zeros(count) => self.offset += u64::from(*count),
-            TextCall::Call(Call::Align(multiple)) if multiple.is_power_of_two() => {
-                self.offset = self.offset.next_multiple_of((*multiple).into());
+            TextCall::Call(Call::Align { multiple, most }) if multiple.is_power_of_two() => {
+                let padding = Padding::at(self.offset, *multiple, most_of_word(*most));
+                self.offset += u64::from(padding.spent());
             }
             _ => {}
         }

@@ -8,7 +8,7 @@ use crate::words::{
     LABEL_TARGET, bytes, condition, field_code, is_numbered, mnemonic, number, numbered_target,
     relocation_kind, signed,
 };
-use crate::{Call, Condition, TextError, counted};
+use crate::{Call, Condition, DEFAULT_MOST, TextError, counted};
 
 /// What a text may say in the place of a call.
 #[derive(Clone, Debug, PartialEq, Eq)]
@@ -58,7 +58,7 @@ const WORDS: [Word; 16] = [
     word("bind", "l", "LABEL", 1),
     word("bytes", "b", "HEX ..", usize::MAX),
     word("zeros", "z", "COUNT", 1),
-    word("align", "a", "MULTIPLE", 1),
+    word("align", "a", "MULTIPLE and perhaps MOST", 2),
     word("use", "u", "OFFSET LABEL CODE", 3),
     word("ref", "r", "OFFSET LABEL CODE and perhaps ADDEND", 4),
     word("jump", "j", "START LENGTH LABEL and perhaps CONDITION", 4),
@@ -167,7 +167,7 @@ impl<'a> Arguments<'_, 'a> {
             "label" => self.perhaps_one().map(|_| Call::NewLabel),
             "bind" => self.label(self.one()?).map(Call::Bind),
             "bytes" => bytes(self.words).map(Call::Bytes),
-            "align" => number(self.one()?).map(Call::Align),
+            "align" => self.align(),
             "use" => self.read_use(),
             "ref" => self.read_ref(),
             "jump" => self.jump(),
@@ -248,6 +248,14 @@ impl<'a> Arguments<'_, 'a> {
         at.error(format!("{name} takes {}, and {standing}", known.arguments))
     }
 
+    fn align(&self) -> Result<Call, TextError> {
+        let (multiple, most) = self.one_and_perhaps_one()?;
+        Ok(Call::Align {
+            multiple: number(multiple)?,
+            most: most.map_or(Ok(0), most_spent)?,
+        })
+    }
+
     fn read_use(&self) -> Result<Call, TextError> {
         let [offset, label, code] = *self.words else {
             return Err(self.wrong());
@@ -309,6 +317,17 @@ impl<'a> Arguments<'_, 'a> {
                 ))),
             },
         }
+    }
+}
+
+/// The most bytes that an alignment may spend. 0 is refused: it could be meant as a ceiling or as a sheet's word for the default.
+fn most_spent(word: Token<'_>) -> Result<u32, TextError> {
+    match number(word)? {
+        0 => Err(word.error(format!(
+            "an align that may spend 0 bytes fits no sheet, whose 0 is the default, {DEFAULT_MOST}: \
+             leave MOST out for the default, or leave the align out"
+        ))),
+        most => Ok(most),
     }
 }
 
