@@ -10,7 +10,7 @@ use crate::recording::{
     AsmFixup, AsmReloc, Constant, Label, LayoutEvent, Recording, RelaxableJump, RelocTarget, Sym,
     constant_alignment,
 };
-use crate::sheet::{Sheet, extended};
+use crate::sheet::{Sheet, extended, most_padding};
 use crate::tables::{Counts, TableName, Tables};
 use crate::unpatched::unpatched;
 use crate::verified::{self, Record};
@@ -315,7 +315,39 @@ impl CodeBuffer {
     ///
     /// Number 4, 5, 11 or 12.
     pub fn try_align_to(&mut self, align_to: CodeOffset) -> Result<(), Error> {
-        self.make(&Call::Align(align_to))
+        self.make(&Call::align(align_to))
+    }
+
+    /// Pads to a multiple as [`Self::try_align_to`] does, but not at all where that takes more than `most` bytes. Finish decides again, by where the
+    /// alignment comes to stand: one that is skipped here may be padded there, and the reverse. `most` is any number; with 0 nothing is ever spent,
+    /// and with [`DEFAULT_MOST`](crate::DEFAULT_MOST) or more nothing is ever skipped.
+    ///
+    /// ```
+    /// use wargnifla::{Arch, CodeBuffer};
+    ///
+    /// # fn main() -> Result<(), wargnifla::Error> {
+    /// let mut buffer = CodeBuffer::new(Arch::X64);
+    /// buffer.put1(0x90)?;
+    /// buffer.try_align_to_within(8, 6)?; // 7 are needed
+    /// assert_eq!(buffer.cur_offset(), 1);
+    /// buffer.try_align_to_within(8, 7)?;
+    /// assert_eq!(buffer.cur_offset(), 8);
+    /// # Ok(())
+    /// # }
+    /// ```
+    ///
+    /// # Errors
+    ///
+    /// Number 4, 5, 11 or 12.
+    pub fn try_align_to_within(&mut self, align_to: CodeOffset, most: u32) -> Result<(), Error> {
+        let tables = &mut self.tables;
+        tables.make_room(TableName::Events, usize::from(tables.arch.tracks_layout()));
+        tables.make_room(TableName::Code, most_padding(align_to, most));
+        let number = verified::align(tables, align_to, most);
+        self.answer(number, || Call::Align {
+            multiple: align_to,
+            most,
+        })
     }
 
     /// Records a field that a finish without a jump patches; one with a jump leaves it as it is. A field of [`LabelUse::X86JmpRel32`] adds the value
@@ -535,7 +567,7 @@ impl CodeBuffer {
         let kind = call.kind();
         let words = words_of(call).expect("its argument is four words");
         let tables = &mut self.tables;
-        extended(tables.arch, kind, words[0], |table, more| {
+        extended(tables.arch, kind, words, |table, more| {
             tables.make_room(table, more);
         });
         verified::run_sheet(tables, &one_call_sheet(kind, words)).0
@@ -680,14 +712,14 @@ impl CodeBuffer {
     }
 
     /// What the finished code cannot exceed, as `wargnifla_output_bound` of include/wargnifla.h has it: every jump long, every padding one less than
-    /// its multiple, and the same of the pool.
+    /// its multiple or as much as it may spend, and the pool.
     fn most_finished(&self) -> usize {
         let mut most = self.data().len();
         for event in self.tables.events() {
             most -= (event.end() - event.start()) as usize;
             most += match event {
                 LayoutEvent::Jump(jump) => jump.long_len() as usize,
-                LayoutEvent::Align { align, .. } => align as usize - 1,
+                LayoutEvent::Align(alignment) => most_padding(alignment.align, alignment.most),
             };
         }
         let pool = self.tables.asked_sizes();

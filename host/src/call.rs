@@ -19,7 +19,8 @@ pub(crate) fn words_of(call: &Call) -> Option<[u32; 4]> {
     Some(match *call {
         Call::Bytes(_) | Call::Constant(_) => return None,
         Call::NewLabel => [0; 4],
-        Call::Bind(number) | Call::Align(number) | Call::ConstantLabel(number) => [number, 0, 0, 0],
+        Call::Bind(number) | Call::ConstantLabel(number) => [number, 0, 0, 0],
+        Call::Align { multiple, most } => [multiple, most, 0, 0],
         Call::Use {
             offset,
             label,

@@ -74,6 +74,17 @@ unsafe extern "C" {
         bytes_len: usize,
     ) -> u32;
 
+    pub fn wargnifla_align(
+        counts: *mut u8,
+        counts_len: usize,
+        code: *mut u8,
+        code_len: usize,
+        events: *mut u8,
+        events_len: usize,
+        multiple: u32,
+        most: u32,
+    ) -> u32;
+
     pub fn wargnifla_add_constant(
         counts: *mut u8,
         counts_len: usize,

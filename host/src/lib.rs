@@ -70,13 +70,15 @@ pub use listing::{
 };
 pub use picture::Picture;
 pub use recording::{
-    AsmConstant, AsmFixup, AsmReloc, Constant, Label, LabelRef, LayoutEvent, Names, Pooled,
-    PooledConstant, Recording, RelaxableJump, RelocTarget, Sym,
+    Alignment, AsmConstant, AsmFixup, AsmReloc, Constant, Label, LabelRef, LayoutEvent, Names,
+    Pooled, PooledConstant, Recording, RelaxableJump, RelocTarget, Sym,
 };
 pub use refusal::Refusal;
 pub use rounds::{Change, Lengthened, Mismatch, Round, Rounds};
 pub use sheet::{Sheet, Unwritable, symbols_named, write_sheet};
-pub use sheet_text::{Arch, Call, Condition, Definition, ExternalName, LabelUse, Reach, Reloc};
+pub use sheet_text::{
+    Arch, Call, Condition, DEFAULT_MOST, Definition, ExternalName, LabelUse, Padding, Reach, Reloc,
+};
 pub use text::{Note, Script, Span, TextError, read_text, read_text_for};
 pub use unpatched::{Unpatched, WhyUnpatched};
 

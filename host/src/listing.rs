@@ -9,11 +9,12 @@ use std::fmt::Write;
 use std::ops::Range;
 
 use crate::recording::{
-    AsmReloc, Constant, Label, LayoutEvent, Names, Pooled, Recording, RelaxableJump,
+    Alignment, AsmReloc, Constant, Label, LayoutEvent, Names, Pooled, Recording, RelaxableJump,
 };
 use crate::relax::map;
 use crate::{
-    Arch, Call, CodeBufferFinalized, CodeOffset, LabelUse, UNBOUND, Unpatched, WhyUnpatched,
+    Arch, Call, CodeBufferFinalized, CodeOffset, DEFAULT_MOST, LabelUse, Padding, UNBOUND,
+    Unpatched, WhyUnpatched,
 };
 use sheet_text::counted;
 
@@ -175,13 +176,10 @@ fn event_rows(texts: &Texts<'_>, pooled: &Pooled) -> Vec<Row> {
         let (start, end) = placed(finished, i, event);
         match event {
             LayoutEvent::Jump(jump) => Row::new(start, end, texts.jump(jump, start, end)),
-            LayoutEvent::Align { len, align, .. } => {
-                let what = padding_text(*align, pooled.owner(i), end - start, *len);
-                Row {
-                    line: padding_line(finished.arch()),
-                    ..Row::new(start, end, what)
-                }
-            }
+            LayoutEvent::Align(alignment) => Row {
+                line: padding_line(finished.arch()),
+                ..Row::new(start, end, padding_text(alignment, pooled.owner(i), start))
+            },
         }
     };
     pooled.events.iter().enumerate().map(row).collect()
@@ -206,21 +204,31 @@ fn padding_line(arch: Arch) -> usize {
     }
 }
 
-/// `align 16: 14 bytes of padding, 11 recorded`; `owner` is the pooled constant that it is for.
-pub(crate) fn padding_text(align: u32, owner: Option<Constant>, len: u32, recorded: u32) -> String {
+/// `align 16: 14 bytes of padding, 11 recorded`, or `align 8, at most 3: skipped, 7 needed`, of an alignment that comes to stand at an offset; `owner`
+/// is the pooled constant that it is for.
+pub(crate) fn padding_text(
+    alignment: &Alignment,
+    owner: Option<Constant>,
+    at: CodeOffset,
+) -> String {
+    let most = match alignment.most {
+        DEFAULT_MOST => String::new(),
+        most => format!(", at most {most}"),
+    };
     let owner = owner.map_or(String::new(), |constant| {
         format!(" for constant {}", constant.id())
     });
-    let now = match len {
-        0 => "no padding".into(),
-        _ => format!("{} of padding", counted(len as usize, "byte")),
+    let (recorded, now) = (
+        alignment.padding_at(alignment.start),
+        alignment.padding_at(at),
+    );
+    let before = match (recorded, now) {
+        (Padding::Skipped(_), Padding::Skipped(_)) => String::new(),
+        (Padding::Skipped(_), Padding::Spent(_)) => ", skipped when recorded".into(),
+        (Padding::Spent(len), now) if now != recorded => format!(", {len} recorded"),
+        (Padding::Spent(_), _) => String::new(),
     };
-    let before = if recorded == len {
-        String::new()
-    } else {
-        format!(", {recorded} recorded")
-    };
-    format!("align {align}{owner}: {now}{before}")
+    format!("align {}{most}{owner}: {now}{before}", alignment.align)
 }
 
 /// Says of a field that something is written over it: it need not mean its label then. Fields are written in order, the constants, which rise, after

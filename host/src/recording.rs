@@ -2,9 +2,12 @@
 
 use std::collections::BTreeMap;
 
-use sheet_text::shown;
+use sheet_text::{most_of_word, shown};
 
-use crate::{Arch, Call, CodeOffset, Condition, ExternalName, LabelUse, Reloc, UNBOUND};
+use crate::{
+    Arch, Call, CodeOffset, Condition, DEFAULT_MOST, ExternalName, LabelUse, Padding, Reloc,
+    UNBOUND,
+};
 
 /// What is added to a label's number where a relocation's target is one word.
 const LABEL_TARGET: u32 = 1 << 31;
@@ -221,6 +224,46 @@ impl RelaxableJump {
     }
 }
 
+/// The padding of an alignment.
+#[derive(Clone, Copy, Debug, PartialEq, Eq)]
+pub struct Alignment {
+    /// Where the padding was recorded.
+    pub start: CodeOffset,
+    /// Its length as recorded.
+    pub len: CodeOffset,
+    /// The multiple that it reaches, where it is not skipped.
+    pub align: CodeOffset,
+    /// The most bytes that it may spend.
+    pub most: u32,
+}
+
+impl Alignment {
+    /// An alignment as it is recorded at an offset.
+    pub(crate) fn recorded(start: CodeOffset, align: CodeOffset, most: u32) -> Self {
+        Self {
+            start,
+            len: Padding::at(start.into(), align, most).spent(),
+            align,
+            most,
+        }
+    }
+
+    /// What it comes to at an offset.
+    #[must_use]
+    pub const fn padding_at(&self, offset: CodeOffset) -> Padding {
+        Padding::at(offset as u64, self.align, self.most)
+    }
+
+    /// As a text has it: `align 16`, or `align 16 5` where it may spend no more than 5 bytes.
+    #[must_use]
+    pub fn mnemonic(&self) -> String {
+        match self.most {
+            DEFAULT_MOST => format!("align {}", self.align),
+            most => format!("align {} {most}", self.align),
+        }
+    }
+}
+
 /// What finish may resize.
 #[derive(Clone, Copy, Debug, PartialEq, Eq)]
 #[non_exhaustive]
@@ -228,14 +271,7 @@ pub enum LayoutEvent {
     /// A jump.
     Jump(RelaxableJump),
     /// The padding of an alignment.
-    Align {
-        /// Where the padding was recorded.
-        start: CodeOffset,
-        /// Its length as recorded.
-        len: CodeOffset,
-        /// The multiple that it reaches.
-        align: CodeOffset,
-    },
+    Align(Alignment),
 }
 
 impl LayoutEvent {
@@ -244,7 +280,7 @@ impl LayoutEvent {
     pub const fn start(&self) -> CodeOffset {
         match self {
             Self::Jump(jump) => jump.start,
-            Self::Align { start, .. } => *start,
+            Self::Align(alignment) => alignment.start,
         }
     }
 
@@ -253,7 +289,7 @@ impl LayoutEvent {
     pub const fn end(&self) -> CodeOffset {
         match self {
             Self::Jump(jump) => jump.start + jump.len as u32,
-            Self::Align { start, len, .. } => *start + *len,
+            Self::Align(alignment) => alignment.start + alignment.len,
         }
     }
 
@@ -262,7 +298,7 @@ impl LayoutEvent {
     pub fn name(&self) -> String {
         match self {
             Self::Jump(_) => "the jump".into(),
-            Self::Align { align, .. } => format!("the alignment to {align}"),
+            Self::Align(alignment) => format!("the alignment to {}", alignment.align),
         }
     }
 
@@ -271,7 +307,7 @@ impl LayoutEvent {
     pub fn mnemonic(&self) -> String {
         match self {
             Self::Jump(jump) => jump.mnemonic(),
-            Self::Align { align, .. } => format!("align {align}"),
+            Self::Align(alignment) => alignment.mnemonic(),
         }
     }
 }
@@ -379,7 +415,7 @@ impl Recording {
     pub fn jumps(&self) -> impl Iterator<Item = &RelaxableJump> {
         self.events.iter().filter_map(|event| match event {
             LayoutEvent::Jump(jump) => Some(jump),
-            LayoutEvent::Align { .. } => None,
+            LayoutEvent::Align(_) => None,
         })
     }
 
@@ -396,10 +432,11 @@ impl Recording {
         for call in calls {
             match call {
                 Call::Bytes(bytes) => offset += bytes.len() as u32,
-                Call::Align(multiple) => {
-                    let align = alignment(offset, *multiple);
-                    offset = align.end();
-                    self.events.push(align);
+                Call::Align { multiple, most } => {
+                    let most = most_of_word(*most);
+                    let align = Alignment::recorded(offset, *multiple, most);
+                    offset += align.len;
+                    self.events.push(LayoutEvent::Align(align));
                 }
                 _ => {}
             }
@@ -419,14 +456,6 @@ impl Recording {
             pooled.place(number, &self.constants[number.id() as usize]);
         }
         pooled
-    }
-}
-
-fn alignment(start: CodeOffset, multiple: u32) -> LayoutEvent {
-    LayoutEvent::Align {
-        start,
-        len: start.next_multiple_of(multiple) - start,
-        align: multiple,
     }
 }
 
@@ -478,13 +507,13 @@ impl Pooled {
     }
 
     fn place(&mut self, constant: Constant, entry: &AsmConstant) {
-        let align = alignment(self.len, entry.alignment());
-        let offset = align.end();
+        let align = Alignment::recorded(self.len, entry.alignment(), DEFAULT_MOST);
+        let offset = self.len + align.len;
         let size = entry.data.len() as u32;
         let label = entry
             .label
             .expect("a constant that was asked for has a label");
-        self.events.push(align);
+        self.events.push(LayoutEvent::Align(align));
         let bound = &mut self.labels[label.id() as usize];
         if *bound == UNBOUND {
             *bound = offset;

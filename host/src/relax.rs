@@ -5,7 +5,7 @@ use crate::ffi::Segment;
 use crate::recording::{LayoutEvent, RelaxableJump};
 use crate::{CodeOffset, UNBOUND};
 
-/// Places events in order, each jump long that `long` marks and every padding the least that reaches its multiple.
+/// Places events in order, each jump long that `long` marks, and every alignment with what it comes to where it stands.
 pub(crate) fn layout(events: &[LayoutEvent], long: &[bool]) -> Vec<Segment> {
     let mut last = Segment::default();
     let mut segments = Vec::with_capacity(events.len());
@@ -14,7 +14,7 @@ pub(crate) fn layout(events: &[LayoutEvent], long: &[bool]) -> Vec<Segment> {
         let new_end = match event {
             LayoutEvent::Jump(jump) if long => new_start + jump.long_len(),
             LayoutEvent::Jump(_) => new_start + RelaxableJump::SHORT_LEN,
-            LayoutEvent::Align { align, .. } => new_start.next_multiple_of(*align),
+            LayoutEvent::Align(align) => new_start + align.padding_at(new_start).spent(),
         };
         last = Segment {
             old_start: event.start(),
@@ -62,7 +62,7 @@ pub(crate) fn map(segments: &[Segment], offset: CodeOffset) -> CodeOffset {
 #[cfg(test)]
 mod tests {
     use super::*;
-    use crate::Label;
+    use crate::{Alignment, DEFAULT_MOST, Label};
 
     fn jump(start: u32, len: u8) -> LayoutEvent {
         LayoutEvent::Jump(RelaxableJump {
@@ -74,7 +74,16 @@ mod tests {
     }
 
     fn align(start: u32, len: u32, align: u32) -> LayoutEvent {
-        LayoutEvent::Align { start, len, align }
+        align_within(start, len, align, DEFAULT_MOST)
+    }
+
+    fn align_within(start: u32, len: u32, align: u32, most: u32) -> LayoutEvent {
+        LayoutEvent::Align(Alignment {
+            start,
+            len,
+            align,
+            most,
+        })
     }
 
     #[test]
@@ -83,6 +92,18 @@ mod tests {
         let segments = layout(&events, &[false, false, true, false]);
         let ends: Vec<u32> = segments.iter().map(|segment| segment.new_end).collect();
         assert_eq!(ends, [2, 16, 21, 22]);
+    }
+
+    #[test]
+    fn padding_is_spent_or_skipped_by_the_new_offset() {
+        let ends = |most, long| {
+            let events = [jump(0, 5), align_within(8, 0, 8, most)];
+            let segments = layout(&events, &[long, false]);
+            [segments[1].new_start, segments[1].new_end]
+        };
+        assert_eq!(ends(3, false), [5, 8], "nothing was needed when recorded");
+        assert_eq!(ends(2, false), [5, 5]);
+        assert_eq!(ends(0, true), [8, 8]);
     }
 
     #[test]

@@ -301,7 +301,7 @@ fn short_jumps(pooled: &Pooled, first: &[Segment]) -> Vec<ShortJump> {
     events
         .filter_map(|(event, entry)| match entry {
             LayoutEvent::Jump(jump) => Some((event, *jump)),
-            LayoutEvent::Align { .. } => None,
+            LayoutEvent::Align(_) => None,
         })
         .map(|(event, jump)| ShortJump::new(event, jump, pooled, first))
         .collect()

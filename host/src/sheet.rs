@@ -8,7 +8,7 @@ use sheet_text::CALL_NAMES;
 use crate::call::{MOST_BYTES, argument, bytes_argument, known_code, known_kind};
 use crate::tables::{Room, TableName};
 use crate::{Arch, Call, RelocTarget};
-use sheet_text::counted;
+use sheet_text::{counted, most_of_word};
 
 /// A call that no sheet can carry.
 #[derive(Clone, Debug, PartialEq, Eq)]
@@ -140,7 +140,13 @@ impl<'a> Sheet<'a> {
             1 => (Call::Bytes(self.bytes(index)?), 4),
             2 => (Call::NewLabel, 0),
             3 => (Call::Bind(a), 1),
-            4 => (Call::Align(a), 1),
+            4 => (
+                Call::Align {
+                    multiple: a,
+                    most: b,
+                },
+                2,
+            ),
             5 => {
                 let (offset, label, code) = (a, b, known_code(c)?);
                 (
@@ -214,24 +220,30 @@ impl<'a> Sheet<'a> {
     pub(crate) fn room(&self, arch: Arch) -> Room {
         let mut room = Room::default();
         for (index, kind) in self.kinds.iter().enumerate() {
-            let first = self.words(index)[0];
-            extended(arch, *kind, first, |table, more| room.add(table, more));
+            let words = self.words(index);
+            extended(arch, *kind, words, |table, more| room.add(table, more));
         }
         room
     }
 }
 
-/// Names each table that a call of a kind extends, and the most entries that it may add, given the first word of its argument: a byte count or a
-/// multiple. Whatever a broken call asks for is cut to what an accepted one could.
+/// Names each table that a call of a kind extends, and the most entries that it may add, given its argument: a byte count comes first, or a multiple
+/// and the most that is spent for it. Whatever a broken call asks for is cut to what an accepted one could.
 #[inline(always)]
-pub(crate) fn extended(arch: Arch, kind: u8, first: u32, mut extend: impl FnMut(TableName, usize)) {
+pub(crate) fn extended(
+    arch: Arch,
+    kind: u8,
+    words: [u32; 4],
+    mut extend: impl FnMut(TableName, usize),
+) {
+    let [first, second, ..] = words;
     let event = usize::from(arch.tracks_layout());
     match kind {
         1 => extend(TableName::Code, (first as usize).min(MOST_BYTES)),
         2 => extend(TableName::Labels, 1),
         4 => {
             extend(TableName::Events, event);
-            extend(TableName::Code, (first.clamp(1, 4096) - 1) as usize);
+            extend(TableName::Code, most_padding(first, most_of_word(second)));
         }
         5 => extend(TableName::Uses, 1),
         6 => extend(TableName::Refs, event),
@@ -244,6 +256,12 @@ pub(crate) fn extended(arch: Arch, kind: u8, first: u32, mut extend: impl FnMut(
         10 => extend(TableName::Relocs, 1),
         _ => {}
     }
+}
+
+/// The most bytes of padding that an accepted alignment may add.
+#[inline(always)]
+pub(crate) fn most_padding(multiple: u32, most: u32) -> usize {
+    (multiple.clamp(1, 4096) - 1).min(most) as usize
 }
 
 /// How many symbols some calls name: one more than the greatest, or 0.
@@ -268,7 +286,11 @@ mod tests {
             Call::NewLabel,
             Call::Bytes([1, 2, 3].into()),
             Call::Bind(0),
-            Call::Align(16),
+            Call::align(16),
+            Call::Align {
+                multiple: 32,
+                most: 9,
+            },
             Call::Use {
                 offset: 1,
                 label: 2,
@@ -368,6 +390,7 @@ mod tests {
         broken(1, [1, 0x200, 0, 0], "02 and not 00");
         broken(2, [0, 0, 0, 7], "unused word is 7");
         broken(3, [0, 5, 0, 0], "unused word is 5");
+        broken(4, [16, 5, 6, 0], "unused word is 6");
         broken(5, [0, 0, 17, 0], "code 17");
         broken(6, [0, 0, 99, 0], "code 99");
         broken(10, [0, 28, 0, 0], "kind 28");
@@ -379,10 +402,23 @@ mod tests {
         let room = |arch| Sheet::read(&bytes).unwrap().room(arch);
         let of = |arch, tables: [TableName; 3]| tables.map(|table| room(arch).of(table));
         use TableName::{Asked, Code, Constants, Events, Labels, Refs, Relocs, Uses};
-        assert_eq!(of(Arch::X64, [Code, Labels, Events]), [3 + 15, 2, 2]);
+        assert_eq!(of(Arch::X64, [Code, Labels, Events]), [3 + 15 + 9, 2, 3]);
         assert_eq!(of(Arch::X64, [Uses, Refs, Constants]), [1, 1, 1]);
-        assert_eq!(of(Arch::X64, [Asked, Relocs, Code]), [1, 1, 3 + 15]);
+        assert_eq!(of(Arch::X64, [Asked, Relocs, Code]), [1, 1, 3 + 15 + 9]);
         assert_eq!(of(Arch::AArch64, [Events, Refs, Uses]), [0, 0, 1]);
+    }
+
+    #[test]
+    fn room_for_padding_is_the_least_of_multiple_and_ceiling() {
+        let room = |multiple, most| {
+            let align = Call::Align { multiple, most };
+            let sheet = write_sheet(&[align]).unwrap();
+            let room = Sheet::read(&sheet).unwrap().room(Arch::X64);
+            room.of(TableName::Code)
+        };
+        assert_eq!([room(16, 0), room(16, 15), room(16, 14)], [15, 15, 14]);
+        assert_eq!([room(4096, 0), room(4096, u32::MAX)], [4095, 4095]);
+        assert_eq!([room(u32::MAX, 0), room(0, 9)], [4095, 0]);
     }
 
     #[test]

@@ -2,8 +2,8 @@
 //! and never beyond. include/wargnifla.h says what their entries hold; here they are read.
 
 use crate::recording::{
-    AsmConstant, AsmFixup, AsmReloc, Constant, Label, LabelRef, LayoutEvent, Names, Recording,
-    RelaxableJump, RelocTarget,
+    Alignment, AsmConstant, AsmFixup, AsmReloc, Constant, Label, LabelRef, LayoutEvent, Names,
+    Recording, RelaxableJump, RelocTarget,
 };
 use crate::{Arch, Condition, LabelUse, MOST_CODE, MOST_ENTRIES, Reloc};
 
@@ -372,11 +372,12 @@ fn event(entry: &[u8]) -> LayoutEvent {
             cc: Condition::from_number(word(entry, 4)),
         })
     } else {
-        LayoutEvent::Align {
+        LayoutEvent::Align(Alignment {
             start,
             len,
             align: word(entry, 3),
-        }
+            most: word(entry, 4),
+        })
     }
 }
 

@@ -71,7 +71,7 @@ pub(crate) fn unpatched(tables: &Tables, unread: &[Call]) -> Vec<Unpatched> {
 fn jump_end(event: &LayoutEvent) -> Option<(u64, Label)> {
     match event {
         LayoutEvent::Jump(jump) => Some((event.end().into(), jump.label)),
-        LayoutEvent::Align { .. } => None,
+        LayoutEvent::Align(_) => None,
     }
 }
 

@@ -157,6 +157,23 @@ pub(crate) fn put_bytes(tables: &mut Tables, bytes: &[u8]) -> u32 {
     }
 }
 
+/// Pads to a multiple where that takes at most so many bytes: the refusal, or 0.
+pub(crate) fn align(tables: &mut Tables, multiple: u32, most: u32) -> u32 {
+    // SAFETY: every pointer and length are those of one slice; counts, code and events are distinct places, borrowed mutably.
+    unsafe {
+        ffi::wargnifla_align(
+            tables.counts.0.as_mut_ptr(),
+            tables.counts.0.len(),
+            tables.code.bytes.as_mut_ptr(),
+            tables.code.bytes.len(),
+            tables.events.bytes.as_mut_ptr(),
+            tables.events.bytes.len(),
+            multiple,
+            most,
+        )
+    }
+}
+
 /// Adds a constant: the refusal, or 0, and the constant's number.
 pub(crate) fn add_constant(tables: &mut Tables, bytes: &[u8]) -> (u32, u32) {
     let mut constant = u32::MAX;

@@ -8,7 +8,7 @@ use wargnifla::{Arch, Call, Entry, Error, Label, Recording, RelocTarget};
 pub fn call_of_entry(calls: &[Call], arch: Arch, entry: Entry) -> Option<usize> {
     let mut asked = HashSet::new();
     let mut makes_entry = |call: &Call| match (entry, call) {
-        (Entry::Event(_), Call::Jump { .. } | Call::Align(_)) => arch.tracks_layout(),
+        (Entry::Event(_), Call::Jump { .. } | Call::Align { .. }) => arch.tracks_layout(),
         (Entry::Ref(_), Call::Ref { .. }) => arch.tracks_layout(),
         (Entry::Use(_), Call::Use { .. }) => true,
         (Entry::Reloc(_), Call::Relocation { .. }) => true,
@@ -72,7 +72,7 @@ pub fn wrong_word(call: &Call, error: &Error) -> usize {
         (17 | 23, Call::Relocation { .. }) => 1,
         (17 | 19, Call::Use { .. } | Call::Ref { .. }) => 1,
         (8 | 9 | 13, Call::Bind(_) | Call::ConstantLabel(_)) => 1,
-        (5 | 12, Call::Align(_) | Call::Bytes(_)) => 1,
+        (5 | 12, Call::Align { .. } | Call::Bytes(_)) => 1,
         _ => 0,
     }
 }

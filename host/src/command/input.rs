@@ -368,7 +368,7 @@ impl Input {
         let keeps_jumps = self.arch.tracks_layout();
         let makes_event = |call: &Call| match call {
             Call::Jump { .. } => keeps_jumps,
-            Call::Align(_) => true,
+            Call::Align { .. } => true,
             _ => false,
         };
         self.calls_where(makes_event).collect()

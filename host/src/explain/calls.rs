@@ -28,10 +28,12 @@ pub(crate) fn explain_call(tables: &Tables, call: &Call, number: u32) -> String 
 
 fn unfit_alignment(call: &Call) -> Option<String> {
     match call {
-        Call::Align(multiple) if multiple.is_power_of_two() => {
+        Call::Align { multiple, .. } if multiple.is_power_of_two() => {
             Some(format!("the alignment {multiple} exceeds 4,096"))
         }
-        Call::Align(multiple) => Some(format!("the alignment {multiple} is no power of two")),
+        Call::Align { multiple, .. } => {
+            Some(format!("the alignment {multiple} is no power of two"))
+        }
         _ => None,
     }
 }
@@ -141,7 +143,7 @@ fn unfit_jump(tables: &Tables, start: u32, length: u32, condition: u32) -> Optio
 fn full_table(tables: &Tables, call: &Call) -> String {
     let table = match call {
         Call::NewLabel => "labels",
-        Call::Align(_) | Call::Jump { .. } => "events (jumps and alignments)",
+        Call::Align { .. } | Call::Jump { .. } => "events (jumps and alignments)",
         Call::Use { .. } => "uses",
         Call::Ref { .. } => "refs",
         Call::Constant(_) => "constants",
@@ -158,7 +160,9 @@ fn past_the_end(tables: &Tables, call: &Call) -> Option<String> {
     let what = match call {
         Call::Bytes(bytes) if bytes.len() == 1 => format!("1 more byte at {offset} passes"),
         Call::Bytes(bytes) => format!("{} more bytes at {offset} pass", bytes.len()),
-        Call::Align(multiple) => format!("padding at {offset} to a multiple of {multiple} passes"),
+        Call::Align { multiple, .. } => {
+            format!("padding at {offset} to a multiple of {multiple} passes")
+        }
         _ => return None,
     };
     Some(format!(

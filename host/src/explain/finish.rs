@@ -89,7 +89,7 @@ fn naming_labels(
         .zip(&recording.events)
         .filter_map(|(i, event)| match event {
             LayoutEvent::Jump(jump) => Some((jump.label, "jump", jump.start, Entry::Event(i))),
-            LayoutEvent::Align { .. } => None,
+            LayoutEvent::Align(_) => None,
         });
     uses.chain(relocs).chain(refs).chain(jumps)
 }

@@ -62,7 +62,7 @@ fn events(picture: &Picture<'_>, placed: &Placed) -> String {
     array(placed.pooled.events.iter().enumerate().map(|(i, event)| {
         let label = match event {
             LayoutEvent::Jump(jump) => jump.label.id().to_string(),
-            LayoutEvent::Align { .. } => "-1".into(),
+            LayoutEvent::Align(_) => "-1".into(),
         };
         let mut what = event.mnemonic();
         if let Some(constant) = placed.pooled.owner(i) {

@@ -91,7 +91,7 @@ impl Drawing {
             }
             What::Constant(_) => (Class::Constant, Class::Constant),
             What::Event(event) => match placed.pooled.events[event] {
-                LayoutEvent::Align { .. } => (Class::Padding, Class::Padding),
+                LayoutEvent::Align(_) => (Class::Padding, Class::Padding),
                 LayoutEvent::Jump(_) if part.new.len() as u32 == RelaxableJump::SHORT_LEN => {
                     (Class::Recorded, Class::Short)
                 }

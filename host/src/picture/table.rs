@@ -97,9 +97,8 @@ impl Rows<'_> {
                     let what = self.texts.jump(jump, part.new.start, part.new.end);
                     ("jump", pick("event", event), what)
                 }
-                LayoutEvent::Align { align, .. } => {
-                    let lengths = (part.new.len() as u32, part.old.len() as u32);
-                    let what = padding_text(*align, pooled.owner(event), lengths.0, lengths.1);
+                LayoutEvent::Align(alignment) => {
+                    let what = padding_text(alignment, pooled.owner(event), part.new.start);
                     ("padding", pick("event", event), what)
                 }
             },

@@ -83,10 +83,7 @@ impl Expected {
     }
 
     fn is_padding(&self, event: usize) -> bool {
-        matches!(
-            self.recording.pooled().events[event],
-            LayoutEvent::Align { .. }
-        )
+        matches!(self.recording.pooled().events[event], LayoutEvent::Align(_))
     }
 
     /// How much padding a round changes, from the one before or from what was recorded.

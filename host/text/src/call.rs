@@ -168,7 +168,8 @@ mod tests {
 
     #[test]
     fn a_call_stays_the_same_however_it_holds_its_bytes() {
-        let text = "n; l 0; b 0102; a 4; a 8 3; u 1 0 1; r 1 0 0 -4; j 0 5 0 e; c 07; k 0; o 4 1 l0 -9";
+        let text =
+            "n; l 0; b 0102; a 4; a 8 3; u 1 0 1; r 1 0 0 -4; j 0 5 0 e; c 07; k 0; o 4 1 l0 -9";
         let read = read_text(text, None, |call, calls| {
             calls.push(call);
             Ok(())

@@ -1,5 +1,9 @@
 //! What alignments spend.
 
+use std::fmt;
+
+use crate::counted;
+
 /// The most bytes that an alignment spends where nothing else is said: enough for every multiple.
 pub const DEFAULT_MOST: u32 = 4095;
 
@@ -41,6 +45,17 @@ impl Padding {
     }
 }
 
+/// `11 bytes of padding`, `no padding`, or `skipped, 7 needed`.
+impl fmt::Display for Padding {
+    fn fmt(&self, f: &mut fmt::Formatter<'_>) -> fmt::Result {
+        match self {
+            Self::Spent(0) => f.write_str("no padding"),
+            Self::Spent(needed) => write!(f, "{} of padding", counted(*needed as usize, "byte")),
+            Self::Skipped(needed) => write!(f, "skipped, {needed} needed"),
+        }
+    }
+}
+
 #[cfg(test)]
 mod tests {
     use super::*;
@@ -56,6 +71,16 @@ mod tests {
         assert_eq!(Padding::at(u64::MAX, 1 << 31, 1), Padding::Spent(1));
         assert_eq!(Padding::Skipped(7).spent(), 0);
         assert_eq!(Padding::Spent(7).spent(), 7);
+    }
+
+    #[test]
+    fn in_words() {
+        let words = [Padding::Spent(0), Padding::Spent(1), Padding::Skipped(7)];
+        let words = words.map(|padding| padding.to_string());
+        assert_eq!(
+            words,
+            ["no padding", "1 byte of padding", "skipped, 7 needed"]
+        );
     }
 
     #[test]
