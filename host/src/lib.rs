@@ -74,7 +74,7 @@ pub use recording::{
     Pooled, PooledConstant, Recording, RelaxableJump, RelocTarget, Sym,
 };
 pub use refusal::Refusal;
-pub use rounds::{Change, Lengthened, Mismatch, Round, Rounds};
+pub use rounds::{Change, Lengthened, Mismatch, Round, Rounds, Turn};
 pub use sheet::{Sheet, Unwritable, symbols_named, write_sheet};
 pub use sheet_text::{
     Arch, Call, Condition, DEFAULT_MOST, Definition, ExternalName, LabelUse, Padding, Reach, Reloc,

@@ -5,9 +5,9 @@ use std::fmt;
 use std::ops::Range;
 
 use crate::ffi::Segment;
-use crate::recording::{LayoutEvent, Pooled, Recording, RelaxableJump};
+use crate::recording::{Alignment, LayoutEvent, Pooled, Recording, RelaxableJump};
 use crate::relax::{deciding, events_before, layout, map, moved};
-use crate::{CodeBufferFinalized, CodeOffset};
+use crate::{CodeBufferFinalized, CodeOffset, Padding};
 use sheet_text::counted;
 
 /// A jump that a round made long, and why.
@@ -38,6 +38,17 @@ pub struct Change {
     pub by: i32,
 }
 
+/// An alignment with a ceiling that a round skips and the round before did not, or the reverse; of round 1, one that is skipped.
+#[derive(Clone, Copy, Debug, PartialEq, Eq)]
+pub struct Turn {
+    /// The alignment's index among the events.
+    pub event: usize,
+    /// What it comes to in this round.
+    pub padding: Padding,
+    /// What it came to in the round before; nothing in round 1.
+    pub before: Option<Padding>,
+}
+
 impl Lengthened {
     /// What the short form could not hold: the label's offset less the jump's end.
     pub fn distance(&self) -> i64 {
@@ -57,6 +68,8 @@ impl Lengthened {
 pub struct Round {
     /// The jumps that this round makes long.
     pub lengthened: Vec<Lengthened>,
+    /// The alignments that it skips, or no longer does.
+    pub turns: Vec<Turn>,
     /// Bytes of code and pool in this layout.
     pub len: u32,
 }
@@ -99,6 +112,7 @@ impl Rounds {
         let mut short = short_jumps(&pooled, &first);
         let mut rounds = Vec::new();
         let mut changes = Changes::new(pooled.events.len());
+        let mut ceilings = Ceilings::new(&pooled);
         let settled = loop {
             let segments = layout(&pooled.events, &long);
             changes.note(&segments);
@@ -109,6 +123,7 @@ impl Rounds {
             let settles = lengthened.is_empty();
             rounds.push(Round {
                 lengthened,
+                turns: ceilings.note(&segments),
                 len: map(&segments, pooled.len),
             });
             if settles {
@@ -228,6 +243,56 @@ impl Changes {
             }
         }
         self.lengths = lengths;
+    }
+}
+
+/// What the alignments that may be skipped come to, from round to round.
+struct Ceilings {
+    alignments: Vec<(usize, Alignment)>,
+    /// What each came to in the last round; empty before the first.
+    before: Vec<Padding>,
+    kept: usize,
+}
+
+impl Ceilings {
+    fn new(pooled: &Pooled) -> Self {
+        let events = pooled.events.iter().enumerate();
+        let alignments = events.filter_map(|(event, entry)| match entry {
+            LayoutEvent::Align(align) if align.most < align.align - 1 => Some((event, *align)),
+            _ => None,
+        });
+        Self {
+            alignments: alignments.collect(),
+            before: Vec::new(),
+            kept: 0,
+        }
+    }
+
+    /// Compares a round's layout with that of the round before.
+    fn note(&mut self, segments: &[Segment]) -> Vec<Turn> {
+        let now = |(event, align): &(usize, Alignment)| {
+            let start = segments[*event].new_start;
+            (*event, align.padding_at(start))
+        };
+        let paddings: Vec<(usize, Padding)> = self.alignments.iter().map(now).collect();
+        let before = self.before.iter().copied().map(Some);
+        let before = before.chain(std::iter::repeat(None));
+        let is_skipped = |padding| matches!(padding, Padding::Skipped(_));
+        let turns = paddings.iter().zip(before);
+        let turns = turns.filter(|((_, padding), before)| {
+            is_skipped(*padding) != before.is_some_and(is_skipped)
+        });
+        let turns = turns.take(Changes::MOST_KEPT - self.kept);
+        let turns: Vec<Turn> = turns
+            .map(|(&(event, padding), before)| Turn {
+                event,
+                padding,
+                before,
+            })
+            .collect();
+        self.kept += turns.len();
+        self.before = paddings.into_iter().map(|(_, padding)| padding).collect();
+        turns
     }
 }
 

@@ -3,7 +3,7 @@
 use std::fmt::Write;
 
 use sheet_text::counted;
-use wargnifla::{Change, Extent, Lengthened, Pooled, Recording, Round, Style};
+use wargnifla::{Change, Extent, Lengthened, Pooled, Recording, Round, Style, Turn};
 
 use super::input::Input;
 use super::report::MOST_LINES;
@@ -56,6 +56,14 @@ impl<'a> RoundsReport<'a> {
 
     fn round(&self, out: &mut String, number: usize, round: &Round) {
         let _ = writeln!(out, "{number:>8}  {round}");
+        let shown = self.shown(round.turns.len());
+        for turn in &round.turns[..shown] {
+            let _ = writeln!(out, "          {}", self.turn(number, turn));
+        }
+        if shown < round.turns.len() {
+            let left = counted(round.turns.len() - shown, "more alignment");
+            let _ = writeln!(out, "          ... {left}");
+        }
         let shown = self.shown(round.lengthened.len());
         for step in &round.lengthened[..shown] {
             self.step(out, step);
@@ -64,6 +72,14 @@ impl<'a> RoundsReport<'a> {
             let left = counted(round.lengthened.len() - shown, "more jump");
             let _ = writeln!(out, "          ... {left}");
         }
+    }
+
+    /// `align 8 3 recorded at 9 (line 6): 2 bytes of padding; in round 1: skipped, 5 needed`.
+    fn turn(&self, number: usize, turn: &Turn) -> String {
+        let before = turn.before.map_or(String::new(), |before| {
+            format!("; in round {}: {before}", number - 1)
+        });
+        format!("{}: {}{before}", self.event(turn.event), turn.padding)
     }
 
     fn step(&self, out: &mut String, step: &Lengthened) {
