@@ -57,12 +57,12 @@ fn finished_text(placed: &Placed) -> String {
     format!("finished: {}", counted(placed.len as usize, "byte"))
 }
 
-/// `["jmp", start, length, label, "line 6"]`; the label of an alignment is -1.
+/// `["jmp", start, length, label, "line 6"]`, or `["align 8 3", start, length, -1, "line 6", multiple, most]`.
 fn events(picture: &Picture<'_>, placed: &Placed) -> String {
     array(placed.pooled.events.iter().enumerate().map(|(i, event)| {
-        let label = match event {
-            LayoutEvent::Jump(jump) => jump.label.id().to_string(),
-            LayoutEvent::Align(_) => "-1".into(),
+        let (label, ceiling) = match event {
+            LayoutEvent::Jump(jump) => (jump.label.id().to_string(), None),
+            LayoutEvent::Align(align) => ("-1".into(), Some([align.align, align.most])),
         };
         let mut what = event.mnemonic();
         if let Some(constant) = placed.pooled.owner(i) {
@@ -70,13 +70,15 @@ fn events(picture: &Picture<'_>, placed: &Placed) -> String {
         }
         let len = event.end() - event.start();
         let place = picture.places.get(i).map_or("", String::as_str);
-        array([
+        let entries = [
             string(&what),
             event.start().to_string(),
             len.to_string(),
             label,
             string(place),
-        ])
+        ];
+        let ceiling = ceiling.into_iter().flatten().map(|word| word.to_string());
+        array(entries.into_iter().chain(ceiling))
     }))
 }
 

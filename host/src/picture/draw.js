@@ -169,9 +169,10 @@ class Drawing {
 
     padding(index) {
         const { x, shows } = this.frame, start = this.layout.start(index), end = this.layout.ends[index];
-        const kind = this.layout.changed(index) ? "padding changed" : "padding";
+        const skipped = isSkipped(this.layout.padding(index)) ? "skipped " : "";
+        const kind = `${skipped}${this.layout.changed(index) ? "padding changed" : "padding"}`;
         if (!shows(x(start), x(end)) || !this.isNew(kind, Math.round(x(start)), Math.round(x(end)))) return;
-        const group = this.choice(`event${index}`, "event", `${eventText(index)}, ${count(end - start, "byte")} of padding`);
+        const group = this.choice(`event${index}`, "event", `${eventText(index)}, ${paddingText(this.layout.padding(index))}`);
         if (start === end) {
             this.add("path", { class: `empty ${kind}`, d: `M${x(start) - 4} ${TOP - 1}h8l-4 7z` }, group);
             return;

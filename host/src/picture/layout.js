@@ -1,12 +1,13 @@
 "use strict";
 
-// What the page shows, and where everything stands in each step. All numbers come from the program that wrote the page; this only adds them up.
+// What the page shows, and where everything stands in each step. All numbers come from the program that wrote the page; this only adds them up, and
+// counts how far a skipped alignment is from its multiple.
 //
 // hex        whether offsets are hexadecimal
 // recorded   the sentence of the first step
 // finished   the sentence of the last step
 // code, len  bytes recorded, without and with the pool
-// events     [what, start, length, label or -1, where it comes from], those of the pool last
+// events     [what, start, length, label or -1, where it comes from], those of the pool last; of an alignment multiple and most follow
 // labels     [events before it, bytes behind them, name], or 0 if it is not bound
 // constants  [number, label, size], one for each event of the pool
 // fields     [events before it, bytes behind them, size, label, kind]
@@ -19,8 +20,8 @@ const SHORT = 2;
 const FARTHEST_BACK = -128;
 const FARTHEST_AHEAD = 127;
 
-const EVENTS = DATA.events.map(([what, start, length, label, place], index) => ({
-    what, start, length, label, place,
+const EVENTS = DATA.events.map(([what, start, length, label, place, multiple, most], index) => ({
+    what, start, length, label, place, multiple, most,
     isJump: label >= 0,
     gap: start - (index > 0 ? DATA.events[index - 1][1] + DATA.events[index - 1][2] : 0),
     changes: [],
@@ -126,11 +127,41 @@ class Layout {
         return this.current.changes.get(event) || 0;
     }
 
+    // What an alignment spends and what it needs to reach its multiple.
+    padding(event) {
+        return paddingAt(event, this.ends[event], this.lengths[event]);
+    }
+
+    // The same in the step before.
+    paddingBefore(event) {
+        return paddingAt(event, this.endsBefore[event], this.lengths[event] - this.changed(event));
+    }
+
+    // The alignments that are skipped here and were not in the step before, or the reverse; in the first two steps those that are skipped.
+    turns() {
+        const isTurn = event => isSkipped(this.padding(event)) !== (this.step > 1 && isSkipped(this.paddingBefore(event)));
+        return [...EVENTS.keys()].filter(event => canBeSkipped(event) && isTurn(event));
+    }
+
     state(jump) {
         if (this.step === 0) return "recorded";
         if (this.current.grown.has(jump)) return "grown";
         return this.lengths[jump] > SHORT ? "long" : "short";
     }
+}
+
+function paddingAt(event, end, spent) {
+    const { multiple } = EVENTS[event], past = (end - spent) % multiple;
+    return { spent, needed: past === 0 ? 0 : multiple - past };
+}
+
+function isSkipped({ spent, needed }) {
+    return spent < needed;
+}
+
+function canBeSkipped(event) {
+    const { isJump, multiple, most } = EVENTS[event];
+    return !isJump && most < multiple - 1;
 }
 
 // The events between a jump and its label: from the first up to, without it, the second.

@@ -190,6 +190,7 @@ function prepareToPrint() {
 
 function start() {
     document.getElementById("rounds").hidden = false;
+    document.getElementById("with-skipped").hidden = ![...EVENTS.keys()].some(canBeSkipped);
     document.getElementById("with-fields").hidden = DATA.fields.length === 0;
     document.getElementById("with-constants").hidden = DATA.constants.length === 0;
     for (const [id, action] of Object.entries(BUTTONS)) document.getElementById(id).addEventListener("click", action);

@@ -135,10 +135,27 @@ function sayJump(layout, jump) {
     ];
 }
 
+// `3 bytes of padding`, or `skipped, 7 needed`.
+function paddingText(padding) {
+    const { spent, needed } = padding;
+    if (isSkipped(padding)) return `skipped, ${needed} needed`;
+    return spent === 0 ? "no padding" : `${count(spent, "byte")} of padding`;
+}
+
+// `align 8 3 recorded at 9 (line 6): 2 bytes of padding; in round 1: skipped, 5 needed`.
+function turnText(layout, event) {
+    const before = STEPS[layout.step - 1]?.number;
+    const then = before === undefined ? "" : `; in round ${before}: ${paddingText(layout.paddingBefore(event))}`;
+    return `${eventText(event)}: ${paddingText(layout.padding(event))}${then}`;
+}
+
 function sayPadding(layout, event) {
-    const start = layout.start(event), end = layout.ends[event];
+    const start = layout.start(event), end = layout.ends[event], padding = layout.padding(event);
     const first = layout.step > 1 && DATA.of > 1 ? `${DATA.first[event]} in round 1, ` : "";
-    const now = `${count(end - start, "byte")} of padding, from ${offset(start)} to ${offset(end)}; ${first}${EVENTS[event].length} recorded.`;
+    const spends = isSkipped(padding)
+        ? `skipped at ${offset(start)}: ${padding.needed} needed, at most ${EVENTS[event].most}`
+        : `${paddingText(padding)}, from ${offset(start)} to ${offset(end)}`;
+    const now = `${spends}; ${first}${EVENTS[event].length} recorded.`;
     const changes = changesUpTo(event, layout.step).map(changeText);
     const said = [element("h2", eventText(event)), element("p", now)];
     if (changes.length > 0) said.push(element("p", "What moved in front of it changed what it needs:"), list(changes, "change"));
@@ -176,6 +193,8 @@ function lesson(layout) {
 function sayStep(layout) {
     const { grown, left } = layout.current;
     const said = left > 0 ? [element("p", `${count(left, "round")} before this one are left out of this page; their changes are added up.`)] : [];
+    const turns = layout.turns().map(event => turnText(layout, event));
+    if (turns.length > 0) said.push(list(turns, "alignment"));
     const reasons = [...grown].map(jump => {
         const text = `${eventText(jump)}: ${verdict(layout, jump)}`;
         return [text, ...history(layout, jump)];

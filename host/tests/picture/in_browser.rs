@@ -3,7 +3,7 @@
 use std::iter::repeat_with;
 
 use wargnifla::{
-    Arch, Change, CodeBuffer, LayoutEvent, Lengthened, Recording, Round, Rounds, read_text,
+    Arch, Change, CodeBuffer, LayoutEvent, Lengthened, Recording, Round, Rounds, Turn, read_text,
     symbols_named,
 };
 
@@ -116,6 +116,7 @@ impl Expected {
                 jumps - long - grown,
                 self.changed(number)
             ));
+            lines.extend(round.turns.iter().map(|turn| turned(turn, number)));
             for step in &round.lengthened {
                 lines.push(format!(
                     "{} at {} less its own end at {} is {}, outside -128..127: it becomes long.",
@@ -140,6 +141,14 @@ impl Expected {
     }
 }
 
+/// What an alignment comes to that is skipped in a round and was not in the one before, or the reverse.
+fn turned(turn: &Turn, round: usize) -> String {
+    let before = turn.before.map_or(String::new(), |before| {
+        format!("; in round {}: {before}", round - 1)
+    });
+    format!("): {}{before}", turn.padding)
+}
+
 /// Why the distance of a jump is another than in round 1.
 fn history(step: &Lengthened) -> Vec<String> {
     if step.crossed.is_empty() {
@@ -162,11 +171,16 @@ fn drawn(random: &mut Random) -> String {
     let mut text = String::new();
     for _ in 0..20 + random.below(30) {
         let label = ["a", "b", "c", "d"][random.below(4) as usize];
-        text += &match random.below(10) {
+        text += &match random.below(11) {
             0..=2 => format!("jmp {label}\n"),
             3 | 4 => format!("jne {label}\n"),
             5 => format!("align {}\n", 1 << random.below(6)),
-            6 if !unbound.is_empty() => {
+            6 => format!(
+                "zeros 5\nalign {} {}\n",
+                8 << random.below(3),
+                1 + random.below(12)
+            ),
+            7 if !unbound.is_empty() => {
                 let next = random.below(unbound.len() as u32) as usize;
                 format!("{}:\n", unbound.swap_remove(next))
             }
@@ -184,7 +198,9 @@ fn is_worth_it(text: &str) -> bool {
     let mut steps = rounds.rounds().iter().flat_map(|round| &round.lengthened);
     let is_cut = |round: &Round| {
         let mut histories = round.lengthened.iter().map(|step| step.crossed.len());
-        round.lengthened.len() > MOST_SAID || histories.any(|changes| changes > MOST_SAID)
+        round.lengthened.len() > MOST_SAID
+            || round.turns.len() > MOST_SAID
+            || histories.any(|changes| changes > MOST_SAID)
     };
     steps.any(|step| !step.crossed.is_empty()) && !rounds.rounds().iter().any(is_cut)
 }
@@ -296,6 +312,37 @@ fn padding_and_label_of_a_constant_are_explained() {
     let expected = [
         "label weights at 64Constant 0 stands here, 64 bytes.No jump goes to it.",
         "align 64 for constant 02 bytes of padding, from 62 to 64; 58 recorded.No jump crosses it.",
+    ];
+    assert_eq!(noted, expected);
+}
+
+#[test]
+fn an_alignment_that_is_skipped_is_explained() {
+    let Some(browser) = find() else { return };
+    let script = format!(
+        "{TOOLS}
+        note(by('#strip .skipped').length);
+        note(detail());
+        press('ArrowRight');
+        note(by('#strip .skipped').length);
+        note(detail());
+        note(document.getElementById('with-skipped').hidden);"
+    );
+    let page = page(&sheet("ceiling"));
+    let noted = lines(&browser, &page, "step=1&pick=event2", &script);
+    let crossed = "Crossed by je recorded at 0 (line 12), jle recorded at 6 (line 13); \
+                   what it grows by is added to their distance.";
+    let expected = [
+        "2",
+        &format!(
+            "align 32 10 recorded at 26 (line 15)skipped at 18: 14 needed, at most 10; 6 recorded.{crossed}"
+        ),
+        "1",
+        &format!(
+            "align 32 10 recorded at 26 (line 15)10 bytes of padding, from 22 to 32; 0 in round 1, 6 recorded.\
+             What moved in front of it changed what it needs:align 32 10 recorded at 26 (line 15) grew by 10 after round 1{crossed}"
+        ),
+        "false",
     ];
     assert_eq!(noted, expected);
 }

@@ -85,6 +85,17 @@ fn recorded_and_finished_bytes_stand_next_to_each_other() {
 }
 
 #[test]
+fn alignments_have_their_multiple_and_the_most_that_they_spend() {
+    let page = page("jmp end; align 16; bytes 90; align 8 6; end:");
+    let events = "\"events\":[[\"jmp\",0,5,0,\"line 1\"],[\"align 16\",5,11,-1,\"line 1\",16,4095],\
+                  [\"align 8 6\",17,0,-1,\"line 1\",8,6]]";
+    assert!(page.contains(events), "{page}");
+    let row = "<tr class=\"padding\" data-pick=\"event2\"><td>17</td><td></td><td>17</td><td></td>\
+               <td>align 8, at most 6: skipped, 7 needed</td></tr>";
+    assert!(page.contains(row), "{page}");
+}
+
+#[test]
 fn without_a_jump_the_page_says_that_nothing_was_relaxed() {
     for text in ["", "bytes 90", "arch aarch64; align 8; zeros 4", "arch x86"] {
         let page = page(text);
