@@ -23,6 +23,7 @@ static void record_all(void) {
     accept("bytes", wargnifla_tables_put_bytes(&tables, bytes, sizeof bytes));
     accept("jump", wargnifla_tables_jump(&tables, 35, 5, label, WARGNIFLA_ALWAYS));
     accept("align", wargnifla_tables_align(&tables, 64));
+    accept("align", wargnifla_tables_align_within(&tables, 64, 15));
     accept("bytes", wargnifla_tables_put_bytes(&tables, bytes, sizeof bytes));
     accept("bind", wargnifla_tables_bind(&tables, label));
     accept("constant", wargnifla_tables_add_constant(&tables, bytes, 33, &constant));

@@ -30,11 +30,13 @@ static void record_nothing(void) {
 static void find_no_room(void) {
     static const uint8_t byte[1] = {0};
     wargnifla_tables without_code = no_tables(), without_constants = no_tables(), without_relocs = no_tables(), without_labels = no_tables();
+    wargnifla_tables without_events = no_tables();
     uint32_t number;
     print_answer("a byte", wargnifla_tables_put_bytes(&without_code, byte, sizeof byte));
     print_answer("a constant", wargnifla_tables_add_constant(&without_constants, NULL, 0, &number));
     print_answer("a relocation", wargnifla_tables_add_reloc(&without_relocs, 0, WARGNIFLA_RELOC_Abs8, 0, 0));
     print_answer("a label", wargnifla_tables_new_label(&without_labels, &number));
+    print_answer("an alignment", wargnifla_tables_align_within(&without_events, 8, 0));
 }
 
 /* A constant of no bytes is one: it is pooled with its alignment alone. */
@@ -66,6 +68,7 @@ static void lend_nothing(void) {
     uint32_t out;
     print_answer("start", wargnifla_start(WARGNIFLA_X64, 0, NULL, 0));
     print_answer("put_bytes", wargnifla_put_bytes(NULL, 0, NULL, 0, NULL, 0));
+    print_answer("align", wargnifla_align(NULL, 0, NULL, 0, NULL, 0, 1, 0));
     print_answer("add_constant", wargnifla_add_constant(NULL, 0, NULL, 0, NULL, 0, &out));
     print_answer("add_reloc", wargnifla_add_reloc(NULL, 0, NULL, 0, NULL, 0, 0, 0, 0, 0));
     print_answer("run_sheet", wargnifla_run_sheet(NULL, 0, &out, NULL, 0, NULL, 0, NULL, 0, NULL, 0, NULL, 0, NULL, 0, NULL, 0, NULL, 0, NULL, 0));

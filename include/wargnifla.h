@@ -2,7 +2,7 @@
  *
  * A recording is made call by call: bytes, labels, alignments, fields that name labels, jumps, constants, relocations. Finishing it pools its
  * constants, takes every jump for short and lengthens those that then can't reach, round by round, and writes the code. Its relocations can then be
- * written as ELF has them, for the system linker. Finished recordings can be joined into one, which fills the calls from one to another. The nine
+ * written as ELF has them, for the system linker. Finished recordings can be joined into one, which fills the calls from one to another. The ten
  * functions are proved to do what crates/wargnifla/specs/ says; the inline functions at the end of this file are tested.
  *
  * Every function accepts every input and ends. It allocates nothing and keeps nothing: a recording is the counts and the tables that the caller lends
@@ -97,8 +97,9 @@ enum wargnifla_call {
     WARGNIFLA_CALL_BYTES = 1,          /* count (0 to 12), the bytes: code by count */
     WARGNIFLA_CALL_NEW_LABEL = 2,      /* none: labels by 1 */
     WARGNIFLA_CALL_BIND = 3,           /* label: nothing; the label is bound to the current offset */
-    WARGNIFLA_CALL_ALIGN = 4,          /* multiple (a power of two, at most 4,096): code by the padding, less than the multiple; on X64 events by 1,
-                                          for a padding of length 0 too */
+    WARGNIFLA_CALL_ALIGN = 4,          /* multiple (a power of two, at most 4,096), most (0: WARGNIFLA_DEFAULT_MOST): code by the padding, what the
+                                          multiple needs, less than it, or nothing where that exceeds most; on X64 events by 1, for a padding of
+                                          length 0 too */
     WARGNIFLA_CALL_USE = 5,            /* offset, label, code: uses by 1 */
     WARGNIFLA_CALL_REF = 6,            /* offset, label, code, signed addend: on X64 refs by 1 */
     WARGNIFLA_CALL_JUMP = 7,           /* start, length, label, condition: on X64 events by 1; the last length bytes, from start on, are a jump */
@@ -106,6 +107,11 @@ enum wargnifla_call {
     WARGNIFLA_CALL_CONSTANT_LABEL = 9, /* constant: labels and asked by 1, where it has no label yet */
     WARGNIFLA_CALL_RELOCATION = 10     /* offset, kind, target, signed addend: relocations by 1 */
 };
+
+/* The most bytes that an alignment spends, where nothing else is said: enough for every multiple. An alignment may have any other number instead. At
+ * an offset that needs more to reach its multiple it spends nothing: it is skipped. So it is when it is recorded, by the current offset, and on X64
+ * again in each layout of finish, by its new offset. One that was skipped may be padded there, and the reverse. */
+#define WARGNIFLA_DEFAULT_MOST 4095
 
 /* A jump's condition: 0 to 15 are the low four bits of Intel's opcode (0 o, 1 no, 2 b, 3 ae, 4 e, 5 ne, 6 be, 7 a, 8 s, 9 ns, 10 p, 11 np, 12 l,
  * 13 ge, 14 le, 15 g), and this is none: jmp. */
@@ -240,12 +246,15 @@ enum wargnifla_count {
  *   code         a byte                                                                 1
  *   labels       offset, or WARGNIFLA_NONE                                              4
  *   events       kind (enum wargnifla_event), start, length,
- *                label or multiple, condition or 0                                     20
+ *                label or multiple, condition or most                                  20
  *   uses         offset, label, code                                                   12
  *   refs         offset, label, code, signed addend                                    16
  *   constants    size, label or WARGNIFLA_NONE, 64 bytes                               72
  *   asked        constants whose labels were asked for, in order                        4
  *   relocations  offset, kind, target, 0, signed addend of 64 bits                     24
+ *
+ * The last word of an alignment is the most that it may spend, WARGNIFLA_DEFAULT_MOST where that is the default: 0 is here a ceiling of 0. Its length
+ * is what it spends at its start by that word, and finish answers 1 to any other.
  *
  * A full table ends the recording: 11 and 12 are recorded, and no later call takes them back. So make room before a call, for all that its kind
  * extends (enum wargnifla_call): move the table to a longer place, entries and counts as they are. At a limit there is no more room to make.
@@ -318,10 +327,15 @@ uint32_t wargnifla_finish(uint8_t *counts, size_t counts_len, const uint8_t *cod
 #define WARGNIFLA_FINISH_STACK 139264
 #define WARGNIFLA_JOIN_STACK 532480
 
-/* Three calls that a sheet carries only in part. */
+/* Four calls that a sheet carries only in part. */
 
 /* Appends bytes, any number of them: code by bytes_len. */
 uint32_t wargnifla_put_bytes(uint8_t *counts, size_t counts_len, uint8_t *code, size_t code_len, const uint8_t *bytes, size_t bytes_len);
+
+/* Pads to a multiple as WARGNIFLA_CALL_ALIGN does, and answers as it does, but for 0: most is any number, and 0 is here a ceiling of 0, with which
+ * nothing is ever spent. Code by what is spent; on X64 events by 1, where nothing is spent too. */
+uint32_t wargnifla_align(uint8_t *counts, size_t counts_len, uint8_t *code, size_t code_len, uint8_t *events, size_t events_len, uint32_t multiple,
+                         uint32_t most);
 
 /* A new constant of at most 64 bytes, without a label: constants by 1. number becomes its number, or WARGNIFLA_NONE where it is refused. */
 uint32_t wargnifla_add_constant(uint8_t *counts, size_t counts_len, uint8_t *constants, size_t constants_len, const uint8_t *bytes,
@@ -398,9 +412,9 @@ uint32_t wargnifla_join(const uint8_t *pieces, size_t pieces_len, const uint8_t 
                         size_t output_len, uint8_t *joined_labels, size_t joined_labels_len, uint8_t *joined_relocs, size_t joined_relocs_len,
                         uint8_t *record, size_t record_len);
 
-/* How long the finished code can be, from numbers known when memory is set aside. A jump gains at most 4 bytes, an alignment 4,095, and a constant
- * that is asked for takes at most WARGNIFLA_MOST_POOLED, its 64 bytes and 63 of padding. Where finish answers 0 the code is never longer than
- * WARGNIFLA_MOST_CODE, since no longer output may be lent. */
+/* How long the finished code can be, from numbers known when memory is set aside. A jump gains at most 4 bytes, an alignment 4,095, skipped when it was
+ * recorded or not, and a constant that is asked for takes at most WARGNIFLA_MOST_POOLED, its 64 bytes and 63 of padding. Where finish answers 0 the
+ * code is never longer than WARGNIFLA_MOST_CODE, since no longer output may be lent. */
 #define WARGNIFLA_MOST_POOLED 127
 #define WARGNIFLA_MOST_OUTPUT(code, jumps, alignments, asked) \
     WARGNIFLA_CAPPED((size_t)(code) + 4 * (size_t)(jumps) + 4095 * (size_t)(alignments) + WARGNIFLA_MOST_POOLED * (size_t)(asked))
@@ -638,6 +652,12 @@ static inline uint32_t wargnifla_tables_align(wargnifla_tables *tables, uint32_t
     return wargnifla_tables_call(tables, WARGNIFLA_CALL_ALIGN, multiple, 0, 0, 0);
 }
 
+/* With a ceiling, any number: 0 is one of 0. */
+static inline uint32_t wargnifla_tables_align_within(wargnifla_tables *tables, uint32_t multiple, uint32_t most) {
+    return wargnifla_align(tables->counts, sizeof tables->counts, tables->code.bytes, tables->code.len, tables->events.bytes, tables->events.len,
+                           multiple, most);
+}
+
 static inline uint32_t wargnifla_tables_use(wargnifla_tables *tables, uint32_t offset, uint32_t label, uint32_t code) {
     return wargnifla_tables_call(tables, WARGNIFLA_CALL_USE, offset, label, code, 0);
 }
@@ -692,12 +712,20 @@ static inline uint32_t wargnifla_count_open(const wargnifla_tables *tables) {
            wargnifla_open_entries(tables, &tables->relocs, WARGNIFLA_COUNT_RELOCS, WARGNIFLA_RELOC_BYTES, 2);
 }
 
+/* What an alignment spends at an offset, if it may spend at most so many bytes: what the multiple, which is not 0, needs, or nothing. */
+static inline uint32_t wargnifla_padding_within(uint32_t offset, uint32_t multiple, uint32_t most) {
+    uint32_t needed = (multiple - offset % multiple) % multiple;
+    return needed <= most ? needed : 0;
+}
+
 /* By how much an event can be longer than recorded, modulo 2^64: a jump becomes at most 5 bytes long without a condition and 6 with one, an alignment
- * one less than its multiple. */
+ * one less than its multiple, or as long as it may spend, where that is less. */
 static inline uint64_t wargnifla_event_growth(const uint8_t *event) {
-    uint32_t length = wargnifla_word(event + 8), most = wargnifla_word(event + 12) - 1;
+    uint32_t length = wargnifla_word(event + 8), last = wargnifla_word(event + 16), most = wargnifla_word(event + 12) - 1;
     if (wargnifla_word(event) == WARGNIFLA_EVENT_JUMP)
-        most = wargnifla_word(event + 16) == WARGNIFLA_ALWAYS ? 5 : 6;
+        most = last == WARGNIFLA_ALWAYS ? 5 : 6;
+    else if (last < most)
+        most = last;
     return (uint64_t)most - length;
 }
 
@@ -707,8 +735,8 @@ static inline uint32_t wargnifla_constant_alignment(uint32_t size) { return size
 /* What a constant of a size can take in the pool: its bytes, and padding one less than its multiple. */
 static inline uint64_t wargnifla_pooled_growth(uint32_t size) { return (uint64_t)size + wargnifla_constant_alignment(size) - 1; }
 
-/* How long the finished code of a recording can be: what is recorded, every jump long, every padding one less than its multiple, and the pool; at
- * most WARGNIFLA_MOST_CODE. With an output of this length finish answers 23 only where the code is longer than any output that may be lent. */
+/* How long the finished code of a recording can be: what is recorded, every jump long, every padding as long as an alignment can spend, and the pool;
+ * at most WARGNIFLA_MOST_CODE. With an output of this length finish answers 23 only where the code is longer than any output that may be lent. */
 static inline size_t wargnifla_output_bound(const wargnifla_tables *tables) {
     size_t events = wargnifla_entries(tables, &tables->events, WARGNIFLA_COUNT_EVENTS, WARGNIFLA_EVENT_BYTES);
     size_t asked = wargnifla_entries(tables, &tables->asked, WARGNIFLA_COUNT_ASKED, WARGNIFLA_ASKED_BYTES);
