@@ -44,7 +44,8 @@ fn random_recording(random: &mut Random) -> Result<CodeBuffer, Error> {
         let label = labels[random.below(LABELS) as usize];
         match random.below(8) {
             0..=2 => put_jump(&mut buffer, label, random)?,
-            3 | 4 => buffer.try_align_to(1 << random.below(13))?,
+            3 => buffer.try_align_to(1 << random.below(13))?,
+            4 => buffer.try_align_to_within(1 << random.below(13), random.below(64))?,
             5 => put_constant(&mut buffer, random)?,
             6 if !buffer.is_bound(label) => buffer.try_bind_label(label)?,
             _ => buffer.put_bytes(&vec![0x90; random.below(150) as usize])?,

@@ -106,7 +106,7 @@ fn calls() {
         ("BYTES", Call::Bytes([].into())),
         ("NEW_LABEL", Call::NewLabel),
         ("BIND", Call::Bind(0)),
-        ("ALIGN", Call::Align(1)),
+        ("ALIGN", Call::align(1)),
         (
             "USE",
             Call::Use {
@@ -159,6 +159,10 @@ fn limits_and_the_stack_of_finish_and_join() {
     assert_eq!(number("WARGNIFLA_MOST_ENTRIES"), wargnifla::MOST_ENTRIES);
     assert_eq!(number("WARGNIFLA_MOST_CONSTANT"), wargnifla::MOST_CONSTANT);
     assert_eq!(number("WARGNIFLA_MOST_PIECES"), wargnifla::MOST_PIECES);
+    assert_eq!(
+        number("WARGNIFLA_DEFAULT_MOST"),
+        wargnifla::DEFAULT_MOST as usize
+    );
     assert_eq!(number("WARGNIFLA_FINISH_STACK"), wargnifla::FINISH_STACK);
     assert_eq!(number("WARGNIFLA_JOIN_STACK"), wargnifla::JOIN_STACK);
     let longest = AsmConstant {

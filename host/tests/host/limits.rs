@@ -30,6 +30,7 @@ fn labels() {
 #[test]
 fn events() {
     fills("", "a 1", "events (jumps and alignments)");
+    fills("b 90", "a 8 6", "events (jumps and alignments)");
 }
 
 #[test]

@@ -2,6 +2,7 @@
 
 mod bound;
 mod cases;
+mod ceilings;
 mod differences;
 mod elf_types;
 mod header;
@@ -9,6 +10,7 @@ mod join_boundary;
 mod join_refusals;
 mod joined_listings;
 mod joins;
+mod lent;
 mod limits;
 mod listings;
 mod open;

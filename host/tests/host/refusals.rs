@@ -479,8 +479,11 @@ fn draw(random: &mut Random, current: u32) -> Call {
     match number(10) {
         0 => Call::NewLabel,
         1 => Call::Bind(label),
-        2 => Call::Align(1 << number(6).min(13)),
-        3 => Call::Align(number(6)),
+        2 => Call::Align {
+            multiple: 1 << number(6).min(13),
+            most: number(20),
+        },
+        3 => Call::align(number(6)),
         4 => Call::Use {
             offset,
             label,

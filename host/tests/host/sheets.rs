@@ -1,6 +1,6 @@
 //! Binary sheets, run whole, against the same calls one by one.
 
-use wargnifla::{Arch, Call, CodeBuffer, Rounds, Sheet, write_sheet};
+use wargnifla::{Arch, Call, CodeBuffer, DEFAULT_MOST, Padding, Rounds, Sheet, write_sheet};
 
 use crate::random::Random;
 
@@ -36,9 +36,10 @@ fn draw(random: &mut Random) -> Vec<Call> {
                 offset += 4;
             }
             4 => {
-                let multiple = 1 << random.below(6);
-                calls.push(Call::Align(multiple));
-                offset = offset.next_multiple_of(multiple);
+                let (multiple, most) = (1 << random.below(6), random.below(20));
+                calls.push(Call::Align { multiple, most });
+                let most = if most == 0 { DEFAULT_MOST } else { most };
+                offset += Padding::at(offset.into(), multiple, most).spent();
             }
             5 if !unbound.is_empty() => {
                 let next = random.below(unbound.len() as u32);
@@ -62,7 +63,7 @@ fn draw(random: &mut Random) -> Vec<Call> {
 #[test]
 fn a_sheet_does_what_its_calls_do() {
     let mut random = Random(0x9E37_79B9_7F4A_7C15);
-    let mut relaxed = 0;
+    let (mut relaxed, mut turned) = (0, 0);
     for _ in 0..500 {
         let calls = draw(&mut random);
         let sheet = write_sheet(&calls).unwrap();
@@ -82,9 +83,13 @@ fn a_sheet_does_what_its_calls_do() {
         for step in rounds.rounds().iter().flat_map(|round| &round.lengthened) {
             assert_eq!(step.unexplained(), 0, "{step:?}");
         }
+        assert!(rounds.rounds().is_sorted_by_key(|round| round.len));
         relaxed += u32::from(finished.layouts() > 1);
+        let later = rounds.rounds().iter().skip(1);
+        turned += later.map(|round| round.turns.len()).sum::<usize>();
     }
     assert!(relaxed > 50, "{relaxed} recordings had a jump to lengthen");
+    assert!(turned > 20, "{turned} alignments changed between rounds");
 }
 
 #[test]
@@ -139,12 +144,12 @@ fn an_empty_sheet_changes_nothing() {
     assert_eq!(buffer.recording(), before);
 }
 
-/// How many bytes of its argument each kind uses, by document 01; those that bytes and constants count apart.
+/// How many bytes of its argument each kind uses, by documents 01 and 02; those that bytes and constants count apart.
 const USED: [(u8, usize); 10] = [
     (1, 4),
     (2, 0),
     (3, 4),
-    (4, 4),
+    (4, 8),
     (5, 12),
     (6, 16),
     (7, 16),
