@@ -407,12 +407,16 @@ mod tests {
     use super::*;
     use crate::{Arch, CodeBuffer, read_text};
 
-    fn steps(text: &str) -> Vec<Vec<Lengthened>> {
+    fn rounds(text: &str) -> Rounds {
         let mut buffer = CodeBuffer::new(Arch::X64);
         for call in &read_text(text).unwrap().calls {
             buffer.call(call).unwrap();
         }
-        let rounds = Rounds::new(&buffer.recording());
+        Rounds::new(&buffer.recording())
+    }
+
+    fn steps(text: &str) -> Vec<Vec<Lengthened>> {
+        let rounds = rounds(text);
         let steps = rounds.rounds().iter();
         steps.map(|round| round.lengthened.clone()).collect()
     }
@@ -448,6 +452,37 @@ mod tests {
             (-126, -134)
         );
         assert_eq!(steps[1][0].unexplained(), 0);
+    }
+
+    #[test]
+    fn alignments_that_are_skipped_or_no_longer_are_named() {
+        // The jump grows by 3 after round 1. The first alignment stands at 13 and then at 16. Where it is skipped in round 1 all behind it is pushed by
+        // 3, the second from 31 to 34; where it is padded there nothing behind it moves.
+        let turns = |most| {
+            let heads = format!("align 16 {most}; zeros 18; align 32 1; zeros 1; align 32 9");
+            let rounds = rounds(&format!("jmp far; zeros 11; {heads}; zeros 120; far:"));
+            let turns = rounds.rounds().iter().map(|round| round.turns.clone());
+            turns.collect::<Vec<_>>()
+        };
+        let turn = |event, padding, before| Turn {
+            event,
+            padding,
+            before,
+        };
+        use Padding::{Skipped, Spent};
+        let skipped = [
+            vec![turn(1, Skipped(3), None), turn(3, Skipped(31), None)],
+            vec![
+                turn(1, Spent(0), Some(Skipped(3))),
+                turn(2, Skipped(30), Some(Spent(1))),
+            ],
+        ];
+        assert_eq!(turns(2), skipped);
+        let padded = [
+            vec![turn(2, Skipped(30), None), turn(3, Skipped(29), None)],
+            vec![],
+        ];
+        assert_eq!(turns(3), padded);
     }
 
     #[test]

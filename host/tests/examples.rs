@@ -110,6 +110,18 @@ fn sheets_of_fields_and_constants() {
 }
 
 #[test]
+fn a_sheet_with_ceilings() {
+    shows(
+        "ceiling.txt",
+        "X64: 183 bytes, alignment 32, layouts 3, long jumps 2 of 5",
+        &[
+            "align 32, at most 10: skipped, 24 needed\n",
+            "align 32, at most 10: 6 bytes of padding, skipped when recorded\n",
+        ],
+    );
+}
+
+#[test]
 fn sheets_for_the_linker() {
     shows(
         "hello.txt",

@@ -92,6 +92,32 @@ fn a_field_under_a_constant_says_so() {
 }
 
 #[test]
+fn skipped_alignments_are_shown_where_they_stand() {
+    let text = "jmp end; b 11; a 8 2; a 4 1; here: end: b 22; c 33; k 0";
+    let expected = [
+        "       0  EB 02                       jmp short to label end at 4, distance 2",
+        "       2  11                          1 byte",
+        "       3                              align 8, at most 2: skipped, 5 needed, 2 recorded",
+        "       3  90                          align 4, at most 1: 1 byte of padding, 0 recorded",
+        "       4                              label end",
+        "       4                              label here",
+        "       4  22                          1 byte",
+        "       5  0F 1F 00                    align 8 for constant 0: 3 bytes of padding, 7 recorded",
+        "       8                              label 2",
+        "       8  33                          constant 0, label 2",
+    ];
+    assert_eq!(listed(Arch::X64, text, Extent::Brief), expected);
+    let lines = listed(Arch::X86, "b 11; a 8 6; a 4 3; b 22", Extent::Brief);
+    let expected = [
+        "       0  11                          1 byte",
+        "       1                              align 8, at most 6: skipped, 7 needed",
+        "       1  0F 1F 00                    align 4, at most 3: 3 bytes of padding",
+        "       4  22                          1 byte",
+    ];
+    assert_eq!(lines, expected);
+}
+
+#[test]
 fn alignments_off_x64_come_from_the_calls() {
     let lines = listed(Arch::AArch64, "b 01; a 8; b 02", Extent::Brief);
     assert_eq!(
