@@ -263,6 +263,23 @@ fn the_readme_shows_what_the_command_prints() {
     assert_eq!(shown("case-c.txt").trim_end(), expected.trim_end());
 }
 
+#[test]
+fn the_readme_shows_ceilings() {
+    let start = "    $ wargnifla --rounds sheets/ceiling.txt\n";
+    let expected = readme_between(start, "\n**What is still open**");
+    let shown = shown("ceiling.txt");
+    let mut rest = shown.as_str();
+    // The lines stand in this order, with others in the place of the dots.
+    for part in expected.split("...\n").map(str::trim_end) {
+        let (_, after) = rest.split_once(part).expect(part);
+        rest = after;
+    }
+    assert!(
+        rest.starts_with("\n\nfinished for X64: 183 bytes"),
+        "{rest}"
+    );
+}
+
 /// What an example program prints. Cargo builds the examples with the tests, into a folder beside the command.
 fn printed(example: &str) -> String {
     let mut program = PathBuf::from(env!("CARGO_BIN_EXE_wargnifla"));
