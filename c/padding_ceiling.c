@@ -45,6 +45,7 @@ static void relax(uint32_t bytes, uint32_t most) {
     wargnifla_record record;
     uint8_t output[CODE_ROOM];
     uint32_t end, start = JUMP_BYTES + bytes;
+    size_t bound;
     accept("new label", wargnifla_tables_new_label(&tables, &end));
     accept("bytes", wargnifla_tables_put_bytes(&tables, zeros, JUMP_BYTES));
     accept("jump", wargnifla_tables_jump(&tables, 0, JUMP_BYTES, end, WARGNIFLA_ALWAYS));
@@ -52,8 +53,10 @@ static void relax(uint32_t bytes, uint32_t most) {
     accept("align", wargnifla_tables_align_within(&tables, 8, most));
     accept("bind", wargnifla_tables_bind(&tables, end));
     printf("align 8, at most %u: %u recorded at %u, ", (unsigned)most, (unsigned)(offset_of(&tables) - start), (unsigned)start);
-    accept("finish", wargnifla_tables_finish(&tables, segments, ENTRY_ROOM, output, wargnifla_output_bound(&tables), &record));
-    printf("%u spent at %u; finished:", (unsigned)(segments[1].new_end - segments[1].new_start), (unsigned)segments[1].new_start);
+    bound = wargnifla_output_bound(&tables);
+    accept("finish", wargnifla_tables_finish(&tables, segments, ENTRY_ROOM, output, bound, &record));
+    printf("%u spent at %u; of at most %u bytes:", (unsigned)(segments[1].new_end - segments[1].new_start), (unsigned)segments[1].new_start,
+           (unsigned)bound);
     print_bytes(output, record.length);
 }
 

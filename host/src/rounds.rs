@@ -68,7 +68,7 @@ impl Lengthened {
 pub struct Round {
     /// The jumps that this round makes long.
     pub lengthened: Vec<Lengthened>,
-    /// The alignments that it skips, or no longer does.
+    /// The alignments that it skips and the round before did not, and the reverse. Of more than 4,194,304 in all those of the earliest rounds are kept.
     pub turns: Vec<Turn>,
     /// Bytes of code and pool in this layout.
     pub len: u32,

@@ -19,7 +19,7 @@ then joined, in the order given: calls of symbols that one of them defines are f
   --join                   join even one FILE, and so fill its calls of symbols that it defines itself
   --arch x86|x64|aarch64   the architecture, whatever the sheet says (x64 if neither says)
   --symbols N              how many symbols there are, whatever the sheet says (as many as it names if neither says)
-  --rounds                 show what each round of relaxation lengthened, and why
+  --rounds                 show what each round of relaxation lengthened, and why, and which alignments it skipped
   --open                   show how many entries name a label that is not bound, after each call; where one is refused, too
   --full                   show long runs of bytes, long tables and all rounds whole
   --hex                    show offsets in hexadecimal
