@@ -299,6 +299,18 @@ fn forward_jump() {
 }
 
 #[test]
+fn loop_heads() {
+    assert_eq!(
+        printed("loop_heads"),
+        "recorded at 24: 8 bytes of padding; finished at 24: 8 bytes of padding\n\
+         recorded at 58: 6 bytes of padding; finished at 54: 10 bytes of padding\n\
+         recorded at 100: skipped, 28 needed; finished at 96: no padding\n\
+         recorded at 117: skipped, 11 needed; finished at 109: skipped, 19 needed\n\
+         151 bytes\n"
+    );
+}
+
+#[test]
 fn pooled_constant() {
     assert_eq!(
         printed("pooled_constant"),
