@@ -218,15 +218,12 @@ pub(crate) fn padding_text(
     let owner = owner.map_or(String::new(), |constant| {
         format!(" for constant {}", constant.id())
     });
-    let (recorded, now) = (
-        alignment.padding_at(alignment.start),
-        alignment.padding_at(at),
-    );
-    let before = match (recorded, now) {
-        (Padding::Skipped(_), Padding::Skipped(_)) => String::new(),
-        (Padding::Skipped(_), Padding::Spent(_)) => ", skipped when recorded".into(),
-        (Padding::Spent(len), now) if now != recorded => format!(", {len} recorded"),
-        (Padding::Spent(_), _) => String::new(),
+    let recorded = alignment.padding_at(alignment.start);
+    let now = alignment.padding_at(at);
+    let before = match recorded {
+        _ if recorded == now || recorded.is_skipped() && now.is_skipped() => String::new(),
+        Padding::Skipped(_) => ", skipped when recorded".into(),
+        Padding::Spent(len) => format!(", {len} recorded"),
     };
     format!("align {}{most}{owner}: {now}{before}", alignment.align)
 }

@@ -246,11 +246,9 @@ impl Changes {
     }
 }
 
-/// What the alignments that may be skipped come to, from round to round.
+/// The alignments that may be skipped, and what each came to in the last round.
 struct Ceilings {
-    alignments: Vec<(usize, Alignment)>,
-    /// What each came to in the last round; empty before the first.
-    before: Vec<Padding>,
+    alignments: Vec<(usize, Alignment, Option<Padding>)>,
     kept: usize,
 }
 
@@ -258,40 +256,33 @@ impl Ceilings {
     fn new(pooled: &Pooled) -> Self {
         let events = pooled.events.iter().enumerate();
         let alignments = events.filter_map(|(event, entry)| match entry {
-            LayoutEvent::Align(align) if align.most < align.align - 1 => Some((event, *align)),
+            LayoutEvent::Align(align) if align.most < align.align - 1 => {
+                Some((event, *align, None))
+            }
             _ => None,
         });
         Self {
             alignments: alignments.collect(),
-            before: Vec::new(),
             kept: 0,
         }
     }
 
     /// Compares a round's layout with that of the round before.
     fn note(&mut self, segments: &[Segment]) -> Vec<Turn> {
-        let now = |(event, align): &(usize, Alignment)| {
-            let start = segments[*event].new_start;
-            (*event, align.padding_at(start))
-        };
-        let paddings: Vec<(usize, Padding)> = self.alignments.iter().map(now).collect();
-        let before = self.before.iter().copied().map(Some);
-        let before = before.chain(std::iter::repeat(None));
-        let is_skipped = |padding| matches!(padding, Padding::Skipped(_));
-        let turns = paddings.iter().zip(before);
-        let turns = turns.filter(|((_, padding), before)| {
-            is_skipped(*padding) != before.is_some_and(is_skipped)
-        });
-        let turns = turns.take(Changes::MOST_KEPT - self.kept);
-        let turns: Vec<Turn> = turns
-            .map(|(&(event, padding), before)| Turn {
-                event,
-                padding,
-                before,
-            })
-            .collect();
-        self.kept += turns.len();
-        self.before = paddings.into_iter().map(|(_, padding)| padding).collect();
+        let mut turns = Vec::new();
+        for (event, align, last) in &mut self.alignments {
+            let padding = align.padding_at(segments[*event].new_start);
+            let before = last.replace(padding);
+            let was_skipped = before.is_some_and(Padding::is_skipped);
+            if padding.is_skipped() != was_skipped && self.kept < Changes::MOST_KEPT {
+                self.kept += 1;
+                turns.push(Turn {
+                    event: *event,
+                    padding,
+                    before,
+                });
+            }
+        }
         turns
     }
 }

@@ -43,6 +43,11 @@ impl Padding {
             Self::Skipped(_) => 0,
         }
     }
+
+    /// Whether it is skipped.
+    pub const fn is_skipped(self) -> bool {
+        matches!(self, Self::Skipped(_))
+    }
 }
 
 /// `11 bytes of padding`, `no padding`, or `skipped, 7 needed`.
