@@ -449,11 +449,14 @@ mod tests {
     fn alignments_that_are_skipped_or_no_longer_are_named() {
         // The jump grows by 3 after round 1. The first alignment stands at 13 and then at 16. Where it is skipped in round 1 all behind it is pushed by
         // 3, the second from 31 to 34; where it is padded there nothing behind it moves.
-        let turns = |most| {
-            let heads = format!("align 16 {most}; zeros 18; align 32 1; zeros 1; align 32 9");
-            let rounds = rounds(&format!("jmp far; zeros 11; {heads}; zeros 120; far:"));
+        let turns = |text: &str| {
+            let rounds = rounds(text);
             let turns = rounds.rounds().iter().map(|round| round.turns.clone());
             turns.collect::<Vec<_>>()
+        };
+        let heads = |most| {
+            let heads = format!("align 16 {most}; zeros 18; align 32 1; zeros 1; align 32 9");
+            turns(&format!("jmp far; zeros 11; {heads}; zeros 120; far:"))
         };
         let turn = |event, padding, before| Turn {
             event,
@@ -468,12 +471,14 @@ mod tests {
                 turn(2, Skipped(30), Some(Spent(1))),
             ],
         ];
-        assert_eq!(turns(2), skipped);
+        assert_eq!(heads(2), skipped);
         let padded = [
             vec![turn(2, Skipped(30), None), turn(3, Skipped(29), None)],
             vec![],
         ];
-        assert_eq!(turns(3), padded);
+        assert_eq!(heads(3), padded);
+        let one_too_many = turns("jmp end; zeros 15; align 16 14; end:");
+        assert_eq!(one_too_many, [[turn(1, Skipped(15), None)]]);
     }
 
     #[test]
