@@ -204,20 +204,14 @@ fn padding_line(arch: Arch) -> usize {
     }
 }
 
-/// `align 16: 14 bytes of padding, 11 recorded`, or `align 8, at most 3: skipped, 7 needed`, of an alignment that comes to stand at an offset; `owner`
+/// `align 16: 14 bytes of padding, 11 recorded`, or `align 8 skipped: 7 needed, at most 3`, of an alignment that comes to stand at an offset; `owner`
 /// is the pooled constant that it is for.
 pub(crate) fn padding_text(
     alignment: &Alignment,
     owner: Option<Constant>,
     at: CodeOffset,
 ) -> String {
-    let most = match alignment.most {
-        DEFAULT_MOST => String::new(),
-        most => format!(", at most {most}"),
-    };
-    let owner = owner.map_or(String::new(), |constant| {
-        format!(" for constant {}", constant.id())
-    });
+    let Alignment { align, most, .. } = *alignment;
     let recorded = alignment.padding_at(alignment.start);
     let now = alignment.padding_at(at);
     let before = match recorded {
@@ -225,7 +219,17 @@ pub(crate) fn padding_text(
         Padding::Skipped(_) => ", skipped when recorded".into(),
         Padding::Spent(len) => format!(", {len} recorded"),
     };
-    format!("align {}{most}{owner}: {now}{before}", alignment.align)
+    if let Padding::Skipped(needed) = now {
+        return format!("align {align} skipped: {needed} needed, at most {most}{before}");
+    }
+    let most = match most {
+        DEFAULT_MOST => String::new(),
+        _ => format!(", at most {most}"),
+    };
+    let owner = owner.map_or(String::new(), |constant| {
+        format!(" for constant {}", constant.id())
+    });
+    format!("align {align}{most}{owner}: {now}{before}")
 }
 
 /// Says of a field that something is written over it: it need not mean its label then. Fields are written in order, the constants, which rise, after

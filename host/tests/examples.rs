@@ -115,7 +115,7 @@ fn a_sheet_with_ceilings() {
         "ceiling.txt",
         "X64: 183 bytes, alignment 32, layouts 3, long jumps 2 of 5",
         &[
-            "align 32, at most 10: skipped, 24 needed\n",
+            "align 32 skipped: 24 needed, at most 10\n",
             "align 32, at most 10: 6 bytes of padding, skipped when recorded\n",
         ],
     );

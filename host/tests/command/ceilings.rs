@@ -21,7 +21,7 @@ fn shows_what_is_skipped_and_what_changes_from_round_to_round() {
       40  00 00 00 00 00 00 00 00
           ... 86 more bytes
      134  75 98                       jne short to label first at 32, distance -104
-     136                              align 32, at most 10: skipped, 24 needed
+     136                              align 32 skipped: 24 needed, at most 10
      136                              label second
      136  00 00 00 00 00 00 00 00     16 bytes
      144  00 00 00 00 00 00 00 00
@@ -69,14 +69,14 @@ fn what_was_recorded_is_said_where_finish_decides_otherwise() {
         let output = run(&["-"], text.as_bytes());
         assert!(out(&output).contains(expected), "{}", out(&output));
     };
-    shows("b 90; a 8 3", "  align 8, at most 3: skipped, 7 needed\n");
+    shows("b 90; a 8 3", "  align 8 skipped: 7 needed, at most 3\n");
     shows("b 90; a 8 4095", "  align 8: 7 bytes of padding\n");
     let behind_jump = |bytes, most| format!("jmp e; z {bytes}; a 8 {most}; e:");
     let row = "  align 8, at most 5: 3 bytes of padding, 0 recorded\n";
     shows(&behind_jump(3, 5), row);
-    let row = "  align 8, at most 2: skipped, 3 needed, 0 recorded\n";
+    let row = "  align 8 skipped: 3 needed, at most 2, 0 recorded\n";
     shows(&behind_jump(3, 2), row);
-    let row = "  align 8, at most 1: skipped, 4 needed, 1 recorded\n";
+    let row = "  align 8 skipped: 4 needed, at most 1, 1 recorded\n";
     shows(&behind_jump(2, 1), row);
     let row = "  align 8, at most 5: 1 byte of padding, skipped when recorded\n";
     shows(&behind_jump(5, 5), row);
@@ -84,10 +84,10 @@ fn what_was_recorded_is_said_where_finish_decides_otherwise() {
     shows(&behind_jump(6, 4), row);
     shows(
         &behind_jump(1, 1),
-        "  align 8, at most 1: skipped, 5 needed\n",
+        "  align 8 skipped: 5 needed, at most 1\n",
     );
     let on_aarch64 = "arch aarch64; b 90; a 8 6; a 8 7";
-    shows(on_aarch64, "  align 8, at most 6: skipped, 7 needed\n");
+    shows(on_aarch64, "  align 8 skipped: 7 needed, at most 6\n");
     shows(on_aarch64, "  align 8, at most 7: 7 bytes of padding\n");
 }
 
@@ -95,9 +95,9 @@ fn what_was_recorded_is_said_where_finish_decides_otherwise() {
 fn a_jump_by_name_stands_where_padding_leaves_it() {
     let output = run(&["-"], b"b 90; align 8 6; jmp e; align 8 3; e:");
     assert_eq!(output.status.code(), Some(0), "{}", err(&output));
-    let rows = "       1                              align 8, at most 6: skipped, 7 needed
+    let rows = "       1                              align 8 skipped: 7 needed, at most 6
        1  EB 00                       jmp short to label e at 3, distance 0
-       3                              align 8, at most 3: skipped, 5 needed, 2 recorded
+       3                              align 8 skipped: 5 needed, at most 3, 2 recorded
        3                              label e\n";
     assert!(out(&output).contains(rows), "{}", out(&output));
 }
@@ -155,7 +155,7 @@ fn a_binary_sheet_carries_ceilings() {
     );
     let from_sheet = run(&["--binary", name], b"");
     assert_eq!(out(&from_sheet), out(&from_text));
-    assert!(out(&from_sheet).contains("align 8, at most 6: skipped"));
+    assert!(out(&from_sheet).contains("align 8 skipped: 7 needed, at most 6"));
 }
 
 #[test]

@@ -97,7 +97,7 @@ fn skipped_alignments_are_shown_where_they_stand() {
     let expected = [
         "       0  EB 02                       jmp short to label end at 4, distance 2",
         "       2  11                          1 byte",
-        "       3                              align 8, at most 2: skipped, 5 needed, 2 recorded",
+        "       3                              align 8 skipped: 5 needed, at most 2, 2 recorded",
         "       3  90                          align 4, at most 1: 1 byte of padding, 0 recorded",
         "       4                              label end",
         "       4                              label here",
@@ -110,7 +110,7 @@ fn skipped_alignments_are_shown_where_they_stand() {
     let lines = listed(Arch::X86, "b 11; a 8 6; a 4 3; b 22", Extent::Brief);
     let expected = [
         "       0  11                          1 byte",
-        "       1                              align 8, at most 6: skipped, 7 needed",
+        "       1                              align 8 skipped: 7 needed, at most 6",
         "       1  0F 1F 00                    align 4, at most 3: 3 bytes of padding",
         "       4  22                          1 byte",
     ];

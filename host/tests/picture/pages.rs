@@ -91,7 +91,7 @@ fn alignments_have_their_multiple_and_the_most_that_they_spend() {
                   [\"align 8 6\",17,0,-1,\"line 1\",8,6]]";
     assert!(page.contains(events), "{page}");
     let row = "<tr class=\"padding\" data-pick=\"event2\"><td>17</td><td></td><td>17</td><td></td>\
-               <td>align 8, at most 6: skipped, 7 needed</td></tr>";
+               <td>align 8 skipped: 7 needed, at most 6</td></tr>";
     assert!(page.contains(row), "{page}");
 }
 
