@@ -7,6 +7,7 @@
 //! its finish against their model alone.
 
 mod add_field;
+mod ceiling;
 
 use std::ops::RangeInclusive;
 
@@ -30,6 +31,10 @@ pub const DEPARTURES: &[Departure] = &[
     Departure {
         name: "add-field-not-clear",
         is_met: add_field::changes_code,
+    },
+    Departure {
+        name: "padding-ceiling",
+        is_met: ceiling::decides_in_layout,
     },
 ];
 

@@ -9,6 +9,7 @@ use crate::core::operand::{Label, Sym};
 use crate::core::relax::{self, RelaxableJump};
 use crate::core::target::Environment;
 use crate::{Error, LABEL_TARGET, X64, link};
+use sheet_text::Padding;
 
 /// `LabelUse` by code.
 const LABEL_USES: [LabelUse; 17] = [
@@ -123,7 +124,16 @@ impl Recording {
         Ok(self.buffer.try_bind_label(Label::from_id(label))?)
     }
 
-    pub fn align(&mut self, multiple: u32) -> Result<(), Error> {
+    /// `most` is a sheet's word: 0 is no ceiling, as the Rust has none. In the
+    /// place of an alignment that its ceiling has spend nothing stands one to a
+    /// multiple of 1, which spends nothing and, on X64, is an event as well; what
+    /// a layout would make of its ceiling it does not know.
+    pub fn align(&mut self, multiple: u32, most: u32) -> Result<(), Error> {
+        let is_skipped = most != 0 && multiple.is_power_of_two() && {
+            let offset = self.buffer.data().len() as u64;
+            matches!(Padding::at(offset, multiple, most), Padding::Skipped(_))
+        };
+        let multiple = if is_skipped { 1 } else { multiple };
         Ok(self.buffer.try_align_to(multiple)?)
     }
 

@@ -83,7 +83,7 @@ impl Recording {
             Call::Bytes(bytes) => self.bytes(bytes).map(|()| 0),
             Call::NewLabel => self.new_label(),
             Call::Bind(label) => self.bind(*label).map(|()| 0),
-            Call::Align(multiple) => self.align(*multiple).map(|()| 0),
+            Call::Align { multiple, most } => self.align(*multiple, *most).map(|()| 0),
             Call::Use {
                 offset,
                 label,

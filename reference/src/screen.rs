@@ -4,6 +4,8 @@
 //! stored. Where an added refusal and one of the Rust's own meet in one call,
 //! the recording is turned away as well: that is stricter than needed.
 
+use sheet_text::{Padding, most_of_word};
+
 use crate::{Call, LABEL_TARGET, TextStep, UNBOUND, X64};
 
 const TABLE: usize = 65_536;
@@ -77,7 +79,7 @@ impl State {
             Call::Bytes(bytes) => self.append(bytes.len() as u64),
             Call::NewLabel => self.new_label(),
             Call::Bind(label) => self.bind(*label),
-            Call::Align(multiple) => self.align(*multiple),
+            Call::Align { multiple, most } => self.align(*multiple, *most),
             Call::Use { label, code, .. } => self.use_label(*label, *code),
             Call::Ref { .. } | Call::Jump { .. } if self.arch != X64 => Step::Taken,
             Call::Ref {
@@ -129,7 +131,7 @@ impl State {
         }
     }
 
-    fn align(&mut self, multiple: u32) -> Step {
+    fn align(&mut self, multiple: u32, most: u32) -> Step {
         if !multiple.is_power_of_two() {
             return Step::Refused;
         }
@@ -137,7 +139,8 @@ impl State {
             return Step::Added(5);
         }
         let start = self.offset;
-        self.offset = start.next_multiple_of(u64::from(multiple));
+        let padding = Padding::at(start, multiple, most_of_word(most));
+        self.offset += u64::from(padding.spent());
         if self.arch == X64 {
             if self.events.len() == TABLE {
                 return Step::Added(11);

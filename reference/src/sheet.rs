@@ -85,7 +85,8 @@ fn is_well_formed(kind: u8, argument: &[u8; 16]) -> bool {
                 && argument[4 + words[0] as usize..].iter().all(|b| *b == 0)
         }
         2 => unused(0),
-        3 | 4 | 9 => unused(1),
+        3 | 9 => unused(1),
+        4 => unused(2),
         5 => words[2] <= LAST_CODE && unused(3),
         6 => words[2] <= LAST_CODE,
         7 => true,
@@ -102,7 +103,10 @@ fn call(kind: u8, argument: &[u8; 16]) -> Call<'_> {
         1 => Call::Bytes(data()),
         2 => Call::NewLabel,
         3 => Call::Bind(a),
-        4 => Call::Align(a),
+        4 => Call::Align {
+            multiple: a,
+            most: b,
+        },
         5 => Call::Use {
             offset: a,
             label: b,
@@ -150,9 +154,8 @@ fn entry(call: &Call<'_>) -> Option<(u8, [u8; 16])> {
     let argument = match *call {
         Call::Bytes(ref data) | Call::Constant(ref data) => data_argument(data)?,
         Call::NewLabel => argument([0; 4]),
-        Call::Bind(number) | Call::Align(number) | Call::ConstantLabel(number) => {
-            argument([number, 0, 0, 0])
-        }
+        Call::Bind(number) | Call::ConstantLabel(number) => argument([number, 0, 0, 0]),
+        Call::Align { multiple, most } => argument([multiple, most, 0, 0]),
         Call::Use {
             offset,
             label,

@@ -88,7 +88,8 @@ fn write_call(call: &Call<'_>) -> String {
         Call::Bytes(bytes) => write_bytes('b', bytes),
         Call::NewLabel => "n".into(),
         Call::Bind(label) => format!("l {label}"),
-        Call::Align(multiple) => format!("a {multiple}"),
+        Call::Align { multiple, most: 0 } => format!("a {multiple}"),
+        Call::Align { multiple, most } => format!("a {multiple} {most}"),
         Call::Use {
             offset,
             label,

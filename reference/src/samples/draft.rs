@@ -91,7 +91,7 @@ impl Draft {
     }
 
     pub fn align(&mut self, multiple: u32) -> &mut Self {
-        self.push(Call::Align(multiple));
+        self.push(Call::align(multiple));
         self.offset = self.offset.next_multiple_of(multiple);
         self
     }

@@ -32,7 +32,7 @@ fn around(draft: &mut Draft, call: Call<'static>) {
 /// Number 5.
 fn align(arch: u32, multiple: u32) -> Draft {
     let mut draft = Draft::new(arch);
-    around(&mut draft, Call::Align(multiple));
+    around(&mut draft, Call::align(multiple));
     draft
 }
 
