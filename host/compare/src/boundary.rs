@@ -23,6 +23,7 @@ pub trait Boundary {
     fn start(&mut self, arch: u32, symbols: u32) -> Reply;
     fn run_sheet(&mut self, sheet: &[u8]) -> Reply;
     fn put_bytes(&mut self, bytes: &[u8]) -> Reply;
+    fn align(&mut self, multiple: u32, most: u32) -> Reply;
     fn add_constant(&mut self, bytes: &[u8]) -> Reply;
     fn add_reloc(&mut self, offset: u32, kind: u32, target: u32, addend: i64) -> Reply;
     fn finish(&mut self) -> Reply;

@@ -11,7 +11,7 @@ pub mod vast;
 
 pub use boundary::{Boundary, Reply};
 pub use lent::{Lent, Part};
-pub use model::{Model, Rules, add_word, code_alignment, open};
+pub use model::{Model, Rules, add_word, ceilings, code_alignment, open};
 pub use ours::{Lending, Ours};
 pub use pieces::Piece;
 pub use random::Random;

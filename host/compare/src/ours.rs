@@ -138,6 +138,19 @@ impl Boundary for Ours {
         self.lending().put_bytes_at(bytes)
     }
 
+    fn align(&mut self, multiple: u32, most: u32) -> Reply {
+        let (counts, counts_len) = self.pointer(Part::Counts);
+        let (code, code_len) = self.pointer(Part::Code);
+        let (events, events_len) = self.pointer(Part::Events);
+        // SAFETY: see `Ours`.
+        let refusal = unsafe {
+            ffi::wargnifla_align(
+                counts, counts_len, code, code_len, events, events_len, multiple, most,
+            )
+        };
+        Reply::new(refusal, 0)
+    }
+
     fn add_constant(&mut self, bytes: &[u8]) -> Reply {
         let mut number = 0;
         let (bytes, bytes_len) = self.lend_to_read(bytes);

@@ -1,7 +1,8 @@
 //! The fresh assembly of document 01, defined without segments, and the
 //! rounds that settle which jumps are long.
 
-use super::calls::{nops, padding_length};
+use super::calls::nops;
+use super::ceilings::CeilingRules;
 use super::pool::{Event, Pooled};
 use super::{Rules, fields};
 use crate::NONE;
@@ -27,13 +28,13 @@ impl Placed {
 }
 
 /// Walks over the recording with a choice of long jumps.
-pub fn place(pooled: &Pooled, long: &[bool]) -> Placed {
+pub fn place(pooled: &Pooled, long: &[bool], rules: CeilingRules) -> Placed {
     let mut walk = Walk::new(&pooled.code);
     let mut events = Vec::new();
     for (event, long) in pooled.events.iter().zip(long) {
         walk.copy_to(event.start());
         let new_start = walk.new_offset();
-        walk.written.extend(form(event, *long, new_start));
+        walk.written.extend(form(event, *long, new_start, rules));
         walk.pass_to(event.end());
         events.push((new_start, walk.new_offset()));
     }
@@ -85,9 +86,17 @@ impl<'a> Walk<'a> {
 
 /// The bytes of an event at a new offset: padding, or a jump with its
 /// displacement open.
-fn form(event: &Event, long: bool, new_start: u32) -> Vec<u8> {
+fn form(event: &Event, long: bool, new_start: u32, rules: CeilingRules) -> Vec<u8> {
     match *event {
-        Event::Align { multiple, .. } => nops(padding_length(new_start, multiple)),
+        Event::Align {
+            length,
+            multiple,
+            most,
+            ..
+        } => {
+            let padding = rules.padding(new_start, multiple, most);
+            nops((rules.laid_out)(&padding, length))
+        }
         Event::Jump { condition, .. } => {
             let condition = (condition < 16).then_some(condition as u8);
             match (condition, long) {
@@ -108,12 +117,12 @@ pub struct Settled {
 }
 
 /// Rounds from no jump long, until one lengthens none.
-pub fn settle(pooled: &Pooled) -> Settled {
+pub fn settle(pooled: &Pooled, rules: CeilingRules) -> Settled {
     let mut long = vec![false; pooled.events.len()];
     let mut rounds = 0;
     loop {
         rounds += 1;
-        let placed = place(pooled, &long);
+        let placed = place(pooled, &long, rules);
         let out_of_reach = short_jumps_out_of_reach(pooled, &placed, &long);
         if out_of_reach.is_empty() {
             return Settled {

@@ -1,8 +1,8 @@
 //! The recording calls.
 
 use super::counts::{Counts, is_recorded};
-use super::open::{Change, MOST_OPEN, OpenRules};
-use super::{Refusal, fields};
+use super::open::{Change, MOST_OPEN};
+use super::{Refusal, Rules, fields};
 use crate::{AARCH64, LABEL_TARGET, Lent, MOST_CODE, NONE, Part, X64};
 
 /// The most bytes of a constant.
@@ -13,7 +13,8 @@ const MOST_ALIGNMENT: u32 = 4096;
 pub const JUMP: u32 = 1;
 pub const ALIGNMENT: u32 = 2;
 
-/// One call on a recording.
+/// One call on a recording. The most that an alignment may spend is its ceiling
+/// itself: what 0 stands for in a sheet is settled where the sheet is read.
 pub type Call<'a> = wargnifla::Call<&'a [u8]>;
 
 /// Entries up to which a recording counts what is open after every call.
@@ -23,7 +24,7 @@ const FEW: usize = 4096;
 pub struct Recording<'a> {
     lent: &'a mut Lent,
     counts: Counts,
-    rules: OpenRules,
+    rules: Rules,
     /// How many entries were open when they were last counted.
     counted: u32,
     /// How many calls were made since.
@@ -31,9 +32,9 @@ pub struct Recording<'a> {
 }
 
 impl<'a> Recording<'a> {
-    pub fn new(lent: &'a mut Lent, counts: Counts, rules: OpenRules) -> Self {
+    pub fn new(lent: &'a mut Lent, counts: Counts, rules: Rules) -> Self {
         Self {
-            counted: counts.counted(lent, rules),
+            counted: counts.counted(lent, rules.open),
             lent,
             counts,
             rules,
@@ -44,7 +45,7 @@ impl<'a> Recording<'a> {
     /// Makes a call: its value (0 where it has none), or its refusal, which
     /// is recorded unless document 01 excepts it.
     pub fn make(&mut self, call: &Call<'_>) -> Result<u32, Refusal> {
-        if !(self.rules.stands)(self.counts.open, self.counted) {
+        if !(self.rules.open.stands)(self.counts.open, self.counted) {
             return Err(1);
         }
         let result = self.answer(call);
@@ -77,8 +78,8 @@ impl<'a> Recording<'a> {
 
     /// Counts afresh what is open, and changes the number by as much.
     fn recount(&mut self, binds: bool, is_unread: bool) {
-        let after = self.counts.counted(self.lent, self.rules);
-        self.counts.open = (self.rules.changed)(&Change {
+        let after = self.counts.counted(self.lent, self.rules.open);
+        self.counts.open = (self.rules.open.changed)(&Change {
             open: self.counts.open,
             before: self.counted,
             after,
@@ -102,7 +103,7 @@ impl<'a> Recording<'a> {
             Call::Bytes(bytes) => self.append(bytes).map(|()| 0),
             Call::NewLabel => self.new_label(),
             Call::Bind(label) => self.bind(label).map(|()| 0),
-            Call::Align(multiple) => self.align(multiple).map(|()| 0),
+            Call::Align { multiple, most } => self.align(multiple, most).map(|()| 0),
             Call::Use {
                 offset,
                 label,
@@ -133,7 +134,7 @@ impl<'a> Recording<'a> {
     }
 
     fn is_full(&self, table: Part) -> bool {
-        self.counts.of(table) == self.lent.room(table)
+        self.counts.of(table) >= self.lent.room(table)
     }
 
     /// Extends a table by an entry and gives its number; 11 if it is full.
@@ -184,22 +185,26 @@ impl<'a> Recording<'a> {
         Ok(())
     }
 
-    fn align(&mut self, multiple: u32) -> Result<(), Refusal> {
-        if !is_alignment(multiple) {
-            return Err(5);
+    fn align(&mut self, multiple: u32, most: u32) -> Result<(), Refusal> {
+        let arch = self.counts.arch;
+        let rules = self.rules.ceilings;
+        let offset = self.counts.of(Part::Code) as u32;
+        let padding = rules.padding(offset, multiple, most);
+        let is_event = (rules.is_event)(&padding, arch);
+        let applies = |refusal: &Refusal| match refusal {
+            5 => !is_alignment(multiple),
+            11 => is_event && self.is_full(Part::Events),
+            _ => self.code_fits((rules.room)(&padding) as usize).is_err(),
+        };
+        if let Some(refusal) = rules.order.into_iter().find(applies) {
+            return Err(refusal);
         }
-        let keeps_event = self.counts.arch == X64;
-        if keeps_event && self.is_full(Part::Events) {
-            return Err(11);
+        let length = (rules.recorded)(&padding, arch);
+        if is_event {
+            let kept = (rules.kept)(&padding);
+            self.push(Part::Events, &[ALIGNMENT, offset, length, multiple, kept])?;
         }
-        let start = self.counts.of(Part::Code);
-        let length = padding_length(start as u32, multiple);
-        self.code_fits(length as usize)?;
-        if keeps_event {
-            let event = [ALIGNMENT, start as u32, length, multiple, 0];
-            self.push(Part::Events, &event)?;
-        }
-        self.append(&padding(self.counts.arch, length))
+        self.append(&padding_bytes(arch, length))
     }
 
     fn use_label(&mut self, offset: u32, label: u32, code: u32) -> Result<u32, Refusal> {
@@ -324,13 +329,8 @@ pub fn is_alignment(multiple: u32) -> bool {
     multiple.is_power_of_two() && multiple <= MOST_ALIGNMENT
 }
 
-/// The least length that reaches a multiple.
-pub fn padding_length(offset: u32, multiple: u32) -> u32 {
-    offset.next_multiple_of(multiple) - offset
-}
-
 /// "x86 pads with NOPs, AArch64 with zeros."
-pub fn padding(arch: u32, length: u32) -> Vec<u8> {
+pub fn padding_bytes(arch: u32, length: u32) -> Vec<u8> {
     if arch == AARCH64 {
         vec![0; length as usize]
     } else {

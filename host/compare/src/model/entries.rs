@@ -2,15 +2,19 @@
 
 use super::calls::{
     ALIGNMENT, JUMP, MOST_CONSTANT, is_alignment, is_known_reloc, is_known_target, is_reloc_offset,
-    padding_length,
 };
+use super::ceilings::CeilingRules;
 use super::counts::Counts;
 use super::{fields, sheet};
 use crate::{Lent, NONE, Part, X64};
 
 /// Every entry of every table is one that a recording can write.
-pub fn fit(lent: &Lent, counts: &Counts) -> bool {
-    let tables = Tables { lent, counts };
+pub fn fit(lent: &Lent, counts: &Counts, rules: CeilingRules) -> bool {
+    let tables = Tables {
+        lent,
+        counts,
+        rules,
+    };
     tables.only_kept_tables()
         && tables.events_fit()
         && tables.labels_fit()
@@ -24,6 +28,7 @@ pub fn fit(lent: &Lent, counts: &Counts) -> bool {
 struct Tables<'a> {
     lent: &'a Lent,
     counts: &'a Counts,
+    rules: CeilingRules,
 }
 
 impl Tables<'_> {
@@ -52,10 +57,13 @@ impl Tables<'_> {
         })
     }
 
-    fn event_form_fits(&self, [kind, start, length, what, condition]: [u32; 5]) -> bool {
+    fn event_form_fits(&self, [kind, start, length, what, how]: [u32; 5]) -> bool {
         match kind {
-            JUMP => (2..=15).contains(&length) && self.is_label(what) && condition <= 16,
-            ALIGNMENT => is_alignment(what) && length == padding_length(start, what),
+            JUMP => (2..=15).contains(&length) && self.is_label(what) && how <= 16,
+            ALIGNMENT => {
+                let padding = self.rules.padding(start, what, how);
+                is_alignment(what) && (self.rules.fits)(&padding, length)
+            }
             _ => false,
         }
     }

@@ -40,7 +40,7 @@ fn attempt(lent: &mut Lent, rules: Rules) -> Result<(), Refusal> {
     let within = [Part::Segments, Part::Output];
     let within = !within.iter().any(|part| passes_limit(lent, *part));
     counts.standing(lent, &Part::TABLES, within, rules.open)?;
-    if !entries::fit(lent, &counts) {
+    if !entries::fit(lent, &counts, rules.ceilings) {
         return Err(1);
     }
     ask(Asked::AfterEntries)?;
@@ -78,7 +78,7 @@ fn relax(lent: &mut Lent, pooled: &Pooled, rules: Rules) -> Result<Finished, Ref
     if !pooled.refs.iter().all(|field| is_clear(pooled, field)) {
         return Err(17);
     }
-    let mut settled = assembly::settle(pooled);
+    let mut settled = assembly::settle(pooled, rules.ceilings);
     let segments = segments(pooled, &settled.placed);
     for (number, segment) in segments.iter().enumerate() {
         lent.set_words(Part::Segments, number, segment);

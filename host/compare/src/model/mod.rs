@@ -7,6 +7,7 @@
 
 mod assembly;
 mod calls;
+pub mod ceilings;
 mod counts;
 mod entries;
 mod fields;
@@ -43,9 +44,9 @@ impl Model {
     /// Makes the calls of a sheet; the refusal of one and its index.
     fn make_all(&mut self, bytes: &[u8]) -> Result<u32, (Refusal, u32)> {
         let counts = self.counts().map_err(|refusal| (refusal, 0))?;
-        let calls = sheet::read(bytes).map_err(|index| (1, index))?;
-        let rules = self.rules.open;
-        let standing = counts.standing(&self.lent, &Part::TABLES, true, rules);
+        let rules = self.rules;
+        let calls = sheet::read(bytes, rules.ceilings).map_err(|index| (1, index))?;
+        let standing = counts.standing(&self.lent, &Part::TABLES, true, rules.open);
         standing.map_err(|refusal| (refusal, 0))?;
         let mut recording = Recording::new(&mut self.lent, counts, rules);
         let made = (0..).zip(&calls).try_for_each(|(index, call)| {
@@ -62,9 +63,8 @@ impl Model {
         if !is_well_formed(call) {
             return Err(1);
         }
-        let rules = self.rules.open;
-        counts.standing(&self.lent, tables, true, rules)?;
-        let mut recording = Recording::new(&mut self.lent, counts, rules);
+        counts.standing(&self.lent, tables, true, self.rules.open)?;
+        let mut recording = Recording::new(&mut self.lent, counts, self.rules);
         let made = recording.make(call);
         recording.end();
         made
@@ -104,6 +104,12 @@ impl Boundary for Model {
 
     fn put_bytes(&mut self, bytes: &[u8]) -> Reply {
         without_value(self.direct(&[Part::Code], &Call::Bytes(bytes)))
+    }
+
+    fn align(&mut self, multiple: u32, most: u32) -> Reply {
+        let rules = self.rules.ceilings;
+        let most = (rules.in_call)(most);
+        without_value(self.direct(rules.tables, &Call::Align { multiple, most }))
     }
 
     fn add_constant(&mut self, bytes: &[u8]) -> Reply {

@@ -1,6 +1,7 @@
 //! The recording as finish gets it, its constants pooled.
 
-use super::calls::{JUMP, padding, padding_length};
+use super::calls::{JUMP, padding_bytes};
+use super::ceilings::CeilingRules;
 use super::counts::Counts;
 use super::{Refusal, Rules};
 use crate::{LABEL_TARGET, Lent, MOST_CODE, NONE, Part, X64};
@@ -18,23 +19,26 @@ pub enum Event {
         start: u32,
         length: u32,
         multiple: u32,
+        /// Its ceiling.
+        most: u32,
     },
 }
 
 impl Event {
-    fn read([kind, start, length, what, condition]: [u32; 5]) -> Self {
+    fn read([kind, start, length, what, how]: [u32; 5]) -> Self {
         if kind == JUMP {
             return Self::Jump {
                 start,
                 length,
                 label: what,
-                condition,
+                condition: how,
             };
         }
         Self::Align {
             start,
             length,
             multiple: what,
+            most: how,
         }
     }
 
@@ -102,7 +106,7 @@ impl Pooled {
         }
         for (label, bytes) in constants {
             let multiple = (rules.constant_multiple)(bytes.len());
-            pooled.add(label, bytes, multiple);
+            pooled.add(label, bytes, multiple, rules.ceilings);
         }
         if pooled.code.len() > MOST_CODE {
             return Err(14);
@@ -137,18 +141,20 @@ impl Pooled {
 
     /// Aligns the end of the code for a constant, binds its label there, and
     /// leaves room for its bytes.
-    fn add(&mut self, label: u32, bytes: Vec<u8>, multiple: u32) {
+    fn add(&mut self, label: u32, bytes: Vec<u8>, multiple: u32, rules: CeilingRules) {
         let start = self.code.len() as u32;
-        let length = padding_length(start, multiple);
+        let padding = rules.padding(start, multiple, rules.pooled);
+        let length = (rules.recorded)(&padding, self.arch);
         if self.arch == X64 {
             self.events.push(Event::Align {
                 start,
                 length,
                 multiple,
+                most: rules.pooled,
             });
         }
         let offset = start + length;
-        self.code.extend(padding(self.arch, length));
+        self.code.extend(padding_bytes(self.arch, length));
         self.code.extend(vec![0; bytes.len()]);
         self.labels[label as usize] = offset;
         self.pool.push(Constant { offset, bytes });

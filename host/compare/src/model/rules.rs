@@ -1,6 +1,7 @@
 //! What the requests of document 02 have changed, apart from the rest, so that
 //! a self-test can put wrong rules in the place of these.
 
+use super::ceilings::CeilingRules;
 use super::fields;
 use super::join::JoinRules;
 use super::open::OpenRules;
@@ -11,8 +12,8 @@ const LEAST_ALIGNMENT: u32 = 32;
 
 /// Request One, constants for the widest registers; Request Two, relocations
 /// for the system linker; Request Four, ADD fields that already hold something;
-/// Request Five, what is still open; Request Six, finished records joined.
-/// Request Three changed no answer.
+/// Request Five, what is still open; Request Six, finished records joined;
+/// Request Seven, padding with a ceiling. Request Three changed no answer.
 #[derive(Clone, Copy)]
 pub struct Rules {
     /// The multiple that a constant of a size stands on.
@@ -35,6 +36,8 @@ pub struct Rules {
     pub open: OpenRules,
     /// How finished records are joined.
     pub join: JoinRules,
+    /// What alignments spend.
+    pub ceilings: CeilingRules,
 }
 
 impl Default for Rules {
@@ -49,6 +52,7 @@ impl Default for Rules {
             add_word,
             open: OpenRules::default(),
             join: JoinRules::default(),
+            ceilings: CeilingRules::default(),
         }
     }
 }

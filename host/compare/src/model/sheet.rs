@@ -1,6 +1,7 @@
 //! A sheet of calls: its form, and the calls that it spells.
 
 use super::calls::Call;
+use super::ceilings::CeilingRules;
 
 /// The last number of `Reloc`.
 pub const LAST_RELOC: u32 = 27;
@@ -11,7 +12,7 @@ const MOST_BYTES: u32 = 12;
 
 /// The calls of a sheet, or the index of the first one whose form is broken;
 /// 0 for a wrong length.
-pub fn read(sheet: &[u8]) -> Result<Vec<Call<'_>>, u32> {
+pub fn read(sheet: &[u8], rules: CeilingRules) -> Result<Vec<Call<'_>>, u32> {
     let (count, rest) = sheet.split_first_chunk::<4>().ok_or(0u32)?;
     let count = u32::from_le_bytes(*count);
     if rest.len() as u64 != u64::from(count) * 17 {
@@ -21,12 +22,12 @@ pub fn read(sheet: &[u8]) -> Result<Vec<Call<'_>>, u32> {
     let arguments = arguments.chunks_exact(16);
     let calls = kinds.iter().zip(arguments).enumerate();
     calls
-        .map(|(index, (kind, argument))| read_call(*kind, argument).ok_or(index as u32))
+        .map(|(index, (kind, argument))| read_call(*kind, argument, rules).ok_or(index as u32))
         .collect()
 }
 
 /// Nothing if the form is broken.
-fn read_call(kind: u8, argument: &[u8]) -> Option<Call<'_>> {
+fn read_call(kind: u8, argument: &[u8], rules: CeilingRules) -> Option<Call<'_>> {
     let word = |number: usize| {
         let bytes = argument[number * 4..][..4].try_into();
         u32::from_le_bytes(bytes.expect("a word has four bytes"))
@@ -35,7 +36,13 @@ fn read_call(kind: u8, argument: &[u8]) -> Option<Call<'_>> {
         1 => (Call::Bytes(data(argument, word(0))?), 4 + word(0)),
         2 => (Call::NewLabel, 0),
         3 => (Call::Bind(word(0)), 4),
-        4 => (Call::Align(word(0)), 4),
+        4 => {
+            let call = Call::Align {
+                multiple: word(0),
+                most: (rules.in_sheet)(word(1)),
+            };
+            (call, 8)
+        }
         5 => {
             let call = Call::Use {
                 offset: word(0),

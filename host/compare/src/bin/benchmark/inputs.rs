@@ -76,7 +76,7 @@ impl Draft {
     }
 
     fn align(&mut self, multiple: u32) {
-        self.calls.push(Call::Align(multiple));
+        self.calls.push(Call::align(multiple));
         self.offset = self.offset.next_multiple_of(multiple);
     }
 

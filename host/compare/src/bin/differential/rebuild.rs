@@ -6,6 +6,8 @@ use std::borrow::Cow;
 use compare::{Lent, NONE, Part};
 use reference::Call;
 
+use crate::scenario::alignment;
+
 /// The calls, if there are any: labels that constants share, or that do not
 /// rise in the order of asking, cannot be had by calls. Entries that no
 /// recording writes give calls that are refused, or nothing.
@@ -86,7 +88,7 @@ impl<'a> Tables<'a> {
             binds: &binds,
             calls: Vec::new(),
         };
-        for [kind, start, length, what, condition] in self.entries(Part::Events) {
+        for [kind, start, length, what, how] in self.entries(Part::Events) {
             walk.copy_to(start)?;
             let end = start.checked_add(length)?;
             if kind == 1 {
@@ -95,11 +97,11 @@ impl<'a> Tables<'a> {
                     start,
                     length,
                     label: what,
-                    condition,
+                    condition: how,
                 });
             } else {
                 walk.bind();
-                walk.calls.push(Call::Align(what));
+                walk.calls.push(alignment(what, how));
                 walk.offset = end;
             }
         }

@@ -17,6 +17,11 @@ pub enum Step {
     RawSheet(Vec<u8>),
     Bytes(Vec<u8>),
     Constant(Vec<u8>),
+    /// An alignment with any ceiling, 0 too.
+    Align {
+        multiple: u32,
+        most: u32,
+    },
     Relocation {
         offset: u32,
         kind: u32,
@@ -78,7 +83,8 @@ impl Step {
             Self::RawSheet(bytes) | Self::Bytes(bytes) | Self::Constant(bytes) => {
                 Some(Cow::Borrowed(bytes))
             }
-            Self::Relocation { .. }
+            Self::Align { .. }
+            | Self::Relocation { .. }
             | Self::Finish
             | Self::WriteRelas(_)
             | Self::ReadRelas
@@ -97,6 +103,7 @@ impl Step {
             Self::Sheet(_) | Self::RawSheet(_) => boundary.run_sheet(bytes),
             Self::Bytes(_) => boundary.put_bytes(bytes),
             Self::Constant(_) => boundary.add_constant(bytes),
+            Self::Align { multiple, most } => boundary.align(*multiple, *most),
             Self::Relocation {
                 offset,
                 kind,
@@ -118,6 +125,7 @@ impl Step {
             Self::Sheet(calls) => Cow::Borrowed(calls),
             Self::Bytes(bytes) => one(Call::Bytes(Cow::Owned(bytes.clone()))),
             Self::Constant(bytes) => one(Call::Constant(Cow::Owned(bytes.clone()))),
+            Self::Align { multiple, most } => one(alignment(*multiple, *most)),
             Self::Relocation {
                 offset,
                 kind,
@@ -152,6 +160,16 @@ impl Step {
     }
 }
 
+/// The call that makes an alignment with any ceiling in the Rust. No sheet has a
+/// ceiling of 0: it spends nothing and never will, as an alignment to 1.
+pub fn alignment(multiple: u32, most: u32) -> Call<'static> {
+    let is_empty = most == 0 && multiple.is_power_of_two() && multiple <= 4096;
+    Call::Align {
+        multiple: if is_empty { 1 } else { multiple },
+        most,
+    }
+}
+
 /// The bytes lent of each part.
 #[derive(Clone)]
 pub struct Room([usize; Part::COUNT]);
@@ -174,7 +192,7 @@ impl Room {
         match call {
             Call::Bytes(bytes) => self.add_code(bytes.len()),
             Call::NewLabel => self.add(Part::Labels, 1),
-            Call::Align(multiple) => {
+            Call::Align { multiple, .. } => {
                 self.add_code((*multiple).min(4096) as usize);
                 self.add(Part::Events, 1);
                 self.add(Part::Segments, 1);
@@ -294,6 +312,9 @@ impl fmt::Display for Step {
         match self {
             Self::Sheet(calls) => write!(f, "sheet: {}", write_text(calls)),
             Self::RawSheet(sheet) => write!(f, "sheet of bytes: {sheet:02X?}"),
+            Self::Align { multiple, most } => {
+                write!(f, "direct: align to {multiple}, at most {most}")
+            }
             Self::Finish => write!(f, "finish"),
             Self::WriteRelas(section) => write!(f, "write as ELF, section symbol {section}"),
             Self::ReadRelas => write!(f, "read ELF entries"),

@@ -1,6 +1,7 @@
 //! Shows that the comparison can fail: every fault put into ours is found,
 //! against the model even where a departure leaves the Rust aside.
 
+mod ceilings;
 mod elf;
 mod join;
 mod links;
@@ -27,7 +28,7 @@ const DEPARTURES: &[Departure] = &[Departure {
 }];
 
 fn has_alignment(calls: &[Call<'_>]) -> bool {
-    calls.iter().any(|call| matches!(call, Call::Align(_)))
+    calls.iter().any(|call| matches!(call, Call::Align { .. }))
 }
 
 /// How many faults were put in, and which of them were not found.
@@ -63,6 +64,7 @@ pub fn run() -> Findings {
     requests::wrong_adds_are_found(&mut findings);
     elf::wrong_entries_are_found(&mut findings);
     open::wrong_numbers_are_found(&mut findings);
+    ceilings::wrong_padding_is_found(&mut findings);
     join::wrong_joins_are_found(&mut findings);
     join::numbers_are_answered(&mut findings);
     links::changes_are_found(&mut findings);

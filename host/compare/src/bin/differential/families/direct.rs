@@ -1,4 +1,4 @@
-//! The three calls that a sheet carries only in part.
+//! The four calls that a sheet carries only in part.
 
 use compare::{LABEL_TARGET, Random};
 
@@ -11,8 +11,8 @@ pub fn scenario(random: &mut Random) -> Scenario {
     let mut steps = vec![Step::Sheet(draft.calls)];
     for _ in 0..random.between(1, 6) {
         let step = direct(random);
-        // Bytes before a sheet would make its jumps end elsewhere.
-        let first = usize::from(matches!(step, Step::Bytes(_)));
+        // Bytes and padding before a sheet would make its jumps end elsewhere.
+        let first = usize::from(matches!(step, Step::Bytes(_) | Step::Align { .. }));
         let at = random.between(first as u32, steps.len() as u32);
         steps.insert(at as usize, step);
     }
@@ -41,7 +41,7 @@ fn relocation(random: &mut Random) -> Step {
 }
 
 pub fn direct(random: &mut Random) -> Step {
-    match random.below(4) {
+    match random.below(5) {
         0 => {
             let count = random.pick(&[0, 1, 13, 100, 127, 128, 300]);
             Step::Bytes(random.bytes(count))
@@ -52,6 +52,10 @@ pub fn direct(random: &mut Random) -> Step {
             let count = if random.chance(3) { above } else { count };
             Step::Constant(random.bytes(count))
         }
+        3 => Step::Align {
+            multiple: random.pick(&[1, 2, 8, 8, 16, 16, 64, 64, 512, 4096, 3, 8192]),
+            most: random.pick(&[0, 1, 6, 7, 8, 15, 63, 4094, 4095, 1 << 31, u32::MAX]),
+        },
         _ => relocation(random),
     }
 }

@@ -2,6 +2,7 @@
 
 use std::borrow::Cow;
 
+use compare::ceilings::{CeilingRules, Padding, in_sheet};
 use compare::{AARCH64, LABEL_TARGET, Random, X64};
 use reference::Call;
 
@@ -29,6 +30,8 @@ pub struct Draft {
     pub careful: bool,
     pub calls: Vec<Call<'static>>,
     pub offset: u32,
+    /// The places among the calls of alignments that are made by direct calls.
+    direct: Vec<usize>,
     /// Whether each label is bound.
     bound: Vec<bool>,
     /// Whether each constant's label was asked for.
@@ -43,6 +46,7 @@ impl Draft {
             careful: false,
             calls: Vec::new(),
             offset: 0,
+            direct: Vec::new(),
             bound: Vec::new(),
             asked: Vec::new(),
         }
@@ -114,10 +118,31 @@ impl Draft {
     }
 
     pub fn align(&mut self, multiple: u32) {
-        self.push(Call::Align(multiple));
+        self.align_within(multiple, 0);
+    }
+
+    /// By a sheet's call with a second word, whose 0 is the default.
+    pub fn align_within(&mut self, multiple: u32, most: u32) {
+        self.push(Call::Align { multiple, most });
+        self.spend(multiple, in_sheet(most));
+    }
+
+    /// By a direct call, which takes any ceiling.
+    pub fn align_directly(&mut self, multiple: u32, most: u32) {
+        self.direct.push(self.calls.len());
+        self.push(Call::Align { multiple, most });
+        self.spend(multiple, most);
+    }
+
+    fn spend(&mut self, multiple: u32, most: u32) {
         if multiple.is_power_of_two() && multiple <= 4096 {
-            self.offset = self.offset.next_multiple_of(multiple);
+            self.offset += self.padding(multiple, most).spent;
         }
+    }
+
+    /// What an alignment comes to here.
+    pub fn padding(&self, multiple: u32, most: u32) -> Padding {
+        CeilingRules::default().padding(self.offset, multiple, most)
     }
 
     /// Bytes, and the jump that they are.
@@ -242,12 +267,15 @@ impl Draft {
         self.any_label(random).wrapping_add(LABEL_TARGET)
     }
 
-    /// Sheets that make the calls, direct calls between them for bytes and
-    /// constants that no sheet carries, and a finish.
+    /// Sheets that make the calls, direct calls between them for bytes, constants
+    /// and alignments that no sheet carries, and a finish.
     pub fn into_steps(self) -> Vec<Step> {
         let mut steps = Vec::new();
-        for call in self.calls {
+        for (place, call) in self.calls.into_iter().enumerate() {
             match (call, steps.last_mut()) {
+                (Call::Align { multiple, most }, _) if self.direct.contains(&place) => {
+                    steps.push(Step::Align { multiple, most });
+                }
                 (Call::Constant(bytes), _) if bytes.len() > SHEET_BYTES => {
                     steps.push(Step::Constant(bytes.into_owned()));
                 }

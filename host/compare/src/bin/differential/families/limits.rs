@@ -7,8 +7,10 @@ use super::open;
 use crate::scenario::{Scenario, Step};
 
 pub fn scenario(random: &mut Random) -> Scenario {
-    match random.below(10) {
+    match random.below(12) {
         0 => full_code(random),
+        10 => padded_to_the_limit(random),
+        11 => full_of_ceilings(random),
         1 => full_table(random),
         2 => many_events(random),
         3 => grown_code(random),
@@ -120,7 +122,7 @@ fn full_table(random: &mut Random) -> Scenario {
     let call = random.pick(&[0, 1, 2, 3]);
     let call = match call {
         0 => Call::NewLabel,
-        1 => Call::Align(1),
+        1 => Call::align(1),
         2 => Call::Constant((&[]).into()),
         _ => Call::Relocation {
             offset: 3,
@@ -239,13 +241,62 @@ fn many_events(random: &mut Random) -> Scenario {
             condition: 16,
         },
     ];
-    calls.resize(calls.len() + MOST_ENTRIES - 1, Call::Align(1));
+    calls.resize(calls.len() + MOST_ENTRIES - 1, Call::align(1));
     let mut steps = vec![Step::Sheet(calls)];
     if random.chance(50) {
         steps.push(Step::Constant(Vec::new()));
         steps.push(Step::Sheet(vec![Call::ConstantLabel(0)]));
     }
     steps.push(Step::Finish);
+    let mut scenario = Scenario::new(X64, 0, random.number(), steps);
+    scenario.room.set(Part::Segments, MOST_ENTRIES);
+    scenario
+}
+
+/// An alignment that would pass the limit of code, or end at it, if its ceiling
+/// let it.
+fn padded_to_the_limit(random: &mut Random) -> Scenario {
+    let multiple = random.pick(&[8, 4096]);
+    let short = random.pick(&[0, 1, 7, 8, 4095]);
+    let most = random.pick(&[0, 1, short.max(1) - 1, short, 4095, u32::MAX]);
+    let steps = vec![
+        Step::Bytes(vec![0x5A; MOST_CODE - short as usize]),
+        Step::Align { multiple, most },
+        Step::Sheet(vec![Call::Align { multiple, most }]),
+        Step::Finish,
+    ];
+    let arch = random.pick(&[X64, AARCH64]);
+    let mut scenario = Scenario::new(arch, 0, random.number(), steps);
+    // One byte less than its multiple is lent where short is 7 or 4,095.
+    scenario
+        .room
+        .set(Part::Code, MOST_CODE - random.below(2) as usize);
+    scenario.room.set(Part::Output, MOST_CODE);
+    scenario
+}
+
+/// A jump, and as many alignments with a ceiling as the table takes beside it,
+/// each skipped when it is recorded; once the jump is short all are on their
+/// multiple, or one spends what the others then need not.
+fn full_of_ceilings(random: &mut Random) -> Scenario {
+    let mut calls = vec![
+        Call::NewLabel,
+        Call::Bytes((&[0; 5]).into()),
+        Call::Jump {
+            start: 0,
+            length: 5,
+            label: 0,
+            condition: 16,
+        },
+        Call::Bytes(vec![0; random.below(8) as usize].into()),
+    ];
+    let align = Call::Align {
+        multiple: 8,
+        most: random.between(1, 7),
+    };
+    calls.resize(calls.len() + MOST_ENTRIES - 1, align);
+    calls.push(Call::Bind(0));
+    let steps = vec![Step::Sheet(calls), Step::Finish];
     let mut scenario = Scenario::new(X64, 0, random.number(), steps);
     scenario.room.set(Part::Segments, MOST_ENTRIES);
     scenario

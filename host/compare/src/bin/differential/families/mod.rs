@@ -1,6 +1,7 @@
 //! The families of inputs.
 
 mod adds;
+mod ceilings;
 mod chains;
 mod damaged;
 mod digits;
@@ -119,7 +120,7 @@ pub fn all() -> Vec<Family> {
     vec![
         Family {
             name: "short",
-            about: "all recordings of few calls over eight small alphabets",
+            about: "all recordings of few calls over eleven small alphabets",
             source: Source::Numbered {
                 total: short::total(),
                 make: short::scenario,
@@ -190,6 +191,13 @@ pub fn all() -> Vec<Family> {
             50_000,
             true,
             adds::scenario,
+        ),
+        Family::random(
+            "ceilings",
+            "alignments with ceilings on both sides of what they need",
+            100_000,
+            true,
+            ceilings::scenario,
         ),
         Family::random(
             "tables",

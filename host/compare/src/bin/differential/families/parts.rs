@@ -28,11 +28,15 @@ pub fn scenario(random: &mut Random) -> Scenario {
 }
 
 pub fn after_finish(random: &mut Random) -> Step {
-    match random.below(5) {
+    match random.below(6) {
         0 => Step::Sheet(Vec::new()),
         1 => Step::Sheet(vec![Call::NewLabel, Call::Bind(0)]),
         2 => Step::Bytes(random.bytes(3)),
         3 => Step::Constant(random.bytes(65)),
+        4 => Step::Align {
+            multiple: random.pick(&[8, 3]),
+            most: random.below(8),
+        },
         _ => Step::Relocation {
             offset: 0,
             kind: 0,

@@ -2,7 +2,7 @@
 
 use compare::{Lent, Part, Random};
 
-use super::{chains, damaged, direct, mixed, parts, pools};
+use super::{ceilings, chains, damaged, direct, mixed, parts, pools};
 use crate::scenario::Scenario;
 
 /// A scenario whose tables hold what `lent` shows that it comes to, less one
@@ -34,12 +34,13 @@ fn near(entries: usize, random: &mut Random) -> usize {
 /// Lengths that are no multiple of an entry's size, and counts and records
 /// that are too short.
 pub fn odd(random: &mut Random) -> Scenario {
-    let mut scenario = match random.below(6) {
+    let mut scenario = match random.below(7) {
         0 => mixed::scenario(random),
         1 => parts::scenario(random),
         2 => direct::scenario(random),
         3 => damaged::scenario(random),
         4 => pools::scenario(random),
+        5 => ceilings::scenario(random),
         _ => chains::scenario(random),
     };
     scenario.arch = match random.below(10) {

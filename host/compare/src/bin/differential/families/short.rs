@@ -71,7 +71,7 @@ pub fn scenario(number: u64) -> Scenario {
     unreachable!("a recording's number is below the total")
 }
 
-const ALPHABETS: [Alphabet; 8] = [
+const ALPHABETS: [Alphabet; 11] = [
     // Jumps over gaps that bring them to their limits.
     Alphabet {
         arch: X64,
@@ -236,7 +236,59 @@ const ALPHABETS: [Alphabet; 8] = [
         most: 5,
         binds_rest: true,
     },
+    // Alignments with ceilings, by sheets and by direct calls, around jumps that
+    // become short.
+    Alphabet {
+        arch: X64,
+        first: &[new_label],
+        letters: &[
+            |d| d.bind(0),
+            |d| d.zeros(1),
+            |d| d.zeros(3),
+            |d| d.zeros(122),
+            |d| d.jump(0, 5, 16),
+            |d| d.jump(0, 2, 4),
+            |d| d.align_within(4, 1),
+            |d| d.align_within(8, 2),
+            |d| d.align_within(8, 5),
+            |d| d.align_directly(8, 0),
+            |d| d.align(8),
+            here,
+        ],
+        most: 5,
+        binds_rest: true,
+    },
+    // The same off X64, before constants.
+    Alphabet {
+        arch: X86,
+        ..CEILINGS_OFF_X64
+    },
+    CEILINGS_OFF_X64,
 ];
+
+/// Alignments with ceilings on AArch64.
+const CEILINGS_OFF_X64: Alphabet = Alphabet {
+    arch: AARCH64,
+    first: &[new_label, |d| constant(d, vec![3; 9])],
+    letters: &[
+        |d| d.bind(0),
+        |d| d.bytes(&[1]),
+        |d| d.bytes(&[1, 2, 3, 4, 5]),
+        |d| d.align_within(8, 3),
+        |d| d.align_within(8, 6),
+        |d| d.align_within(16, u32::MAX),
+        |d| d.align_directly(4, 0),
+        |d| d.align_directly(4, 2),
+        |d| d.align(2),
+        |d| d.ask(0),
+    ],
+    most: 5,
+    binds_rest: true,
+};
+
+fn here(draft: &mut Draft) {
+    draft.here();
+}
 
 fn new_label(draft: &mut Draft) {
     draft.label();

@@ -74,7 +74,7 @@ fn later_call(random: &mut Random) -> Call<'static> {
         0 => Call::NewLabel,
         1 => Call::Bind(random.below(3)),
         2 => Call::ConstantLabel(random.below(3)),
-        3 => Call::Align(16),
+        3 => Call::align(16),
         _ => Call::Jump {
             start: random.below(40),
             length: random.between(2, 6),

@@ -12,9 +12,9 @@ use crate::scenario::{Scenario, Step};
 /// Inputs that each wrong rule is tried on.
 const TRIED: u64 = 400;
 
-/// Architectures, with a jump and without, on each of which a wrong rule of
-/// Request One must be found.
-const WHERE: [(u32, bool); 4] = [(X86, false), (X64, false), (X64, true), (AARCH64, false)];
+/// Architectures, with a jump and without, on each of which some wrong rules
+/// must be found.
+pub const WHERE: [(u32, bool); 4] = [(X86, false), (X64, false), (X64, true), (AARCH64, false)];
 
 /// Programs that pool constants otherwise than Request One says.
 fn wrong_pools() -> [(&'static str, Rules); 5] {
@@ -70,7 +70,7 @@ pub fn wrong_pools_are_found(findings: &mut Findings) {
 }
 
 /// The architecture, and whether a jump is recorded.
-fn kind_of(scenario: &Scenario) -> (u32, bool) {
+pub fn kind_of(scenario: &Scenario) -> (u32, bool) {
     let is_jump = |call: &Call<'_>| matches!(call, Call::Jump { .. });
     let has_jump = |step: &Step| step.calls().iter().any(is_jump);
     (scenario.arch, scenario.steps.iter().any(has_jump))
