@@ -11,7 +11,7 @@ mod ceiling;
 
 use std::ops::RangeInclusive;
 
-use crate::Call;
+use crate::{Call, Error, Finished, Recording};
 
 /// One change, by name.
 pub struct Departure {
@@ -20,21 +20,28 @@ pub struct Departure {
     /// Whether a recording of an architecture, so many symbols and these calls
     /// meets it. Of one that both refuse it may say either.
     pub is_met: fn(arch: u32, symbols: u32, calls: &[Call<'_>]) -> bool,
+    /// A finish of the Rust's that is told of the change, if it can be; the calls
+    /// are those that were made.
+    pub told: Option<fn(&mut Recording, &[Call<'_>]) -> Result<Finished, Error>>,
 }
 
-/// Every departure.
+/// Every departure. What the Rust can be told of comes last: of the others it
+/// is not told then.
 pub const DEPARTURES: &[Departure] = &[
     Departure {
         name: "wide-constant",
         is_met: |_, _, calls| asks_for_wide_constant(calls),
+        told: None,
     },
     Departure {
         name: "add-field-not-clear",
         is_met: add_field::changes_code,
+        told: None,
     },
     Departure {
         name: "padding-ceiling",
         is_met: ceiling::decides_in_layout,
+        told: Some(Recording::finish_within),
     },
 ];
 
@@ -60,13 +67,13 @@ fn asks_for_wide_constant(calls: &[Call<'_>]) -> bool {
     })
 }
 
-/// The name of the first departure that a recording meets.
-pub fn first_departure(
-    departures: &[Departure],
+/// The first departure that a recording meets.
+pub fn first_departure<'a>(
+    departures: &'a [Departure],
     arch: u32,
     symbols: u32,
     calls: &[Call<'_>],
-) -> Option<&'static str> {
+) -> Option<&'a Departure> {
     let is_met = |departure: &&Departure| (departure.is_met)(arch, symbols, calls);
-    departures.iter().find(is_met).map(|met| met.name)
+    departures.iter().find(is_met)
 }

@@ -6,10 +6,10 @@ use crate::core::buffer::{
     RelocTarget,
 };
 use crate::core::operand::{Label, Sym};
-use crate::core::relax::{self, RelaxableJump};
+use crate::core::relax::{self, Ceiling, RelaxableJump, Told};
 use crate::core::target::Environment;
-use crate::{Error, LABEL_TARGET, X64, link};
-use sheet_text::Padding;
+use crate::{Call, Error, LABEL_TARGET, X64, link};
+use sheet_text::{Padding, most_of_word};
 
 /// `LabelUse` by code.
 const LABEL_USES: [LabelUse; 17] = [
@@ -126,8 +126,7 @@ impl Recording {
 
     /// `most` is a sheet's word: 0 is no ceiling, as the Rust has none. In the
     /// place of an alignment that its ceiling has spend nothing stands one to a
-    /// multiple of 1, which spends nothing and, on X64, is an event as well; what
-    /// a layout would make of its ceiling it does not know.
+    /// multiple of 1, which spends nothing and, on X64, is an event as well.
     pub fn align(&mut self, multiple: u32, most: u32) -> Result<(), Error> {
         let is_skipped = most != 0 && multiple.is_power_of_two() && {
             let offset = self.buffer.data().len() as u64;
@@ -226,6 +225,20 @@ impl Recording {
         Ok(Finished { finalized, layouts })
     }
 
+    /// As [`Self::finish`], but each layout is told of the ceilings of the
+    /// alignments, which are those of the calls that were made.
+    pub fn finish_within(&mut self, calls: &[Call<'_>]) -> Result<Finished, Error> {
+        let ceilings = calls.iter().filter_map(|call| match *call {
+            Call::Align { multiple, most } => Some(Ceiling {
+                multiple,
+                most: most_of_word(most),
+            }),
+            _ => None,
+        });
+        let _told = Told::of(ceilings.collect());
+        self.finish()
+    }
+
     /// `CodeBuffer::finish_owned`, which hands out its vectors in place of
     /// copies and leaves the buffer empty.
     #[inline]
@@ -308,6 +321,17 @@ impl Finished {
     /// How many layouts the rounds made; 0 without a jump.
     pub fn layouts(&self) -> u32 {
         self.layouts
+    }
+}
+
+/// Whether all that is handed out is the same.
+impl PartialEq for Finished {
+    fn eq(&self, other: &Self) -> bool {
+        let parts = |finished: &Self| (finished.alignment(), finished.layouts());
+        parts(self) == parts(other)
+            && self.code() == other.code()
+            && self.labels() == other.labels()
+            && self.relocations().eq(other.relocations())
     }
 }
 

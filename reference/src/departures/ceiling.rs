@@ -3,24 +3,21 @@
 
 use sheet_text::most_of_word;
 
-use crate::core::relax::{self, Ceiling};
-use crate::{Call, Error, Recording, X64, quietly};
+use crate::{Call, Error, Finished, Recording, X64, quietly};
 
-/// Whether some layout of the Rust's has an alignment come to something else
-/// than its ceiling has it.
+/// Whether finish answers otherwise where each layout is told of the ceilings.
 ///
 /// A ceiling that is in the way when an alignment is recorded is no departure:
 /// the driver records an alignment to a multiple of 1 in its place
 /// ([`Recording::align`]), which is as good where nothing is laid out. In a
-/// layout such a one may gain padding, and another may lose what it has: the
-/// Rust knows of neither. Up to the first layout that differs so all are the
-/// same, since the same jumps grow in each.
+/// layout such a one may gain padding, and another may lose what it has.
 pub fn decides_in_layout(arch: u32, symbols: u32, calls: &[Call<'_>]) -> bool {
     let is_jump = |call: &Call<'_>| matches!(call, Call::Jump { .. });
+    let answer = |finish| answer(arch, symbols, calls, finish);
     arch == X64
         && calls.iter().any(may_be_skipped)
         && calls.iter().any(is_jump)
-        && quietly(|| is_passed_over(arch, symbols, calls)) == Ok(Ok(true))
+        && answer(|recording, _| recording.finish()) != answer(Recording::finish_within)
 }
 
 /// Whether there are offsets at which more than the ceiling is needed.
@@ -28,20 +25,19 @@ fn may_be_skipped(call: &Call<'_>) -> bool {
     matches!(*call, Call::Align { multiple, most } if most_of_word(most) < multiple.saturating_sub(1))
 }
 
-fn is_passed_over(arch: u32, symbols: u32, calls: &[Call<'_>]) -> Result<bool, Error> {
-    let mut recording = Recording::new(arch, symbols)?;
-    for call in calls {
-        recording.call(call)?;
-    }
-    let ceilings = calls.iter().filter_map(|call| match *call {
-        Call::Align { multiple, most } => Some(Ceiling {
-            multiple,
-            most: most_of_word(most),
-        }),
-        _ => None,
+/// What becomes of calls with one finish or another.
+fn answer(
+    arch: u32,
+    symbols: u32,
+    calls: &[Call<'_>],
+    finish: fn(&mut Recording, &[Call<'_>]) -> Result<Finished, Error>,
+) -> Result<Finished, Error> {
+    let answer = quietly(|| {
+        let mut recording = Recording::new(arch, symbols)?;
+        for call in calls {
+            recording.call(call)?;
+        }
+        finish(&mut recording, calls)
     });
-    relax::watch(ceilings.collect());
-    // What it answers may be another for the ceiling.
-    let _ = quietly(|| recording.finish());
-    Ok(relax::end_watch())
+    answer.and_then(|answer| answer)
 }

@@ -1,4 +1,4 @@
-//! asmkit's relax.rs with its layouts counted, and its alignments watched.
+//! asmkit's relax.rs with its layouts counted, and told of ceilings.
 //!
 //! The file itself is the module `asmkit`; what it takes from `super` is
 //! named here.
@@ -25,71 +25,78 @@ pub(crate) fn take_layouts() -> u32 {
     LAYOUTS.take()
 }
 
-/// What an alignment that was recorded is to come to in a layout.
+/// The most bytes that an alignment to a multiple may spend.
 pub(crate) struct Ceiling {
     pub multiple: u32,
-    /// The most bytes that it may spend.
     pub most: u32,
 }
 
-/// The ceilings of a recording's alignments, and whether a layout passed over
-/// one.
-#[derive(Default)]
-struct Watch {
-    ceilings: Vec<Ceiling>,
-    is_passed_over: bool,
-}
-
 thread_local! {
-    static WATCH: RefCell<Watch> = RefCell::default();
+    static CEILINGS: RefCell<Vec<Ceiling>> = const { RefCell::new(Vec::new()) };
 }
 
-/// Has the layouts that are made on this thread held against ceilings, which are
-/// those of all alignments recorded, in order.
-pub(crate) fn watch(ceilings: Vec<Ceiling>) {
-    let watch = Watch {
-        ceilings,
-        is_passed_over: false,
-    };
-    WATCH.set(watch);
-}
+/// As long as this lives, the layouts made on this thread keep to ceilings.
+pub(crate) struct Told(());
 
-/// Whether an alignment came to something else than its ceiling has it, in a
-/// layout since [`watch`]; ends the watch.
-pub(crate) fn end_watch() -> bool {
-    WATCH.take().is_passed_over
-}
-
-impl Watch {
-    /// The alignments of the pool come after all others, and have no ceiling.
-    fn look(&mut self, events: &[LayoutEvent], segments: &[asmkit::Segment]) {
-        let placed = events.iter().zip(segments);
-        let alignments = placed.filter(|(event, _)| matches!(event, LayoutEvent::Align { .. }));
-        self.is_passed_over |= alignments
-            .zip(&self.ceilings)
-            .any(|((_, segment), ceiling)| {
-                let Ceiling { multiple, most } = *ceiling;
-                let padding = Padding::at(segment.new_start.into(), multiple, most);
-                segment.new_end - segment.new_start != padding.spent()
-            });
+impl Told {
+    /// Tells of the ceilings of all alignments recorded, in order.
+    pub fn of(ceilings: Vec<Ceiling>) -> Self {
+        CEILINGS.set(ceilings);
+        Self(())
     }
 }
 
-/// asmkit's `OffsetMap`, each `layout` of which is counted and, if so asked,
-/// held against ceilings.
+impl Drop for Told {
+    fn drop(&mut self) {
+        CEILINGS.take();
+    }
+}
+
+/// asmkit's layout, to which an alignment that would pass its ceiling is handed
+/// as one to a multiple of 1. Where an alignment stands hangs on those before it
+/// alone, so that each turn settles one more. The pool's come after all others
+/// and have no ceiling.
+fn layout_within(
+    events: &[LayoutEvent],
+    long: &[bool],
+    ceilings: &[Ceiling],
+) -> asmkit::OffsetMap {
+    let mut events = events.to_vec();
+    loop {
+        let map = asmkit::OffsetMap::layout(&events, long);
+        let alignments = events.iter_mut().zip(map.segments());
+        let alignments = alignments.filter_map(|(event, segment)| match event {
+            LayoutEvent::Align { align, .. } => Some((align, segment.new_start)),
+            LayoutEvent::Jump(_) => None,
+        });
+        let mut is_settled = true;
+        for ((align, new_start), ceiling) in alignments.zip(ceilings) {
+            let Ceiling { multiple, most } = *ceiling;
+            let handed = match Padding::at(new_start.into(), multiple, most) {
+                Padding::Spent(_) => multiple,
+                Padding::Skipped(_) => 1,
+            };
+            is_settled &= *align == handed;
+            *align = handed;
+        }
+        if is_settled {
+            return map;
+        }
+    }
+}
+
+/// asmkit's `OffsetMap`, each `layout` of which is counted and, where it is told
+/// of ceilings, keeps to them.
 #[derive(Clone, Default, Debug)]
 pub(crate) struct OffsetMap(asmkit::OffsetMap);
 
 impl OffsetMap {
     pub fn layout(events: &[LayoutEvent], long: &[bool]) -> Self {
         LAYOUTS.set(LAYOUTS.get() + 1);
-        let map = asmkit::OffsetMap::layout(events, long);
-        WATCH.with_borrow_mut(|watch| {
-            if !watch.ceilings.is_empty() {
-                watch.look(events, map.segments());
-            }
-        });
-        Self(map)
+        Self(CEILINGS.with_borrow(|ceilings| match ceilings[..] {
+            [] => asmkit::OffsetMap::layout(events, long),
+            _ => layout_within(events, long, ceilings),
+        }))
     }
 
     #[inline]

@@ -36,7 +36,8 @@ pub struct Outcome {
     pub finished: bool,
     /// A finish was compared with the Rust's, or a join with its linker's.
     pub compared: bool,
-    /// The departure for which a finish was held against the model alone.
+    /// The departure that was met: a finish was held against the model alone, or
+    /// against the Rust told of the change, too.
     pub departure: Option<&'static str>,
 }
 

@@ -29,7 +29,8 @@ pub struct Rust<'a> {
 }
 
 impl<'a> Rust<'a> {
-    /// Finishes that meet one of the departures are not compared.
+    /// Finishes that meet one of the departures are compared only where the Rust
+    /// can be told of it.
     pub fn new(scenario: &Scenario, departures: &'static [Departure]) -> Self {
         let Scenario { arch, symbols, .. } = *scenario;
         let recording = can_start(arch, symbols).then(|| Recording::new(arch, symbols).ok());
@@ -45,11 +46,11 @@ impl<'a> Rust<'a> {
         }
     }
 
-    /// Whether the recording meets a departure, which is then noted.
-    fn departs(&mut self) -> bool {
+    /// The departure that the recording meets, if there is one; it is noted.
+    fn departs(&mut self) -> Option<&'static Departure> {
         let met = first_departure(self.departures, self.arch, self.symbols, &self.accepted);
-        self.departure = self.departure.or(met);
-        met.is_some()
+        self.departure = self.departure.or(met.map(|met| met.name));
+        met
     }
 
     /// Before a finish of tables made by hand: brings the Rust to the same
@@ -149,7 +150,9 @@ impl<'a> Rust<'a> {
         let Some(mut recording) = self.recording.take() else {
             return Ok(());
         };
-        if self.departs() {
+        let departure = self.departs();
+        let told = departure.and_then(|departure| departure.told);
+        if departure.is_some() && told.is_none() {
             return Ok(());
         }
         let added = added_refusal(self.arch, self.symbols, &self.accepted);
@@ -163,7 +166,11 @@ impl<'a> Rust<'a> {
             _ => return Ok(()),
         }
         self.compared = true;
-        let answer = quietly(|| recording.finish()).and_then(|answer| answer);
+        let answer = quietly(|| match told {
+            None => recording.finish(),
+            Some(told) => told(&mut recording, &self.accepted),
+        });
+        let answer = answer.and_then(|answer| answer);
         match (answer, expected) {
             (Ok(finished), None) => compare_finished(&finished, lent),
             (Ok(_), Some(_)) => Err(format!("the Rust finishes what {refusal} refuses")),

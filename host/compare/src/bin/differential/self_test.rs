@@ -25,6 +25,7 @@ const INPUTS: u64 = 40;
 const DEPARTURES: &[Departure] = &[Departure {
     name: "alignments",
     is_met: |_, _, calls| has_alignment(calls),
+    told: None,
 }];
 
 fn has_alignment(calls: &[Call<'_>]) -> bool {
@@ -134,7 +135,7 @@ fn has_effect(fault: Fault, scenario: &Scenario, step: usize) -> bool {
 }
 
 /// Inputs of one sheet and a finish, all of it accepted and compared with the
-/// Rust, and what they leave in lent memory.
+/// Rust, which was told of nothing, and what they leave in lent memory.
 fn finished_inputs(
     family: &Family,
     runner: &mut Runner,
@@ -143,7 +144,7 @@ fn finished_inputs(
         let scenario = family.scenario(0, index);
         let is_sheet = matches!(scenario.steps[..], [Step::Sheet(_), Step::Finish]);
         let outcome = is_sheet.then(|| runner.run(&scenario).ok())??;
-        let is_accepted = outcome.refusal == 0 && outcome.compared;
+        let is_accepted = outcome.refusal == 0 && outcome.compared && outcome.departure.is_none();
         is_accepted.then(|| (index, scenario, runner.lent().clone()))
     })
 }

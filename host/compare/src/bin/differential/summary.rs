@@ -21,7 +21,7 @@ pub struct Tally {
     pub disagreements: u64,
     /// First refusals by number.
     refused: [u64; LAST_REFUSAL + 1],
-    /// Recordings whose finish was held against the model alone, by departure.
+    /// Recordings that met a departure, by its name.
     pub departed: BTreeMap<&'static str, u64>,
 }
 
@@ -92,7 +92,11 @@ pub fn print(tallies: &[Tally]) {
             .iter()
             .filter_map(|tally| tally.departed.get(departure.name));
         let count: u64 = counts.sum();
-        println!("{count} recordings without the Rust: {}", departure.name);
+        let how = match departure.told {
+            None => "without the Rust",
+            Some(_) => "beside the Rust told of it",
+        };
+        println!("{count} recordings {how}: {}", departure.name);
     }
     let mut recordings = 0;
     for tally in tallies {
