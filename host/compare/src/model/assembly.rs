@@ -2,7 +2,7 @@
 //! rounds that settle which jumps are long.
 
 use super::calls::nops;
-use super::ceilings::CeilingRules;
+use super::ceilings::{CeilingRules, Round};
 use super::pool::{Event, Pooled};
 use super::{Rules, fields};
 use crate::NONE;
@@ -116,19 +116,33 @@ pub struct Settled {
     pub placed: Placed,
 }
 
-/// Rounds from no jump long, until one lengthens none.
+/// Rounds from no jump long, until one lengthens none. A layout may be shorter
+/// than the one before: no jump returns to short for that.
 pub fn settle(pooled: &Pooled, rules: CeilingRules) -> Settled {
     let mut long = vec![false; pooled.events.len()];
     let mut rounds = 0;
+    let mut before = 0;
     loop {
         rounds += 1;
         let placed = place(pooled, &long, rules);
-        let out_of_reach = short_jumps_out_of_reach(pooled, &placed, &long);
-        if out_of_reach.is_empty() {
-            return Settled {
+        let out_of_reach = jumps(pooled, &placed, |number, reaches| !long[number] && !reaches);
+        let length = placed.code.len();
+        let round = Round {
+            out_of_reach: out_of_reach.len(),
+            length,
+            before,
+        };
+        before = length;
+        if (rules.is_last)(&round) {
+            let within = jumps(pooled, &placed, |number, reaches| long[number] && reaches);
+            let settled = Settled {
                 long,
                 rounds,
                 placed,
+            };
+            return match rules.stays_long {
+                true => settled,
+                false => shortened(pooled, settled, &within, rules),
             };
         }
         for jump in out_of_reach {
@@ -137,14 +151,30 @@ pub fn settle(pooled: &Pooled, rules: CeilingRules) -> Settled {
     }
 }
 
-fn short_jumps_out_of_reach(pooled: &Pooled, placed: &Placed, long: &[bool]) -> Vec<usize> {
-    let is_out = |&number: &usize| match pooled.events[number] {
-        Event::Jump { label, .. } if !long[number] => {
-            i8::try_from(displacement(pooled, placed, number, label)).is_err()
+/// The same with some jumps short again.
+fn shortened(
+    pooled: &Pooled,
+    mut settled: Settled,
+    short: &[usize],
+    rules: CeilingRules,
+) -> Settled {
+    for jump in short {
+        settled.long[*jump] = false;
+    }
+    settled.placed = place(pooled, &settled.long, rules);
+    settled
+}
+
+/// The numbers of jumps, by whether a displacement of one byte holds theirs.
+fn jumps(pooled: &Pooled, placed: &Placed, is_meant: impl Fn(usize, bool) -> bool) -> Vec<usize> {
+    let is_meant = |&number: &usize| match pooled.events[number] {
+        Event::Jump { label, .. } => {
+            let reaches = i8::try_from(displacement(pooled, placed, number, label)).is_ok();
+            is_meant(number, reaches)
         }
-        _ => false,
+        Event::Align { .. } => false,
     };
-    (0..long.len()).filter(is_out).collect()
+    (0..pooled.events.len()).filter(is_meant).collect()
 }
 
 /// A label's new offset minus a jump's new end.

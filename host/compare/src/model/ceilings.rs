@@ -18,6 +18,15 @@ pub struct Padding {
     pub spent: u32,
 }
 
+/// A layout among the rounds.
+pub struct Round {
+    /// How many short jumps do not reach their labels.
+    pub out_of_reach: usize,
+    /// The length of the code, and that of the layout before, 0 for the first.
+    pub length: usize,
+    pub before: usize,
+}
+
 /// How ceilings are given, kept and obeyed.
 #[derive(Clone, Copy)]
 pub struct CeilingRules {
@@ -40,6 +49,10 @@ pub struct CeilingRules {
     pub fits: fn(&Padding, length: u32) -> bool,
     /// The bytes that are spent in a layout, where so many were recorded.
     pub laid_out: fn(&Padding, recorded: u32) -> u32,
+    /// Whether the rounds end with a layout.
+    pub is_last: fn(&Round) -> bool,
+    /// Whether a jump that is long stays so where it would reach its label again.
+    pub stays_long: bool,
     /// The ceiling of the alignments before constants.
     pub pooled: u32,
     /// The tables that a direct call is lent.
@@ -60,6 +73,8 @@ impl Default for CeilingRules {
             kept: |padding| padding.most,
             fits: |padding, length| length == padding.spent,
             laid_out: |padding, _| padding.spent,
+            is_last: |round| round.out_of_reach == 0,
+            stays_long: true,
             pooled: DEFAULT_CEILING,
             tables: &[Part::Code, Part::Events],
             order: [5, 11, 12],

@@ -9,7 +9,7 @@ mod open;
 mod requests;
 
 use compare::{Lent, Part, Reply, Rules};
-use reference::{Call, Departure, run_calls};
+use reference::{Call, Departure, Error, Finished, Recording};
 
 use crate::families::{self, Family};
 use crate::fault::Fault;
@@ -135,7 +135,7 @@ fn has_effect(fault: Fault, scenario: &Scenario, step: usize) -> bool {
 }
 
 /// Inputs of one sheet and a finish, all of it accepted and compared with the
-/// Rust, which was told of nothing, and what they leave in lent memory.
+/// Rust, and what they leave in lent memory.
 fn finished_inputs(
     family: &Family,
     runner: &mut Runner,
@@ -144,7 +144,7 @@ fn finished_inputs(
         let scenario = family.scenario(0, index);
         let is_sheet = matches!(scenario.steps[..], [Step::Sheet(_), Step::Finish]);
         let outcome = is_sheet.then(|| runner.run(&scenario).ok())??;
-        let is_accepted = outcome.refusal == 0 && outcome.compared && outcome.departure.is_none();
+        let is_accepted = outcome.refusal == 0 && outcome.compared;
         is_accepted.then(|| (index, scenario, runner.lent().clone()))
     })
 }
@@ -153,8 +153,7 @@ fn finished_inputs(
 fn against_rust(family: &Family, runner: &mut Runner, findings: &mut Findings) {
     for (index, scenario, mut lent) in finished_inputs(family, runner) {
         let calls = scenario.steps[0].calls();
-        let answer = run_calls(scenario.arch, scenario.symbols, &calls);
-        let finished = answer.finished.expect("it agrees with ours");
+        let finished = finished_by_rust(&scenario, &calls);
         for (part, at) in compared_bytes(&lent) {
             lent[part][at] ^= 1;
             let found = compare_finished(&finished, &lent).is_err();
@@ -164,6 +163,18 @@ fn against_rust(family: &Family, runner: &mut Runner, findings: &mut Findings) {
             lent[part][at] ^= 1;
         }
     }
+}
+
+/// What calls come to in the Rust, told of their ceilings.
+fn finished_by_rust(scenario: &Scenario, calls: &[Call<'_>]) -> Finished {
+    let finished = || {
+        let mut recording = Recording::new(scenario.arch, scenario.symbols)?;
+        for call in calls {
+            recording.call(call)?;
+        }
+        recording.finish_within(calls)
+    };
+    finished().unwrap_or_else(|error: Error| panic!("it agrees with ours: {error}"))
 }
 
 /// A recording that meets a departure is held against the model, not against

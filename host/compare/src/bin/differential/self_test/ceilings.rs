@@ -1,6 +1,6 @@
 //! Programs that pad otherwise than Request Seven says.
 
-use compare::ceilings::{CeilingRules, DEFAULT_CEILING, Padding, in_sheet, spent};
+use compare::ceilings::{CeilingRules, DEFAULT_CEILING, Padding, Round, in_sheet, spent};
 use compare::{AARCH64, Part, Rules, X64, X86};
 
 use super::requests::{WHERE, kind_of};
@@ -236,6 +236,19 @@ pub fn wrong_padding_is_found(findings: &mut Findings) {
     wrong.push(("it is looked at in layouts alone", in_layouts_alone));
     let room = |padding: &Padding| padding.needed;
     wrong.push(("12 counts what is needed", CeilingRules { room, ..right }));
+    let is_last = |round: &Round| round.out_of_reach == 0 || round.length <= round.before;
+    wrong.push((
+        "rounds end with a shorter layout",
+        CeilingRules { is_last, ..right },
+    ));
+    let stays_long = false;
+    wrong.push((
+        "a jump returns to short",
+        CeilingRules {
+            stays_long,
+            ..right
+        },
+    ));
     let wrong: Vec<_> = wrong
         .into_iter()
         .map(|(name, ceilings)| (name, ruled(ceilings)))
