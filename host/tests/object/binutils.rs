@@ -40,6 +40,10 @@ impl Folder {
         fs::write(self.0.join(name), content).unwrap();
     }
 
+    pub fn read(&self, name: &str) -> Vec<u8> {
+        fs::read(self.0.join(name)).unwrap()
+    }
+
     /// What a program prints that has nothing to complain of.
     pub fn printed(&self, command: &str) -> String {
         let output = self.run(command);

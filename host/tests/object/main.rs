@@ -2,10 +2,15 @@
 
 mod aarch64;
 mod binutils;
+#[cfg(all(target_arch = "x86_64", target_os = "linux"))]
+mod ceilings;
 mod contents;
 #[path = "../host/elf_types.rs"]
 mod elf_types;
 mod joined;
+#[cfg(all(target_arch = "x86_64", target_os = "linux"))]
+#[path = "../host/random.rs"]
+mod random;
 mod reader;
 mod shown;
 #[cfg(all(target_arch = "x86_64", target_os = "linux"))]
