@@ -3,6 +3,7 @@
 use std::borrow::Cow;
 use std::slice;
 
+use compare::ceilings::CeilingRules;
 use compare::{LABEL_TARGET, MOST_CODE, MOST_ENTRIES, Random};
 use reference::{Call, write_sheet};
 use wargnifla::Condition;
@@ -75,9 +76,11 @@ impl Draft {
         }
     }
 
-    fn align(&mut self, multiple: u32) {
-        self.calls.push(Call::align(multiple));
-        self.offset = self.offset.next_multiple_of(multiple);
+    fn align(&mut self, Alignment { multiple, most }: Alignment) {
+        self.calls.push(Call::Align { multiple, most });
+        let rules = CeilingRules::default();
+        let most = (rules.in_sheet)(most);
+        self.offset += rules.padding(self.offset, multiple, most).spent;
     }
 
     /// A jump in its long form; the condition 16 is none.
@@ -110,6 +113,18 @@ impl Draft {
     }
 }
 
+/// An alignment as a sheet has it: a `most` of 0 is the default.
+#[derive(Clone, Copy)]
+struct Alignment {
+    multiple: u32,
+    most: u32,
+}
+
+const ON_16: Alignment = Alignment {
+    multiple: 16,
+    most: 0,
+};
+
 /// How the numbers of labels lie to their offsets.
 #[derive(Clone, Copy)]
 enum Labels {
@@ -133,7 +148,7 @@ impl Labels {
 
 /// A rule: jumps with labels near them and now and then far away, alignments
 /// and plain code between.
-fn rule(jumps: u32, alignments: u32, plain: u32, labels: Labels) -> Draft {
+fn rule(jumps: u32, alignments: u32, plain: u32, labels: Labels, alignment: Alignment) -> Draft {
     let mut random = Random::new(1);
     let mut draft = Draft::default();
     for _ in 0..jumps {
@@ -149,7 +164,7 @@ fn rule(jumps: u32, alignments: u32, plain: u32, labels: Labels) -> Draft {
         let condition = random.below(17);
         draft.jump(labels[label.min(jumps - 1) as usize], condition);
         if alignments > 0 && jump % (jumps / alignments) == 0 {
-            draft.align(16);
+            draft.align(alignment);
         }
     }
     draft
@@ -157,7 +172,7 @@ fn rule(jumps: u32, alignments: u32, plain: u32, labels: Labels) -> Draft {
 
 /// Few jumps, an alignment for five of them.
 fn small_rule(jumps: u32) -> Draft {
-    rule(jumps, jumps / 5, 9, Labels::Rising)
+    rule(jumps, jumps / 5, 9, Labels::Rising, ON_16)
 }
 
 pub fn small(jumps: u32) -> Vec<Step> {
@@ -170,7 +185,7 @@ pub fn small_calls(jumps: u32) -> Vec<Step> {
 }
 
 fn typical_rule(labels: Labels) -> Draft {
-    rule(1_000, 200, 9, labels)
+    rule(1_000, 200, 9, labels, ON_16)
 }
 
 /// 1,000 jumps and 200 alignments in 16 KiB.
@@ -187,8 +202,51 @@ pub fn typical_calls() -> Vec<Step> {
     vec![typical_rule(Labels::Rising).one_by_one()]
 }
 
+/// As [`typical`], with other alignments.
+fn typical_aligned(multiple: u32, most: u32) -> Vec<Step> {
+    let alignment = Alignment { multiple, most };
+    vec![rule(1_000, 200, 9, Labels::Rising, alignment).sheet()]
+}
+
+/// Ceilings that are the default, and said.
+pub fn typical_said() -> Vec<Step> {
+    typical_aligned(16, 4_095)
+}
+
+/// Alignments to 32 that spend at most 10 bytes.
+pub fn typical_within() -> Vec<Step> {
+    typical_aligned(32, 10)
+}
+
+/// The same without ceilings.
+pub fn typical_on_32() -> Vec<Step> {
+    typical_aligned(32, 0)
+}
+
+/// A jump, and as many alignments as events are left, each behind a byte.
+fn alignments_of(alignment: Alignment) -> Vec<Step> {
+    let mut draft = Draft::default();
+    let label = draft.label();
+    draft.bind(label);
+    draft.jump(label, 16);
+    for _ in 1..MOST_ENTRIES {
+        draft.bytes(1);
+        draft.align(alignment);
+    }
+    vec![draft.sheet()]
+}
+
+pub fn alignments() -> Vec<Step> {
+    alignments_of(ON_16)
+}
+
+/// The same, each of which spends at most 10 bytes.
+pub fn alignments_within() -> Vec<Step> {
+    alignments_of(Alignment { most: 10, ..ON_16 })
+}
+
 fn large_rule(labels: Labels) -> Vec<Step> {
-    vec![rule(50_000, 10_000, 76, labels).sheet()]
+    vec![rule(50_000, 10_000, 76, labels, ON_16).sheet()]
 }
 
 /// 60,000 events in 4 MiB.

@@ -24,6 +24,9 @@ pub enum Sides {
     Verified(HandOut),
     /// The host's wrapper, and the Rust.
     Wrapper(HandOut),
+    /// The C functions, and the Rust on another recording, which it finishes to
+    /// other code.
+    Instead(fn() -> Vec<Step>),
     /// The C functions, and a copy of as many bytes as may be recorded.
     Copy,
     /// The C functions for ELF entries, and plain loops.
@@ -137,7 +140,7 @@ impl Row {
 const OWNED: Sides = Sides::Verified(HandOut::Owned);
 const WRAPPER: Sides = Sides::Wrapper(HandOut::Copies);
 
-pub const ROWS: [Row; 52] = [
+pub const ROWS: [Row; 60] = [
     row("jumps-1", "finish: 1 jump", || inputs::small(1)).batched(16),
     row("jumps-10", "finish: 10 jumps", || inputs::small(10)).batched(16),
     row("jumps-20", "finish: 20 jumps", || inputs::small(20)).batched(16),
@@ -158,6 +161,28 @@ pub const ROWS: [Row; 52] = [
         "finish: the typical rule, its labels shuffled",
         inputs::typical_shuffled,
     ),
+    row(
+        "ceilings-said",
+        "finish: the typical rule, ceilings of 4,095 said",
+        inputs::typical_said,
+    ),
+    row(
+        "ceilings",
+        "finish: the typical rule on 32, ceilings of 10; the Rust without",
+        inputs::typical_within,
+    )
+    .beside(Sides::Instead(inputs::typical_on_32)),
+    row(
+        "alignments",
+        "finish: 65,535 alignments, one jump",
+        inputs::alignments,
+    ),
+    row(
+        "alignments-ceilings",
+        "the same with ceilings of 10; the Rust without",
+        inputs::alignments_within,
+    )
+    .beside(Sides::Instead(inputs::alignments)),
     row("large", "finish: 60,000 events, 4 MiB", inputs::large),
     row(
         "large-shuffled",
@@ -293,6 +318,32 @@ pub const ROWS: [Row; 52] = [
         inputs::typical_shuffled,
     )
     .recording(),
+    row(
+        "record-ceilings-said",
+        "record: the typical rule, ceilings of 4,095 said",
+        inputs::typical_said,
+    )
+    .recording(),
+    row(
+        "record-ceilings",
+        "record: the typical rule on 32, ceilings of 10; the Rust without",
+        inputs::typical_within,
+    )
+    .recording()
+    .beside(Sides::Instead(inputs::typical_on_32)),
+    row(
+        "record-alignments",
+        "record: 65,535 alignments, from a sheet",
+        inputs::alignments,
+    )
+    .recording(),
+    row(
+        "record-alignments-ceilings",
+        "the same with ceilings of 10; the Rust without",
+        inputs::alignments_within,
+    )
+    .recording()
+    .beside(Sides::Instead(inputs::alignments)),
     row(
         "record-large",
         "record: 60,000 events, 4 MiB, from a sheet",

@@ -12,7 +12,7 @@ use crate::measure::{Clock, Effort, Measured, take_turns};
 use crate::print::grouped;
 use crate::relas::{Loop, Relas};
 use crate::rows::{Input, Row, Sides, Timed};
-use crate::sides::{Copy, Rust, Side, Verified, Wrapper, memory};
+use crate::sides::{Copy, HandOut, Rust, Side, Verified, Wrapper, memory};
 
 /// What a row gave, and what is to be said of it; or why it can't be measured.
 pub fn measure(row: &Row, effort: Effort) -> Result<(Measured, Option<String>), String> {
@@ -27,6 +27,14 @@ pub fn measure(row: &Row, effort: Effort) -> Result<(Measured, Option<String>), 
         Sides::Wrapper(hand_out) => {
             let mut wrapper = Wrapper::default();
             compare(row, effort, &steps, &mut wrapper, rust(hand_out))
+        }
+        Sides::Instead(other) => {
+            let (other, mut rust) = (other(), rust(HandOut::Copies));
+            take_turns(
+                effort,
+                || time(row, &mut verified, &steps),
+                || time(row, &mut rust, &other),
+            )
         }
         Sides::Copy => in_turns(row, effort, &steps, &mut verified, &mut Copy::new()),
         Sides::Relas(task) => {

@@ -202,7 +202,7 @@ fn make(buffer: &mut CodeBuffer, one: &OneCall) -> Result<(), Error> {
         Call::Bytes(ref bytes) => buffer.put_bytes(bytes),
         Call::NewLabel => buffer.get_label().map(|_| ()),
         Call::Bind(label) => buffer.try_bind_label(Label::from_id(label)),
-        Call::Align { multiple, .. } => buffer.try_align_to(multiple),
+        Call::Align { multiple, most: 0 } => buffer.try_align_to(multiple),
         Call::Jump {
             start,
             length,
