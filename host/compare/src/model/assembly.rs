@@ -116,8 +116,8 @@ pub struct Settled {
     pub placed: Placed,
 }
 
-/// Rounds from no jump long, until one lengthens none. A layout may be shorter
-/// than the one before: no jump returns to short for that.
+/// Rounds from no jump long, until one lengthens none. A long jump whose label
+/// comes into reach again, since padding between them shrinks, stays long.
 pub fn settle(pooled: &Pooled, rules: CeilingRules) -> Settled {
     let mut long = vec![false; pooled.events.len()];
     let mut rounds = 0;

@@ -238,7 +238,7 @@ pub fn wrong_padding_is_found(findings: &mut Findings) {
     wrong.push(("12 counts what is needed", CeilingRules { room, ..right }));
     let is_last = |round: &Round| round.out_of_reach == 0 || round.length <= round.before;
     wrong.push((
-        "rounds end with a shorter layout",
+        "rounds end where the code does not grow",
         CeilingRules { is_last, ..right },
     ));
     let stays_long = false;
