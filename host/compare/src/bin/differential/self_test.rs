@@ -66,6 +66,7 @@ pub fn run() -> Findings {
     elf::wrong_entries_are_found(&mut findings);
     open::wrong_numbers_are_found(&mut findings);
     ceilings::wrong_padding_is_found(&mut findings);
+    ceilings::smallest_are_answered(&mut findings);
     join::wrong_joins_are_found(&mut findings);
     join::numbers_are_answered(&mut findings);
     links::changes_are_found(&mut findings);

@@ -3,8 +3,12 @@
 use compare::ceilings::{CeilingRules, DEFAULT_CEILING, Padding, Round, in_sheet, spent};
 use compare::{AARCH64, Part, Rules, X64, X86};
 
+use reference::TextStep;
+
 use super::requests::{WHERE, kind_of};
 use super::{Findings, inputs_of, with_wrong_rules};
+use crate::runner::Runner;
+use crate::scenario::{Scenario, Step};
 
 /// Inputs that each wrong rule is tried on.
 const TRIED: u64 = 5_000;
@@ -254,4 +258,59 @@ pub fn wrong_padding_is_found(findings: &mut Findings) {
         .map(|(name, ceilings)| (name, ruled(ceilings)))
         .collect();
     with_wrong_rules("ceilings", &wrong, &inputs, findings);
+}
+
+/// The smallest recordings on both sides of what Request Seven changed, with the
+/// length of the code that they finish to.
+const SMALLEST: [(&str, u32); 8] = [
+    ("b 90; a 8 6", 1),
+    ("b 90; a 8 7", 8),
+    ("b 90; a 8", 8),
+    ("n; z 5; j 0 5 0 16; z 3; a 8 5; l 0", 8),
+    ("n; z 5; j 0 5 0 16; z 3; a 8 2; l 0", 5),
+    ("n; z 5; j 0 5 0 16; z 2; a 8 1; l 0", 4),
+    ("n; z 5; j 0 5 0 16; z 4; a 8 3; l 0", 8),
+    ("n; z 5; j 0 5 0 16; z 4; a 8 1; l 0", 6),
+];
+
+/// An alignment whose ceiling is 0 in the table, as tables written before have
+/// it, and whether finish takes it.
+const WRITTEN_BEFORE: [(&str, bool); 3] = [
+    ("b 90; a 8", false),
+    ("b 90; a 8 6", true),
+    ("z 8; a 8", true),
+];
+
+/// The smallest recordings come to what they are to.
+pub fn smallest_are_answered(findings: &mut Findings) {
+    let mut runner = Runner::default();
+    for (sheet, length) in SMALLEST {
+        let scenario = Scenario::new(X64, 0, 1, vec![recorded(sheet), Step::Finish]);
+        let is_finished = runner.run(&scenario).is_ok_and(|outcome| outcome.finished);
+        let came_to = runner.lent().word(Part::Record, 0, 1);
+        findings.add(is_finished && came_to == length, || {
+            format!("{sheet}: {came_to} bytes, not {length}")
+        });
+    }
+    for (sheet, is_taken) in WRITTEN_BEFORE {
+        let write = Step::Write {
+            part: Part::Events,
+            at: 16,
+            bytes: vec![0; 4],
+        };
+        let steps = vec![recorded(sheet), write, Step::Finish];
+        let outcome = runner.run(&Scenario::new(X64, 0, 1, steps));
+        let refusal = outcome.map(|outcome| outcome.refusal);
+        let expected = if is_taken { 0 } else { 1 };
+        findings.add(matches!(refusal, Ok(number) if number == expected), || {
+            format!("{sheet}, its ceiling 0 by hand: {refusal:?}")
+        });
+    }
+}
+
+/// The sheet of a text.
+fn recorded(text: &str) -> Step {
+    let script = reference::read_text(text).expect("it is well formed");
+    let calls = script.calls.iter().filter_map(TextStep::call);
+    Step::Sheet(calls.cloned().collect())
 }
