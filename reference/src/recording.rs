@@ -1,5 +1,7 @@
 //! One recording: a `CodeBuffer` and the calls of document 01 on it.
 
+use sheet_text::{Padding, most_of_word};
+
 use crate::core::arch_traits::Arch;
 use crate::core::buffer::{
     CodeBuffer, CodeBufferFinalized, Constant, ConstantData, LabelUse, Reloc, RelocDistance,
@@ -9,7 +11,6 @@ use crate::core::operand::{Label, Sym};
 use crate::core::relax::{self, Ceiling, RelaxableJump, Told};
 use crate::core::target::Environment;
 use crate::{Call, Error, LABEL_TARGET, X64, link};
-use sheet_text::{Padding, most_of_word};
 
 /// `LabelUse` by code.
 const LABEL_USES: [LabelUse; 17] = [
@@ -130,7 +131,7 @@ impl Recording {
     pub fn align(&mut self, multiple: u32, most: u32) -> Result<(), Error> {
         let is_skipped = most != 0 && multiple.is_power_of_two() && {
             let offset = self.buffer.data().len() as u64;
-            matches!(Padding::at(offset, multiple, most), Padding::Skipped(_))
+            Padding::at(offset, multiple, most).is_skipped()
         };
         let multiple = if is_skipped { 1 } else { multiple };
         Ok(self.buffer.try_align_to(multiple)?)

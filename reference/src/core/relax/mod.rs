@@ -56,11 +56,7 @@ impl Drop for Told {
 /// as one to a multiple of 1. Where an alignment stands hangs on those before it
 /// alone, so that each turn settles one more. The pool's come after all others
 /// and have no ceiling.
-fn layout_within(
-    events: &[LayoutEvent],
-    long: &[bool],
-    ceilings: &[Ceiling],
-) -> asmkit::OffsetMap {
+fn layout_within(events: &[LayoutEvent], long: &[bool], ceilings: &[Ceiling]) -> asmkit::OffsetMap {
     let mut events = events.to_vec();
     loop {
         let map = asmkit::OffsetMap::layout(&events, long);
@@ -72,10 +68,8 @@ fn layout_within(
         let mut is_settled = true;
         for ((align, new_start), ceiling) in alignments.zip(ceilings) {
             let Ceiling { multiple, most } = *ceiling;
-            let handed = match Padding::at(new_start.into(), multiple, most) {
-                Padding::Spent(_) => multiple,
-                Padding::Skipped(_) => 1,
-            };
+            let padding = Padding::at(new_start.into(), multiple, most);
+            let handed = if padding.is_skipped() { 1 } else { multiple };
             is_settled &= *align == handed;
             *align = handed;
         }
