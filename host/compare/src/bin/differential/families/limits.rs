@@ -267,7 +267,7 @@ fn padded_to_the_limit(random: &mut Random) -> Scenario {
     ];
     let arch = random.pick(&[X64, AARCH64]);
     let mut scenario = Scenario::new(arch, 0, random.number(), steps);
-    // One byte less than its multiple is lent where short is 7 or 4,095.
+    // All that may be lent, or a byte less.
     scenario
         .room
         .set(Part::Code, MOST_CODE - random.below(2) as usize);
@@ -275,9 +275,9 @@ fn padded_to_the_limit(random: &mut Random) -> Scenario {
     scenario
 }
 
-/// A jump, and as many alignments with a ceiling as the table takes beside it,
-/// each skipped when it is recorded; once the jump is short all are on their
-/// multiple, or one spends what the others then need not.
+/// A jump, and as many alignments with one ceiling as the table takes beside it:
+/// all are skipped, or the first spends what the others then need not, and which
+/// it is may change when the jump becomes short.
 fn full_of_ceilings(random: &mut Random) -> Scenario {
     let mut calls = vec![
         Call::NewLabel,
