@@ -1,5 +1,6 @@
 pub mod Standing
 pub mod Accepted
+pub mod Aligning
 pub mod Appends
 pub mod Scan
 pub mod Below

@@ -4,14 +4,17 @@ ghost use Prim.Native.Nat.{_+_, _*_, _<_, _≤_};
 ghost use lib.ListN.{length, replicate};
 ghost use Rattle.buffer.specs.Refusals.{whyBytes, isAlignment, whyAlign};
 ghost use Rattle.buffer.specs.Calls.{putBytes, padding, alignedEvents, alignTo};
-ghost use Rattle.buffer.specs.Tables.{mostEntries};
+ghost use Rattle.buffer.specs.Tables.{mostEntries, mostCode, defaultMost};
+ghost use Rattle.buffer.specs.steps.Aligned.{alignedTables, alignedCounts};
 ghost use Rattle.relax.specs.Events.{eventSize};
 ghost use Rattle.fields.specs.Kinds.{archX64};
 use crate::CodeBuffer;
+use crate::DEFAULT_MOST;
 use crate::MOST_ALIGNMENT;
 use crate::MOST_CODE;
 use crate::MOST_ENTRIES;
 use crate::Recorded;
+use crate::Spent;
 use crate::both;
 
 // A power of two, at most 4,096.
@@ -103,30 +106,74 @@ impl CodeBuffer {
     }
 
     // On X64 every alignment is an event, one that takes no bytes too.
-    fn record_alignment(mut self, events: &mut [u8], multiple: u32, most: u32) -> CodeBuffer
-        requires { ⌜ (self .arch ≡ archX64 → (self .events * eventSize + eventSize ≤ length (now events)) × (self .events < mostEntries)) ⌝ }
-        ensures { λ r. ⌜ (r, now (events .exit)) ≡ alignedEvents self (now (events .entry)) multiple most ⌝ }
+    fn put_alignment(self, events: &mut [u8], multiple: u32, most: u32)
+        requires { ⌜ (self .arch ≡ archX64 → self .events * eventSize + eventSize ≤ length (now events)) ⌝ }
+        ensures { λ _. ⌜ now (events .exit) ≡ alignedEvents self (now (events .entry)) multiple most .1 ⌝ }
     {
         if self.arch != fields::X64 {
-            return self;
+            return;
         }
-        let n = self.events;
-        let len = encoder::padding_within(self.code, multiple, most);
         relax::put_event(
             events,
-            n as usize,
+            self.events as usize,
             relax::ALIGNMENT,
             self.code,
-            len,
+            encoder::padding_within(self.code, multiple, most),
             multiple,
             most,
         );
-        self.events = n + 1;
-        self
     }
 
-    // Pads the code to a multiple, where that takes no more than `most` bytes; else it spends none.
-    pub fn try_align_to(
+    // What an alignment does to the tables, and what it spends there. This is a function of its own, and hands back two numbers and not the counts, so
+    // that the loop over a sheet's calls keeps these in registers: with all of an alignment in one function a sheet takes a quarter longer.
+    fn align_tables(self, code: &mut [u8], events: &mut [u8], multiple: u32, most: u32) -> Spent
+        ensures { λ r. ⌜ (r, (now (code .exit), now (events .exit))) ≡ alignedTables self (now (code .entry)) (now (events .entry)) multiple most ⌝ }
+    {
+        let refusal = self.why_not_align(
+            code.len(),
+            events.len() / relax::EVENT_SIZE,
+            multiple,
+            most,
+        );
+        if refusal != 0 {
+            return Spent { refusal, len: 0 };
+        }
+        let at = self.code as usize;
+        let len = encoder::padding_within(self.code, multiple, most);
+        let end = at + len as usize;
+        pad(self.arch, &mut code[at..end]);
+        self.put_alignment(events, multiple, most);
+        Spent { refusal: 0, len }
+    }
+
+    // The recording after an alignment of its tables.
+    fn aligned(mut self, spent: Spent) -> Recorded
+        requires { ⌜ (spent .refusal ≡ 0 → (self .code + spent .len ≤ mostCode) × (self .arch ≡ archX64 → self .events < mostEntries)) ⌝ }
+        ensures { λ r. ⌜ r ≡ alignedCounts self spent ⌝ }
+    {
+        if spent.refusal != 0 {
+            return self.turn_down(spent.refusal);
+        }
+        self.code += spent.len;
+        if self.arch == fields::X64 {
+            self.events += 1;
+        }
+        Recorded {
+            buffer: self,
+            refusal: 0,
+        }
+    }
+
+    // Pads the code to a multiple.
+    pub fn try_align_to(mut self, code: &mut [u8], events: &mut [u8], multiple: u32) -> Recorded
+        ensures { λ r. ⌜ (r, (now (code .exit), now (events .exit))) ≡ alignTo self (now (code .entry)) (now (events .entry)) multiple defaultMost ⌝ }
+    {
+        let spent = self.align_tables(code, events, multiple, DEFAULT_MOST);
+        self.aligned(spent)
+    }
+
+    // The same where that takes no more than `most` bytes; else it spends none.
+    pub fn try_align_to_within(
         mut self,
         code: &mut [u8],
         events: &mut [u8],
@@ -135,15 +182,7 @@ impl CodeBuffer {
     ) -> Recorded
         ensures { λ r. ⌜ (r, (now (code .exit), now (events .exit))) ≡ alignTo self (now (code .entry)) (now (events .entry)) multiple most ⌝ }
     {
-        let why = self.why_not_align(code.len(), events.len() / relax::EVENT_SIZE, multiple, most);
-        if why != 0 {
-            return self.turn_down(why);
-        }
-        let at = self.code as usize;
-        let end = at + encoder::padding_within(self.code, multiple, most) as usize;
-        pad(self.arch, &mut code[at..end]);
-        let mut buffer = self.record_alignment(events, multiple, most);
-        buffer.code = end as u32;
-        Recorded { buffer, refusal: 0 }
+        let spent = self.align_tables(code, events, multiple, most);
+        self.aligned(spent)
     }
 }

@@ -100,6 +100,12 @@ pub struct Made {
     pub number: u32,
 }
 
+// What an alignment spends, and 0 or the refusal's number.
+pub struct Spent {
+    pub refusal: u32,
+    pub len: u32,
+}
+
 pub fn both(a: bool, b: bool) -> bool
     ensures { λ r. ⌜ r ≡ (a && b) ⌝ }
 {

@@ -10,7 +10,7 @@ ghost use lib.ListN.{length};
 ghost use Rattle.words.specs.Words.{wordAt};
 ghost use Rattle.buffer.specs.steps.Below.{Told};
 ghost use Rattle.checks.specs.Lent.{recordingOf};
-ghost use Rattle.sheet.specs.Run.{mostIn, callOf, called};
+ghost use Rattle.sheet.specs.Run.{callOf, called};
 ghost use Rattle.sheet.specs.Form.{bytesCall, newLabelCall, bindCall, alignCall, jumpCall, constantCall, constantLabelCall, argumentSize, mostBytes};
 use crate::MOST_BYTES;
 use crate::kinds;
@@ -41,19 +41,7 @@ fn count_in(arguments: &[u8]) -> usize
     n as usize
 }
 
-// The most bytes of padding that an argument's second word says; 0 stands for the default.
-fn most_in(arguments: &[u8]) -> u32
-    requires { ⌜ length (now arguments) ≡ argumentSize ⌝ }
-    ensures { λ r. ⌜ r ≡ mostIn (now (arguments .entry)) .value ⌝ }
-{
-    let most = words::word_at(arguments, 1);
-    if most == 0 {
-        return buffer::DEFAULT_MOST;
-    }
-    most
-}
-
-// Bytes and alignments.
+// Bytes and alignments, of which the most that one may spend is the default where 0 stands for it.
 fn call_code(
     b: CodeBuffer,
     kind: u8,
@@ -68,12 +56,12 @@ fn call_code(
         let end = 4 + count_in(arguments);
         return b.put_bytes(code, &arguments[4..end]);
     }
-    b.try_align_to(
-        code,
-        events,
-        words::word_at(arguments, 0),
-        most_in(arguments),
-    )
+    let multiple = words::word_at(arguments, 0);
+    let most = words::word_at(arguments, 1);
+    if most == 0 {
+        return b.try_align_to(code, events, multiple);
+    }
+    b.try_align_to_within(code, events, multiple, most)
 }
 
 // New labels and jumps. `nearest` is what a jump is told of the labels.

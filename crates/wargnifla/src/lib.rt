@@ -145,7 +145,7 @@ pub extern "C" fn wargnifla_align(
     if counts.len() < COUNTS_SIZE {
         return refusals::MALFORMED;
     }
-    let answer = counts_at(counts).try_align_to(code, events, multiple, most);
+    let answer = counts_at(counts).try_align_to_within(code, events, multiple, most);
     let buffer = answer.buffer;
     put_counts(counts, buffer);
     answer.refusal

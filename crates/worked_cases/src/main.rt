@@ -85,7 +85,7 @@ fn record_aligned(
 ) -> CodeBuffer {
     let labelled = new_label(start, labels);
     let jumped = put_jump(labelled, code, labels, events, 0);
-    let aligned = jumped.try_align_to(code, events, 16, buffer::DEFAULT_MOST);
+    let aligned = jumped.try_align_to(code, events, 16);
     bind(aligned.buffer, labels, events, 0)
 }
 

@@ -13,12 +13,12 @@ returns c =
 returns-2 : tie.Need-returns-2
 returns-2 c =
     let after-put-counts : tie.After-put-counts = search in
-    let after-try-align-to : tie.After-try-align-to = search in
+    let padded : tie.After-try-align-to-within = search in
     let after-counts-at : tie.After-counts-at = search in
     let else1 : tie.Else1 = search in
     let start : tie.Start = search in
     let a = start .args in
-    align-crosses (a .counts .now) _ (a .code .now) _ (a .events .now) _ (a .multiple) (a .most) _ _ (else1 .if1 .left) (after-counts-at .counts-at .ensures) (after-try-align-to .try-align-to .ensures) (after-put-counts .put-counts .ensures)
+    align-crosses (a .counts .now) _ (a .code .now) _ (a .events .now) _ (a .multiple) (a .most) _ _ (else1 .if1 .left) (after-counts-at .counts-at .ensures) (padded .try-align-to-within .ensures) (after-put-counts .put-counts .ensures)
 
 pub wargnifla-align-spec : {M : Type 1} → statement M
 wargnifla-align-spec =
