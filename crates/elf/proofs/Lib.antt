@@ -5,3 +5,4 @@ pub mod Answers
 pub mod RoundTrip
 pub mod Addends
 mod Worked
+pub mod Untyped

@@ -6,84 +6,64 @@ ghost use Rattle.elf.specs.Elf.{noType, x64Types, a64Types, elfType, has
 // No type: R_X86_64_NONE, R_AARCH64_NONE.
 pub const NO_TYPE: u32 = 0;
 
-// The type of each kind on X64.
-const X64_TYPES: [u32; 28] = [
-    10, // Abs4: R_X86_64_32
-    1, // Abs8: R_X86_64_64
-    2, // X86PCRel4: R_X86_64_PC32
-    4, // X86CallPCRel4: R_X86_64_PLT32
-    4, // X86CallPLTRel4: R_X86_64_PLT32
-    9, // X86GOTPCRel4: R_X86_64_GOTPCREL
-    0, // X86SecRel
-    0, // Arm32Call
-    0, // Arm64Call
-    19, // ElfX86_64TlsGd: R_X86_64_TLSGD
-    0, // MachOX86_64Tlv
-    0, // MachOAarch64TlsAdrPage21
-    0, // MachOAarch64TlsAdrPageOff12
-    0, // Aarch64TlsDescAdrPage21
-    0, // Aarch64TlsDescLd64Lo12
-    0, // Aarch64TlsDescAddLo12
-    0, // Aarch64TlsDescCall
-    0, // Aarch64AdrGotPage21
-    0, // Aarch64Ld64GotLo12Nc
-    0, // Aarch64AdrPrelPgHi21
-    0, // Aarch64AddAbsLo12Nc
-    0, // Aarch64Ld64AbsLo12Nc
-    0, // RiscvAbs8
-    0, // RiscvCallPlt
-    0, // RiscvTlsGdHi20
-    0, // RiscvPCRelLo12I
-    0, // RiscvGotHi20
-    0, // RiscvPCRelHi20
-];
-
-// And on AArch64.
-const AARCH64_TYPES: [u32; 28] = [
-    258, // Abs4: R_AARCH64_ABS32
-    257, // Abs8: R_AARCH64_ABS64
-    0, // X86PCRel4
-    0, // X86CallPCRel4
-    0, // X86CallPLTRel4
-    0, // X86GOTPCRel4
-    0, // X86SecRel
-    0, // Arm32Call
-    283, // Arm64Call: R_AARCH64_CALL26
-    0, // ElfX86_64TlsGd
-    0, // MachOX86_64Tlv
-    0, // MachOAarch64TlsAdrPage21
-    0, // MachOAarch64TlsAdrPageOff12
-    0, // Aarch64TlsDescAdrPage21
-    0, // Aarch64TlsDescLd64Lo12
-    0, // Aarch64TlsDescAddLo12
-    0, // Aarch64TlsDescCall
-    0, // Aarch64AdrGotPage21
-    0, // Aarch64Ld64GotLo12Nc
-    275, // Aarch64AdrPrelPgHi21: R_AARCH64_ADR_PREL_PG_HI21
-    277, // Aarch64AddAbsLo12Nc: R_AARCH64_ADD_ABS_LO12_NC
-    0, // Aarch64Ld64AbsLo12Nc
-    0, // RiscvAbs8
-    0, // RiscvCallPlt
-    0, // RiscvTlsGdHi20
-    0, // RiscvPCRelLo12I
-    0, // RiscvGotHi20
-    0, // RiscvPCRelHi20
-];
-
+// The type of a kind on X64.
 fn x64_type(kind: u32) -> u32
     ensures { λ r. ⌜ r ≡ getD x64Types kind noType ⌝ }
 {
-    if kind <= buffer::LAST_RELOC {
-        return X64_TYPES[kind as usize];
+    // Abs4: R_X86_64_32
+    if kind == 0 {
+        return 10;
+    }
+    // Abs8: R_X86_64_64
+    if kind == 1 {
+        return 1;
+    }
+    // X86PCRel4: R_X86_64_PC32
+    if kind == 2 {
+        return 2;
+    }
+    // X86CallPCRel4: R_X86_64_PLT32
+    if kind == 3 {
+        return 4;
+    }
+    // X86CallPLTRel4: R_X86_64_PLT32
+    if kind == 4 {
+        return 4;
+    }
+    // X86GOTPCRel4: R_X86_64_GOTPCREL
+    if kind == 5 {
+        return 9;
+    }
+    // ElfX86_64TlsGd: R_X86_64_TLSGD
+    if kind == 9 {
+        return 19;
     }
     NO_TYPE
 }
 
+// And on AArch64.
 fn aarch64_type(kind: u32) -> u32
     ensures { λ r. ⌜ r ≡ getD a64Types kind noType ⌝ }
 {
-    if kind <= buffer::LAST_RELOC {
-        return AARCH64_TYPES[kind as usize];
+    // Abs4: R_AARCH64_ABS32
+    if kind == 0 {
+        return 258;
+    }
+    // Abs8: R_AARCH64_ABS64
+    if kind == 1 {
+        return 257;
+    }
+    // Arm64Call: R_AARCH64_CALL26
+    if kind == 8 {
+        return 283;
+    }
+    // Aarch64AdrPrelPgHi21: R_AARCH64_ADR_PREL_PG_HI21
+    if kind == 19 {
+        return 275;
+    }
+    // Aarch64AddAbsLo12Nc: R_AARCH64_ADD_ABS_LO12_NC
+    if kind == 20 {
+        return 277;
     }
     NO_TYPE
 }
