@@ -148,10 +148,24 @@ fn labels_fit_by(
     each_label_fits(labels, n, events, m, code, index, shift)
 }
 
-fn many_labels_fit(labels: &[u8], n: usize, events: &[u8], m: usize, code: u32) -> bool
-    requires { ⌜ n * labelSize ≤ length (now labels) ⌝ ∗ ⌜ (m * eventSize ≤ length (now events)) × (m ≤ mostKeys) ⌝ ∗ ⌜ Ordered (startAt (now events)) (endAt (now events)) m ⌝ }
+fn many_labels_fit(
+    labels: &[u8],
+    n: usize,
+    events: &[u8],
+    m: usize,
+    code: u32,
+    again: usize,
+) -> bool
+    requires { ⌜ again ≡ 0 ⌝ ∗ ⌜ n * labelSize ≤ length (now labels) ⌝ ∗ ⌜ (m * eventSize ≤ length (now events)) × (m ≤ mostKeys) ⌝ ∗ ⌜ Ordered (startAt (now events)) (endAt (now events)) m ⌝ }
     ensures { λ r. ⌜ r ≡ labelsFit (now (labels .entry)) n (now (events .entry)) m code ⌝ }
 {
+    if again != 0 {
+        let before = many_labels_fit(labels, n, events, m, code, again - 1);
+        if before {
+            return uses_fit(labels, 0, 0, code);
+        }
+        return before;
+    }
     let mut index = [0u32; lookup::LARGE_SIZE];
     labels_fit_by(labels, n, events, m, code, &mut index)
 }
@@ -166,7 +180,14 @@ pub fn labels_fit(labels: &[u8], n: usize, events: &[u8], m: usize, code: u32) -
         return each_label_fits(labels, n, events, m, code, &none, 0);
     }
     if lookup::MANY <= m {
-        return many_labels_fit(labels, n, events, m, code);
+        return many_labels_fit(
+            labels,
+            n,
+            events,
+            m,
+            code,
+            events.len() / 9223372036854775808,
+        );
     }
     let mut index = [0u32; lookup::SIZE];
     labels_fit_by(labels, n, events, m, code, &mut index)
@@ -394,10 +415,17 @@ fn small_order_fits(asked: &[u8], n: usize, constants: &[u8], known: u32) -> boo
     order_fits_by(asked, n, constants, known, &mut seen, &mut taken)
 }
 
-fn large_order_fits(asked: &[u8], n: usize, constants: &[u8], known: u32) -> bool
-    requires { ⌜ (n * askedSize ≤ length (now asked)) × (known ≤ mostEntries) ⌝ ∗ ⌜ Labelled (now constants) known mostEntries ⌝ }
+fn large_order_fits(asked: &[u8], n: usize, constants: &[u8], known: u32, again: usize) -> bool
+    requires { ⌜ again ≡ 0 ⌝ ∗ ⌜ (n * askedSize ≤ length (now asked)) × (known ≤ mostEntries) ⌝ ∗ ⌜ Labelled (now constants) known mostEntries ⌝ }
     ensures { λ r. ⌜ r ≡ orderFits (now (asked .entry)) n (now (constants .entry)) known ⌝ }
 {
+    if again != 0 {
+        let before = large_order_fits(asked, n, constants, known, again - 1);
+        if before {
+            return is_each_unlabelled(constants, known);
+        }
+        return before;
+    }
     let mut seen = [false; buffer::MOST_ENTRIES];
     let mut taken = [false; buffer::MOST_ENTRIES];
     order_fits_by(asked, n, constants, known, &mut seen, &mut taken)
@@ -438,7 +466,13 @@ pub fn order_fits(asked: &[u8], n: usize, constants: &[u8], known: u32, labels: 
     if buffer::both(known as usize <= FEW_MARKS, labels as usize <= FEW_MARKS) {
         return small_order_fits(asked, n, constants, known);
     }
-    large_order_fits(asked, n, constants, known)
+    large_order_fits(
+        asked,
+        n,
+        constants,
+        known,
+        constants.len() / 9223372036854775808,
+    )
 }
 
 // Whether every entry of the tables is one that calls write.

@@ -16,7 +16,7 @@ many-labels-fit-requires c κs =
     let else1 : tie.Else1 = search in
     let asked : tie.After-pays = search in
     let start : tie.Start = search in
-    (start .pre .0, ((start .pre .1 .0, asked .pays .ensures (not-false _ (else1 .if1 .left))), start .pre .1 .1))
+    (omega arith, (start .pre .0, ((start .pre .1 .0, asked .pays .ensures (not-false _ (else1 .if1 .left))), start .pre .1 .1)))
 
 labels-fit-by-requires : tie.Need-labels-fit-by-requires
 labels-fit-by-requires c κs =

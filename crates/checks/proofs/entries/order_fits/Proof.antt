@@ -1,5 +1,6 @@
 -- `order_fits` meets its contract: without marks, with a few and with many.
 use mathlib.Core.Path.{sym, _∙_}
+use native.Mathlib.Omega.{arith}
 use borrow.Author.Tests.{leb-true}
 use Rattle.seqs.proofs.Booleans.{both-true}
 use Rattle.buffer.specs.Tables.{mostEntries}
@@ -24,7 +25,7 @@ small-order-fits-requires c κs =
 large-order-fits-requires : tie.Need-large-order-fits-requires
 large-order-fits-requires c κs =
     let start : tie.Start = search in
-    ((start .pre .0 .0, start .pre .0 .1), labelled-more mostEntries (start .pre .1) (start .pre .0 .2))
+    (omega arith, ((start .pre .0 .0, start .pre .0 .1), labelled-more mostEntries (start .pre .1) (start .pre .0 .2)))
 
 pub order-fits-spec : {M : Type 1} → statement M
 order-fits-spec =
