@@ -192,9 +192,28 @@ fn join_many(
     output: &mut [u8],
     joined_labels: &mut [u8],
     joined_relocs: &mut [u8],
+    again: usize,
 ) -> Joined
+    requires { ⌜ again ≡ 0 ⌝ }
     ensures { λ r. ⌜ (r, (now (output .exit), (now («joined_labels» .exit), now («joined_relocs» .exit)))) ≡ join (lentOf (now (pieces .entry)) (now (code .entry)) (now (labels .entry)) (now (relocs .entry)) (now (definitions .entry))) (now (output .entry)) (now («joined_labels» .entry)) (now («joined_relocs» .entry)) ⌝ }
 {
+    if again != 0 {
+        let before = join_many(
+            pieces,
+            code,
+            labels,
+            relocs,
+            definitions,
+            output,
+            joined_labels,
+            joined_relocs,
+            again - 1,
+        );
+        if before.refusal != 0 {
+            return refused(before.refusal);
+        }
+        return before;
+    }
     let mut table = [0u64; MANY_SYMBOLS];
     join_by(
         &mut table,
@@ -233,6 +252,7 @@ pub fn join(
             output,
             joined_labels,
             joined_relocs,
+            pieces.len() / 9223372036854775808,
         );
     }
     let mut table = [0u64; FEW_SYMBOLS];

@@ -1,6 +1,7 @@
 -- `join` meets its contract: the table is clear.
 use Rattle.join.specs.steps.Tables.{fewSymbols}
 use Rattle.join.proofs.Tables.{settled-clear}
+use native.Mathlib.Omega.{arith}
 use borrow.Author.Needs.{needs}
 use Rattle.join.proofs.join.Statement.{statement}
 use Rattle.join.proofs.join.Tie as tie
@@ -13,7 +14,7 @@ join-spec =
     tie.close
     (tie.spec
     (λ c. search needs)
-    (λ c κs. search needs)
+    (λ c κs. omega arith)
     (λ c. search needs)
     (λ c. search needs)
     (λ c. search needs)
