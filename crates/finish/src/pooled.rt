@@ -2,7 +2,7 @@
 ghost use mathlib.Core.Path.{_≡_};
 ghost use mathlib.Core.Bool.{true, false, not};
 ghost use mathlib.Core.List.{List, [], _∷_};
-ghost use Prim.Native.Nat.{_+_, _*_, _≤_};
+ghost use Prim.Native.Nat.{_+_, _*_, _≤_, _<_};
 ghost use lib.Dec.{eqb, ltb};
 ghost use lib.ListN.{length, take, replicate};
 ghost use Rattle.refusals.specs.Numbers as refusals;
@@ -226,6 +226,41 @@ fn index_size(all: usize) -> usize
     0
 }
 
+// With fewer than an index pays for, a few marks and none.
+pub(crate) fn tiny_relaxed(
+    b: CodeBuffer,
+    code: &[u8],
+    labels: &mut [u8],
+    events: &[u8],
+    refs: &[u8],
+    constants: &[u8],
+    asked: &[u8],
+    relocs: &mut [u8],
+    segments: &mut [Segment],
+    output: &mut [u8],
+) -> Outcome
+    requires { ⌜ Layable (now code) (now labels) (now events) (now refs) (now constants) (now asked) (now relocs) (now output) (length (now segments)) (b .code) (b .labels) (b .events) (b .asked) (b .refs) (b .relocs) ⌝ ∗ ⌜ b .events + b .asked < 24 ⌝ }
+    ensures { λ r. ⌜ ((us : List tables.Use) → (r, (now (labels .exit), (now (relocs .exit), (now (segments .exit), now (output .exit))))) ≡ relaxed (tablesPooled archX64 (b .code) (take (b .code) (now (code .entry))) (tables.entries (wordAt (now (labels .entry))) (b .labels)) (tables.entries (eventAt (now (events .entry))) (b .events)) us (tables.entries (tables.refAt (now (refs .entry))) (b .refs)) (now (constants .entry)) (now (asked .entry)) (b .asked)) (b .relocs) (now (labels .entry)) (now (relocs .entry)) (now (segments .entry)) (now (output .entry))) ⌝ }
+{
+    let all = b.events as usize + b.asked as usize;
+    let mut long = [false; lookup::FEW];
+    let mut index = [0u32; 0];
+    relax_and_write(
+        b,
+        code,
+        labels,
+        events,
+        refs,
+        constants,
+        asked,
+        relocs,
+        segments,
+        output,
+        &mut long[0..all],
+        &mut index[0..0],
+    )
+}
+
 // With few events and constants a few marks and a short index are enough.
 pub(crate) fn small_relaxed(
     b: CodeBuffer,
@@ -274,10 +309,30 @@ pub(crate) fn large_relaxed(
     relocs: &mut [u8],
     segments: &mut [Segment],
     output: &mut [u8],
+    again: usize,
 ) -> Outcome
-    requires { ⌜ Layable (now code) (now labels) (now events) (now refs) (now constants) (now asked) (now relocs) (now output) (length (now segments)) (b .code) (b .labels) (b .events) (b .asked) (b .refs) (b .relocs) ⌝ }
+    requires { ⌜ (again ≡ 0) × Layable (now code) (now labels) (now events) (now refs) (now constants) (now asked) (now relocs) (now output) (length (now segments)) (b .code) (b .labels) (b .events) (b .asked) (b .refs) (b .relocs) ⌝ }
     ensures { λ r. ⌜ ((us : List tables.Use) → (r, (now (labels .exit), (now (relocs .exit), (now (segments .exit), now (output .exit))))) ≡ relaxed (tablesPooled archX64 (b .code) (take (b .code) (now (code .entry))) (tables.entries (wordAt (now (labels .entry))) (b .labels)) (tables.entries (eventAt (now (events .entry))) (b .events)) us (tables.entries (tables.refAt (now (refs .entry))) (b .refs)) (now (constants .entry)) (now (asked .entry)) (b .asked)) (b .relocs) (now (labels .entry)) (now (relocs .entry)) (now (segments .entry)) (now (output .entry))) ⌝ }
 {
+    if again != 0 {
+        let before = large_relaxed(
+            b,
+            code,
+            labels,
+            events,
+            refs,
+            constants,
+            asked,
+            relocs,
+            segments,
+            output,
+            again - 1,
+        );
+        if before.refusal != 0 {
+            return refused(before.refusal);
+        }
+        return before;
+    }
     let all = b.events as usize + b.asked as usize;
     let mut long = [false; buffer::MOST_ENTRIES];
     let mut index = [0; lookup::LARGE_SIZE];
@@ -314,6 +369,20 @@ pub(crate) fn relaxed(
     requires { ⌜ Layable (now code) (now labels) (now events) (now refs) (now constants) (now asked) (now relocs) (now output) (length (now segments)) (b .code) (b .labels) (b .events) (b .asked) (b .refs) (b .relocs) ⌝ }
     ensures { λ r. ⌜ ((us : List tables.Use) → (r, (now (labels .exit), (now (relocs .exit), (now (segments .exit), now (output .exit))))) ≡ relaxed (tablesPooled archX64 (b .code) (take (b .code) (now (code .entry))) (tables.entries (wordAt (now (labels .entry))) (b .labels)) (tables.entries (eventAt (now (events .entry))) (b .events)) us (tables.entries (tables.refAt (now (refs .entry))) (b .refs)) (now (constants .entry)) (now (asked .entry)) (b .asked)) (b .relocs) (now (labels .entry)) (now (relocs .entry)) (now (segments .entry)) (now (output .entry))) ⌝ }
 {
+    if (b.events as usize + b.asked as usize) < lookup::FEW {
+        return tiny_relaxed(
+            b,
+            code,
+            labels,
+            events,
+            refs,
+            constants,
+            asked,
+            relocs,
+            segments,
+            output,
+        );
+    }
     if b.events as usize + b.asked as usize <= checks::entries::FEW_MARKS {
         return small_relaxed(
             b,
@@ -339,6 +408,7 @@ pub(crate) fn relaxed(
         relocs,
         segments,
         output,
+        code.len() / 9223372036854775808,
     )
 }
 
