@@ -17,7 +17,7 @@ pub nops-zero : nops 0 ≡ []
 unfolding nops nopsBy form
 nops-zero = refl
 
-nops-below-9 : (n : ℕ) → n < 9 → nops n ≡ form n
+pub nops-below-9 : (n : ℕ) → n < 9 → nops n ≡ form n
 unfolding nops nopsBy
 nops-below-9 n h = rw (div-eq-of-lt {n = n} {m = 9} h, mod-eq-of-lt {n = n} {m = 9} h)
 
@@ -60,6 +60,13 @@ pub over-form : (pad part : List ℕ) (i n : ℕ) → n ≤ 9 → i + n ≤ leng
 over-form pad part i n h k e =
     let l : length (take (i + n - i) (drop i pad)) ≡ n = simp (length-take, length-drop) (omega arith) in
     rw (e, l) (over-mid pad i (i + n - i) (form n) (omega (arith, form-length n h)) (omega arith))
+
+-- The same up to the end e.
+pub over-form-to : (pad part : List ℕ) (i e : ℕ) → e - i ≤ 9 → i ≤ e → e ≤ length pad → part ≡ form (length (take (e - i) (drop i pad)))
+    → take i pad ++ (part ++ drop (e - i) (drop i pad)) ≡ over pad i (form (e - i))
+over-form-to pad part i e h j k q =
+    let l : length (take (e - i) (drop i pad)) ≡ e - i = simp (length-take, length-drop) (omega arith) in
+    rw (q, l) (over-mid pad i (e - i) (form (e - i)) (omega (arith, form-length (e - i) h)) (omega arith))
 
 -- The longest form at i, and the rest after it, are what was left to write at i.
 pub over-longest-first : (pad : List ℕ) (i n len : ℕ) → i < len → n ≡ min (len - i) 9 → length pad ≡ len

@@ -1,7 +1,7 @@
 // x86 padding: NOP instructions, and how many bytes an alignment takes. After asmkit's x86/encoder.rs (see NOTICE).
 ghost use mathlib.Core.Path.{_≡_};
-ghost use Prim.Native.Nat.{_≤_, _<_, min};
-ghost use lib.ListN.{length};
+ghost use Prim.Native.Nat.{_≤_};
+ghost use lib.ListN.{length, take};
 ghost use Rattle.encoder.specs.Nops.{form, nops};
 ghost use Rattle.encoder.specs.Padding.{paddingLength, paddingWithin};
 
@@ -18,34 +18,31 @@ const NOP_TABLE: [[u8; 9]; 9] = [
     [0x66, 0x0f, 0x1f, 0x84, 0x00, 0x00, 0x00, 0x00, 0x00],
 ];
 
-// Fills `pad` with one form.
-fn push_nop(pad: &mut [u8])
-    requires { ⌜ (0 < length (now pad)) × (length (now pad) ≤ 9) ⌝ }
+// Fills `pad` with one form, the start of its row.
+fn push_nop(pad: &mut [u8], row: &[u8])
+    requires { ⌜ (length (now pad) ≤ 9) × (length (now row) ≡ 9) × (take (length (now pad)) (now row) ≡ form (length (now pad))) ⌝ }
     ensures { λ _. ⌜ now (pad .exit) ≡ form (length (now (pad .entry))) ⌝ }
 {
     let n = pad.len();
-    let index = n - 1;
-    let row = NOP_TABLE[index];
     seqs::copy(&row[..n], pad);
 }
 
-// The length of the longest form that fits `len` bytes.
-fn longest(len: usize) -> usize
-    ensures { λ r. ⌜ r ≡ min len 9 ⌝ }
-{
-    if len < 9 { len } else { 9 }
-}
-
-// Fills `pad` with NOPs, longest first.
+// Fills `pad` with NOPs, longest first. The table is built once, and the longest form's row taken from it once.
 pub fn push_nops(pad: &mut [u8])
     ensures { λ _. ⌜ now (pad .exit) ≡ nops (length (now (pad .entry))) ⌝ }
 {
     let len = pad.len();
+    let table = NOP_TABLE;
+    let nine = table[8];
     let mut i: usize = 0;
-    while i < len {
-        let n = longest(len - i);
-        push_nop(&mut pad[i..i + n]);
-        i += n;
+    while 9 <= len - i {
+        push_nop(&mut pad[i..i + 9], &nine);
+        i += 9;
+    }
+    if i < len {
+        let index = len - i - 1;
+        let row = table[index];
+        push_nop(&mut pad[i..len], &row);
     }
 }
 
