@@ -7,6 +7,7 @@ ghost use Rattle.buffer.specs.Refusals.{archOccurs, refusalOccurs, stand
 ghost use Rattle.buffer.specs.Calls.{started};
 ghost use Rattle.buffer.specs.Tables.{mostOpen};
 ghost use lib.Dec.{leb};
+ghost use Prim.Native.Nat.{_<_, _≤_};
 
 pub mod bytes;
 mod constants;
@@ -104,6 +105,16 @@ pub struct Made {
 pub struct Spent {
     pub refusal: u32,
     pub len: u32,
+}
+
+// The refusal that stands after a call's answer: numbers from 6 on are recorded.
+pub(crate) fn kept_refusal(old: u32, why: u32) -> u32
+    ensures { λ r. ⌜ (why < 6 → r ≡ old) × (6 ≤ why → r ≡ why) ⌝ }
+{
+    if why < refusals::FIRST_RECORDED {
+        return old;
+    }
+    why
 }
 
 pub fn both(a: bool, b: bool) -> bool

@@ -151,17 +151,19 @@ impl CodeBuffer {
             kind,
             target,
         );
-        if why != 0 {
-            return self.turn_down(why);
+        let mut more: u32 = 0;
+        let mut took: u32 = 0;
+        if why == 0 {
+            more = target_opened(labels, target);
+            took = 1;
+            put_reloc(relocs, self.relocs as usize, offset, kind, target, addend);
         }
-        let n = self.relocs;
-        let more = target_opened(labels, target);
-        put_reloc(relocs, n as usize, offset, kind, target, addend);
-        self.relocs = n + 1;
+        self.relocs = self.relocs + took;
         self.unresolved = self.unresolved + more;
+        self.refusal = crate::kept_refusal(self.refusal, why);
         Recorded {
             buffer: self,
-            refusal: 0,
+            refusal: why,
         }
     }
 }

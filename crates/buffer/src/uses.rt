@@ -96,17 +96,19 @@ impl CodeBuffer {
             label,
             code,
         );
-        if why != 0 {
-            return self.turn_down(why);
+        let mut more: u32 = 0;
+        let mut took: u32 = 0;
+        if why == 0 {
+            more = opened(labels, label);
+            took = 1;
+            put_use(uses, self.uses as usize, offset, label, code);
         }
-        let n = self.uses;
-        let more = opened(labels, label);
-        put_use(uses, n as usize, offset, label, code);
-        self.uses = n + 1;
+        self.uses = self.uses + took;
         self.unresolved = self.unresolved + more;
+        self.refusal = crate::kept_refusal(self.refusal, why);
         Recorded {
             buffer: self,
-            refusal: 0,
+            refusal: why,
         }
     }
 
