@@ -27,12 +27,14 @@ use Rattle.demands.specs.Demand1.{LentUnchanged}
 use Rattle.demands.specs.Demand2.{Bytes, Demand2}
 use Rattle.demands.specs.Demand2 as claim
 use Rattle.demands.specs.Constants.{Constants}
-use Rattle.demands.specs.Boundary.{Answer, finishedCode, labelsOf, wordOf, pooledIn, Demands}
+use Rattle.demands.specs.Boundary.{Answer, finishedCode, labelsOf, wordOf, pooledIn, LabelsBound, Demands}
 use Rattle.demands.proofs.Answers.{finish-answered}
 use Rattle.demands.proofs.Demand1.{refused-finish-changes-nothing}
 use Rattle.demands.proofs.Demand2.{demand2}
 use Rattle.demands.proofs.Demand3.{demand3-holds}
 use Rattle.demands.proofs.Constants.{constants-hold}
+use Rattle.demands.proofs.Offsets.{offsets-kept}
+use Rattle.demands.proofs.Binding.{use-bound, ref-bound, jump-bound}
 
 -- whichever of three answers two tests pick
 one-of : (Q : Answer → Type 0) (s t : Bool) (x y z : Answer) → (s ≡ true → Q x) → Q y → (z .0 ≢ 0 → Q z) → pick s x (pick t y z) .0 ≢ 0
@@ -129,7 +131,7 @@ module _ (l : Lent) (ss : List Segment) (output finalized : List ℕ) (called : 
       ∙ word-read finalized (recordOf (finishing.finish (recordingIn l) ss output .0 .code)) 2 (omega arith) (called .room)
       (⊎-elim (λ (e : _ ≡ 32). omega arith) (λ (e : _ ≡ 64). omega arith) (constants-hold (recordingIn l) ss output (called .zero) .known))
 
-  code-read : finishedCode (finish l ss output finalized) ≡ claim.finishedCode (recordingIn l) ss output
+  pub code-read : finishedCode (finish l ss output finalized) ≡ claim.finishedCode (recordingIn l) ss output
   code-read =
       ap (λ (n : ℕ). take n (finish l ss output finalized .1 .1 .0 .1 .1 .1)) len-read
       ∙ ap (λ (a : Answer). take (finishing.finish (recordingIn l) ss output .0 .code .len) (a .1 .1 .0 .1 .1 .1)) (called .is)
@@ -155,6 +157,17 @@ c-finish-meets-the-demands l ss output finalized counts code =
           (subst (λ (c : List ℕ). Demand3 (pooledIn l) c (labels (labelsOf answer)) (f .0 .code .len) (f .0 .code .layouts)) (sym (code-read l ss output finalized called))
           (subst (λ (t : List ℕ). Demand3 (pooledIn l) made (labels t) (f .0 .code .len) (f .0 .code .layouts)) (sym (ap labelsOf (called .is)))
           (demand3-holds r ss output (called .zero) jump))));
+      unmoved = λ zero none.
+          let called = c-finish-calls l ss output finalized zero in
+          ap (λ (b : Answer). entries (wordAt (labelsOf b)) (r .buffer .labels)) (called .is) ∙ offsets-kept r ss output (called .zero) none;
+      bound = λ zero.
+          let called = c-finish-calls l ss output finalized zero in
+          subst (LabelsBound l) (sym (called .is))
+          (record {
+            uses = use-bound r ss output (called .zero);
+            refs = ref-bound r ss output (called .zero);
+            jumps = jump-bound r ss output (called .zero);
+          });
       constants = λ zero.
           let called = c-finish-calls l ss output finalized zero in
           let f = finishing.finish r ss output in

@@ -1,31 +1,35 @@
 -- Every claim of the demands, restated in full: one that is dropped, or put under a premise, is refused here.
-use mathlib.Core.Path.{_≡_}
+use mathlib.Core.Path.{_≡_, refl}
 use mathlib.Core.Logic.{_≢_, _⊎_}
 use mathlib.Core.Bool.{true, false}
-use mathlib.Core.List.{List, map}
-use Prim.Native.Nat.{ℕ, _+_, _-_, _%_, _≤_, _<_}
-use lib.ListN.{length, getD, replicate}
+use mathlib.Core.List.{List, [], _∷_, map}
+use Prim.Native.Nat.{ℕ, _+_, _-_, _*_, _%_, _≤_, _<_}
+use lib.ListN.{length, getD, drop, replicate}
 use Rattle.words.specs.Words.{wordAt, overWords}
-use Rattle.encoder.specs.Intel.{AreNops}
+use Rattle.encoder.specs.Intel.{nopLength, AreNops}
 use Rattle.encoder.specs.Padding.{Spends}
+use Rattle.encoder.proofs.Reading.{nop-opens}
 use Rattle.fields.specs.declared.LabelUse.{LabelUse}
 use Rattle.fields.specs.declared.Decoded.the-variants.{Use}
-use Rattle.fields.specs.Words64.{plus, signExtend}
-use Rattle.fields.specs.Kinds.{archA64, codeOf, patchSize, decoded}
-use Rattle.fields.specs.Meaning.{meaning, demanded, Clear}
+use Rattle.fields.specs.Words64.{plus, minus, signExtend}
+use Rattle.fields.specs.Bits.{bits}
+use Rattle.fields.specs.Kinds.{archA64, info, codeOf, patchSize, decoded}
+use Rattle.fields.specs.Meaning.{meaning, demanded, loadMultiple, Clear, inField}
 use Rattle.relax.specs.declared.LayoutEvent.the-variants.{Jump, Align}
 use Rattle.relax.specs.declared.RelaxableJump.{RelaxableJump}
 use Rattle.relax.specs.declared.Alignment.{Alignment}
+use Rattle.relax.specs.declared.LayoutEvent.{LayoutEvent}
+use Rattle.relax.specs.Events.{noEvent}
 use Rattle.buffer.specs.State.{none}
 use Rattle.buffer.specs.Calls.{padding}
 use Rattle.recording.specs.Calls.{Recording}
 use Rattle.recording.specs.View.{View, entries, view}
 use Rattle.fresh.specs.Pooled.{Pooled, askedConstant, pooled}
-use Rattle.fresh.specs.Forms.{moves}
-use Rattle.fresh.specs.Fresh.{Choice, moved, target}
+use Rattle.fresh.specs.Forms.{Branch, branches, roleOf, moves}
+use Rattle.fresh.specs.Fresh.{Choice, walk, starts, moved, target}
 use Rattle.fresh.specs.Rounds.{allShort, jumps, Rounds, settled}
 use Rattle.fresh.specs.Fill.{part, assembled}
-use Rattle.fresh.specs.Demand.{Fits, NoAlign, Includes, Demand3}
+use Rattle.fresh.specs.Demand.{Reach, Fits, Branches, NoAlign, Includes, Demand3}
 use Rattle.finish.specs.declared.Finished.{Finished}
 use Rattle.finish.specs.Finish.{Left}
 use Rattle.wargnifla.specs.Boundary.{recordSize, recordOf, Lent, recordingIn}
@@ -54,6 +58,50 @@ use Rattle.demands.specs.Boundary.{Answer, finishedCode, labelsOf, wordO
 
 abbrev here : ℕ → ℕ
 here offset = offset
+
+-- The words that the claims are made of, written out: one that asks less, or more where it is a premise, is refused here.
+module _ {multiple most start end : ℕ} (s : Spends multiple most start end) where
+  spends-to-a-multiple : (end % multiple ≡ 0) ⊎ ((end ≡ start) × ((k : ℕ) → (start + k) % multiple ≡ 0 → most < k))
+  spends-to-a-multiple = s .ends
+
+  spends-no-more : end ≤ start + most
+  spends-no-more = s .few
+
+-- padding starts with 90 or 0F 1F, or with 66 and one of them
+nops-open : (l : List ℕ) → 0 < nopLength l
+    → ((getD l 0 0 ≡ 0x90) ⊎ ((getD l 0 0 ≡ 0x0F) × (getD l 1 0 ≡ 0x1F)))
+    ⊎ ((getD l 0 0 ≡ 0x66) × ((getD (drop 1 l) 0 0 ≡ 0x90) ⊎ ((getD (drop 1 l) 0 0 ≡ 0x0F) × (getD (drop 1 l) 1 0 ≡ 0x1F))))
+nops-open = nop-opens
+
+-- a recording whose every event names a label has neither alignment nor constant
+every-jump-counts : (b : Branch) → Branches (branches b)
+every-jump-counts b = tt
+
+no-event-no-alignment : NoAlign []
+unfolding NoAlign
+no-event-no-alignment = tt
+
+no-alignment-before : (e : LayoutEvent) (es : List LayoutEvent) (b : Branch) → roleOf e ≡ branches b → NoAlign es → NoAlign (e ∷ es)
+unfolding NoAlign
+no-alignment-before e es b r rest = (rw r tt, rest)
+
+module _ (p : Pooled) (c : Choice) where
+  abbrev InReach : Type 0
+  InReach = (i : ℕ) (b : Branch) → i < length (p .events) → roleOf (getD (p .events) i noEvent) ≡ branches b → getD c i false ≡ false
+      → (getD (starts 0 (walk p) c) i 0 + b .short .place + info (b .short .kind) .from ≤ target p c (b .label) + info (b .short .kind) .low)
+      × (target p c (b .label) ≤ getD (starts 0 (walk p) c) i 0 + b .short .place + info (b .short .kind) .from + info (b .short .kind) .high)
+
+  fits-in-reach : Fits p c → InReach
+  unfolding Fits
+  fits-in-reach fits i b known role short = (fits i b known role short .back, fits i b known role short .ahead)
+
+  in-reach-fits : InReach → Fits p c
+  unfolding Fits
+  in-reach-fits reach i b known role short = record { back = reach i b known role short .0; ahead = reach i b known role short .1 }
+
+includes-each : (c d : Choice) → Includes c d → (i : ℕ) → getD c i false ≡ true → getD d i false ≡ true
+unfolding Includes
+includes-each c d h = h
 
 -- Demand 1.
 module _ {r : Recording} {output : List ℕ} {answer : Finished × Left} (d : Unchanged r output answer) where
@@ -97,6 +145,11 @@ module _ {p : Pooled} {c : Choice} {code : List ℕ} (d : Relaxed p c code) wher
       (part code (moved p c (refOf p i .offset)) (patchSize k))
   refs-mean = d .refs
 
+  refs-keep : (i : ℕ) (k : LabelUse) → i < length (p .refs) → decoded (refOf p i .code) ≡ Use k
+      → (n : ℕ) → n < 8 * patchSize k → inField k n ≡ false
+      → bits n n (wordAt (part code (moved p c (refOf p i .offset)) (patchSize k)) 0) ≡ bits n n (wordAt (part (p .code) (refOf p i .offset) (patchSize k)) 0)
+  refs-keep = d .keeps
+
   jumps-read : (i : ℕ) (v : RelaxableJump) → i < length (p .events) → eventOf p i ≡ Jump v → (base : ℕ)
       → Reads (plus base (newStart p c i)) (part code (newStart p c i) (newEnd p c i - newStart p c i)) (v .cc) (plus base (target p c (v .label)))
   jumps-read = d .jumps
@@ -107,6 +160,9 @@ module _ {p : Pooled} {c : Choice} {code : List ℕ} (d : Relaxed p c code) wher
 
   alignments-spend : (i : ℕ) (a : Alignment) → i < length (p .events) → eventOf p i ≡ Align a → Spends (a .align) (a .most) (newStart p c i) (newEnd p c i)
   alignments-spend = d .spends
+
+  refs-lie-within : (i : ℕ) (k : LabelUse) → i < length (p .refs) → decoded (refOf p i .code) ≡ Use k → moved p c (refOf p i .offset) + patchSize k ≤ length code
+  refs-lie-within = d .inside
 
   events-lie-within : (i : ℕ) → i < length (p .events) → newEnd p c i ≤ length code
   events-lie-within = d .within
@@ -126,6 +182,28 @@ module _ {p : Pooled} {code : List ℕ} (d : InPlace p code) where
       → (base : ℕ) → meaning k (plus base (useOf p i .offset)) (wordAt (part code (useOf p i .offset) (patchSize k)) 0) % 4294967296
       ≡ demanded k (plus base (plus (getD (p .labels) (useOf p i .label) none) (signExtend 32 (wordAt (heldBy p i k) 0)))) % 4294967296
   uses-add = d .adds
+
+  uses-add-exactly : (i : ℕ) (k : LabelUse) → i < length (p .uses) → decoded (useOf p i .code) ≡ Use k → codeOf k ≡ 0
+      → ((j : ℕ) → i < j → UseMisses p (useOf p i .offset) (patchSize k) j)
+      → ((j : ℕ) → ConstantMisses here p (useOf p i .offset) (patchSize k) j)
+      → plus (minus (plus (getD (p .labels) (useOf p i .label) none) (signExtend 32 (wordAt (heldBy p i k) 0))) (useOf p i .offset + 4)) 2147483648 < 4294967296
+      → (base : ℕ) → base % loadMultiple k ≡ 0 → meaning k (plus base (useOf p i .offset)) (wordAt (part code (useOf p i .offset) (patchSize k)) 0)
+      ≡ demanded k (plus base (plus (getD (p .labels) (useOf p i .label) none) (signExtend 32 (wordAt (heldBy p i k) 0))))
+  uses-add-exactly = d .exact
+
+  uses-lie-within : (i : ℕ) (k : LabelUse) → i < length (p .uses) → decoded (useOf p i .code) ≡ Use k → useOf p i .offset + patchSize k ≤ length code
+  uses-lie-within = d .inside
+
+  uses-keep : (i : ℕ) (k : LabelUse) → i < length (p .uses) → decoded (useOf p i .code) ≡ Use k
+      → ((j : ℕ) → i < j → UseMisses p (useOf p i .offset) (patchSize k) j)
+      → ((j : ℕ) → ConstantMisses here p (useOf p i .offset) (patchSize k) j)
+      → (n : ℕ) → n < 8 * patchSize k → inField k n ≡ false
+      → bits n n (wordAt (part code (useOf p i .offset) (patchSize k)) 0) ≡ bits n n (wordAt (heldBy p i k) 0)
+  uses-keep = d .keeps
+
+  uses-hold : (i : ℕ) (k : LabelUse) → ((j : ℕ) → j < i → UseMisses p (useOf p i .offset) (patchSize k) j)
+      → heldBy p i k ≡ part (p .code) (useOf p i .offset) (patchSize k)
+  uses-hold = d .held
 
   kept-alignments-spend : (i : ℕ) (a : Alignment) → i < length (p .events) → eventOf p i ≡ Align a
       → Spends (a .align) (a .most) (a .start) (a .start + a .len)
@@ -212,6 +290,21 @@ module _ {l : Lent} {output finalized : List ℕ} {a : Answer} (d : Demands l ou
   c-demand3 : a .0 ≡ 0 → moves (pooledIn l .events) ≡ true
       → Demand3 (pooledIn l) (finishedCode a) (entries (wordAt (labelsOf a)) (recordingIn l .buffer .labels)) (wordOf a 1) (wordOf a 3)
   c-demand3 = d .three
+
+  c-unmoved : a .0 ≡ 0 → moves (pooledIn l .events) ≡ false → entries (wordAt (labelsOf a)) (recordingIn l .buffer .labels) ≡ pooledIn l .labels
+  c-unmoved = d .unmoved
+
+  c-uses-bound : a .0 ≡ 0 → (i : ℕ) → i < length (pooledIn l .uses)
+      → getD (entries (wordAt (labelsOf a)) (recordingIn l .buffer .labels)) (useOf (pooledIn l) i .label) none ≢ none
+  c-uses-bound zero = d .bound zero .uses
+
+  c-refs-bound : a .0 ≡ 0 → (i : ℕ) → i < length (pooledIn l .refs)
+      → getD (entries (wordAt (labelsOf a)) (recordingIn l .buffer .labels)) (refOf (pooledIn l) i .label) none ≢ none
+  c-refs-bound zero = d .bound zero .refs
+
+  c-jumps-bound : a .0 ≡ 0 → (i : ℕ) (v : RelaxableJump) → i < length (pooledIn l .events) → eventOf (pooledIn l) i ≡ Jump v
+      → getD (entries (wordAt (labelsOf a)) (recordingIn l .buffer .labels)) (v .label) none ≢ none
+  c-jumps-bound zero = d .bound zero .jumps
 
   c-constants : a .0 ≡ 0 → Constants (view (recordingIn l)) (finishedCode a) (entries (wordAt (labelsOf a)) (recordingIn l .buffer .labels)) (wordOf a 2)
   c-constants = d .constants

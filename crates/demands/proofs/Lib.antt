@@ -11,6 +11,7 @@ pub mod Answers
 pub mod Spending
 pub mod Discharged
 pub mod Offsets
+pub mod Binding
 pub mod Recorded
 pub mod Demand2
 pub mod Demand3
@@ -20,5 +21,9 @@ pub mod Demand1
 pub mod Boundary
 pub mod Relocations
 pub mod NoneOpen
+pub mod Padded
+pub mod Joining
 pub mod Claims
 pub mod Worked
+pub mod WorkedJoin
+pub mod JoinClaims

@@ -32,7 +32,7 @@ words-read : (f : ℕ → ℕ) (t : List ℕ) (n : ℕ) → n * 4 ≤ length t �
 words-read f t n room small = entries-same (wordAt (overWords t (entries f n))) f n (λ i h. word-over f t n i h room (small i h))
 
 -- where labels go is a word
-moved-none : (p : Pooled) (c : Choice) → moved p c none ≡ none
+pub moved-none : (p : Pooled) (c : Choice) → moved p c none ≡ none
 unfolding moved
 moved-none p c = refl
 

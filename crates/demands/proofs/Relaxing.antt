@@ -3,17 +3,30 @@ use mathlib.Core.Path.{_≡_, refl, sym, ap, _∙_, subst}
 use mathlib.Core.Logic.{_⊎_, inl, inr, _≢_, ⊎-elim}
 use mathlib.Core.Bool.{Bool, true, false}
 use mathlib.Core.List.{List}
-use Prim.Native.Nat.{ℕ, _+_, _-_, _≤_, _<_}
+use Prim.Native.Nat.{ℕ, _+_, _-_, _*_, _≤_, _<_}
 use native.Mathlib.Nat.{mod-lt}
 use native.Mathlib.Omega.{arith}
 use lib.ListN.{length, getD}
-use borrow.Author.Tests.{ne-eqb}
+use borrow.Author.Tests.{ne-eqb, le-leb, lt-ltb}
+use Rattle.seqs.proofs.Booleans.{true-is-not-false}
 use Rattle.seqs.specs.Over.{over}
 use Rattle.seqs.proofs.Numbers.{eq-or-ne}
 use Rattle.encoder.specs.Padding.{paddingWithin, Spends}
 use Rattle.encoder.specs.Intel.{AreNops}
 use Rattle.encoder.proofs.Reading.{nops-read}
 use Rattle.fields.specs.declared.LabelUse.{LabelUse}
+use Rattle.fields.specs.declared.LabelUse.the-variants.{
+  X86JmpRel32,
+  X86BranchRel8,
+  A64Branch14,
+  A64Branch19,
+  A64Branch26,
+  A64Ldr19,
+  A64Adr21,
+  A64Adrp21,
+  A64AddAbsLo12,
+}
+use Rattle.fields.specs.Meaning.{covers, inField}
 use Rattle.fields.specs.declared.Decoded.{Decoded}
 use Rattle.fields.specs.declared.Decoded.the-variants.{Use}
 use Rattle.fields.specs.Words64.{plus, minus, signExtend}
@@ -42,7 +55,7 @@ use Rattle.fields.specs.Kinds.{sizeOf}
 use Rattle.emit.specs.steps.Emit.{Encodes}
 use Rattle.finish.specs.Refusals.{reachesBy, refReaches}
 use Rattle.demands.specs.Reading.{Reads}
-use Rattle.demands.specs.Demand2.{Disjoint, refOf, eventOf, constantOf, newStart, newEnd, RefMisses, ConstantMisses, Means, Relaxed}
+use Rattle.demands.specs.Demand2.{Disjoint, refOf, eventOf, constantOf, newStart, newEnd, RefMisses, ConstantMisses, Means, Keeps, Relaxed}
 use Rattle.demands.proofs.Kept.{FieldMisses, refs-kept, jumps-kept, pool-kept, ref-filled, jump-filled}
 use Rattle.demands.proofs.Placing.{Standing, stands-placed, form-stands}
 use Rattle.demands.proofs.Missing.{moved-beside, events-apart}
@@ -94,6 +107,21 @@ form-reads arch v recorded false base start label l h known r held size =
     let near : Near (start + 2) label = (omega (arith, r refl .back), omega (arith, r refl .ahead)) in
     short-reads base start label l (v .cc) known h near held size
 form-reads arch v recorded true base start label l h known r held size = long-reads base start label l (v .cc) known h held size
+
+whole : (n b : ℕ) → b < n → covers 0 n b ≡ true
+whole n b h = rw (le-leb 0 b (omega arith), lt-ltb b (0 + n) (omega arith)) refl
+
+-- of x86's kinds every bit is the field's own
+x86-whole : (k : LabelUse) (b : ℕ) → info k .x86 ≡ true → b < 8 * patchSize k → inField k b ≡ false → ⊥
+x86-whole X86JmpRel32 b native within outside = true-is-not-false (sym (whole 32 b within) ∙ outside)
+x86-whole X86BranchRel8 b native within outside = true-is-not-false (sym (whole 8 b within) ∙ outside)
+x86-whole A64Branch14 b native within outside = true-is-not-false (sym native)
+x86-whole A64Branch19 b native within outside = true-is-not-false (sym native)
+x86-whole A64Branch26 b native within outside = true-is-not-false (sym native)
+x86-whole A64Ldr19 b native within outside = true-is-not-false (sym native)
+x86-whole A64Adr21 b native within outside = true-is-not-false (sym native)
+x86-whole A64Adrp21 b native within outside = true-is-not-false (sym native)
+x86-whole A64AddAbsLo12 b native within outside = true-is-not-false (sym native)
 
 module _ (p : Pooled) (c : Choice) (fitting : Fitting p c) where
   abbrev at : ℕ → ℕ
@@ -170,6 +198,10 @@ module _ (p : Pooled) (c : Choice) (fitting : Fitting p c) where
       (omega (arith, ref-within i k h is, fitting .small))
       (mod-lt (target p c (refOf p i .label) + signExtend 32 (refOf p i .addend)) (omega arith))
       (reach-of (decoded (refOf p i .code)) k (minus goal offset) is (fitting .reach i h)))
+
+  ref-keeps : (i : ℕ) (k : LabelUse) → i < length (p .refs) → decoded (refOf p i .code) ≡ Use k
+      → Keeps k (part (p .code) (refOf p i .offset) (patchSize k)) (part (assembled p c) (at (refOf p i .offset)) (patchSize k))
+  ref-keeps i k h is b within outside = absurd (x86-whole k b (fitting .native i k h is) within outside)
 
   label-small : (i : ℕ) (b : Branch) → i < length (p .events) → roleOf (eventOf p i) ≡ branches b → target p c (b .label) < 2147483648
   label-small i b h r =
@@ -254,6 +286,8 @@ module _ (p : Pooled) (c : Choice) (fitting : Fitting p c) where
   assembled-means =
       record {
         refs = ref-means;
+        keeps = ref-keeps;
+        inside = λ i k h is. omega (arith, length-assembled p c, ref-within i k h is);
         jumps = jump-reads;
         within = λ i h. omega (arith, length-assembled p c, end-within p c i h);
         padding = padding-nops;

@@ -4,8 +4,9 @@ use mathlib.Core.Logic.{_≢_, ⊎-elim}
 use mathlib.Core.Bool.{true}
 use mathlib.Core.List.{List, _++_, append-assoc}
 use Prim.Native.Nat.{ℕ, zero, suc, _+_, _-_, _%_, _≤_, _<_}
+use native.Mathlib.Nat.{mod-lt}
 use native.Mathlib.Omega.{arith}
-use lib.ListN.{length, getD, take, drop, replicate}
+use lib.ListN.{length, getD, take, drop, replicate, length-take}
 use lib.Seq.{getD-take, getD-drop}
 use borrow.Author.Tests.{eq-eqb, ne-eqb}
 use Rattle.seqs.proofs.Numbers.{eq-or-ne}
@@ -24,12 +25,14 @@ use Rattle.fields.specs.declared.LabelUse.the-variants.{
   A64AddAbsLo12,
 }
 use Rattle.fields.specs.declared.Decoded.the-variants.{Use}
-use Rattle.fields.specs.Words64.{modulus, plus, signExtend}
+use Rattle.fields.specs.Words64.{modulus, plus, minus, signExtend}
+use Rattle.fields.specs.Bits.{bits}
 use Rattle.fields.specs.Kinds.{codeOf, patchSize, decoded}
-use Rattle.fields.specs.Reach.{canReach}
+use Rattle.fields.specs.Reach.{canReach, canReachDelta}
 use Rattle.fields.specs.Patch.{heldAddend, patchedUse}
 use Rattle.fields.specs.Meaning.{meaning, demanded, Clear}
-use Rattle.fields.proofs.Fields.{Field, field-means, use-adds-held}
+use Rattle.fields.proofs.Signed.{true-range, minus-minus}
+use Rattle.fields.proofs.Fields.{Field, field-means, field-outside-stays, use-adds-held}
 use Rattle.relax.specs.declared.Alignment.{Alignment}
 use Rattle.relax.specs.declared.LayoutEvent.the-variants.{Align}
 use Rattle.buffer.specs.State.{none}
@@ -38,8 +41,8 @@ use Rattle.buffer.proofs.Appends.{padding-length}
 use Rattle.recording.specs.View as tables
 use Rattle.fresh.specs.Pooled.{Pooled, pooledOne, askedConstant, pooledTo, pooled}
 use Rattle.fresh.specs.Fill.{part, fillUses, inPlace}
-use Rattle.fresh.proofs.Fill.{length-fillUses}
-use Rattle.demands.specs.Demand2.{Bytes, useOf, eventOf, SpendsAsRecorded, UseMisses, ConstantMisses, Means, heldBy, InPlace, IsPadding, padStart, padLength, Padded, PoolPadded}
+use Rattle.fresh.proofs.Fill.{length-fillUses, length-inPlace}
+use Rattle.demands.specs.Demand2.{Bytes, useOf, eventOf, SpendsAsRecorded, UseMisses, ConstantMisses, Means, Keeps, Signed32, heldBy, InPlace, IsPadding, padStart, padLength, Padded, PoolPadded}
 use Rattle.demands.proofs.Kept.{length-part, uses-kept, pool-kept, use-filled}
 use Rattle.demands.proofs.Placing.{part-between}
 use Rattle.demands.proofs.Bytes.{bytes-part, bytes-filled, pooled-arch}
@@ -78,6 +81,28 @@ adds-held A64Ldr19 base offset label held e f h = absurd (omega arith)
 adds-held A64Adr21 base offset label held e f h = absurd (omega arith)
 adds-held A64Adrp21 base offset label held e f h = absurd (omega arith)
 adds-held A64AddAbsLo12 base offset label held e f h = absurd (omega arith)
+
+adds-exactly : (k : LabelUse) (base offset label : ℕ) (held : List ℕ) → codeOf k ≡ 0 → Field k held → offset < 4294967296
+    → Signed32 (minus (plus label (signExtend 32 (wordAt held 0))) (offset + 4))
+    → meaning k (plus base offset) (wordAt (patchedUse k offset label held) 0) ≡ demanded k (plus base (plus label (signExtend 32 (wordAt held 0))))
+unfolding heldAddend canReach canReachDelta
+adds-exactly X86JmpRel32 base offset label held e f h small =
+    let goal = plus label (signExtend 32 (wordAt held 0)) in
+    let ends : plus offset 4 ≡ offset + 4 = omega arith in
+    let end : minus (minus goal offset) 4 ≡ minus goal (offset + 4) = minus-minus goal offset 4 (omega arith) (omega arith) ∙ ap (minus goal) ends in
+    field-means X86JmpRel32 base offset goal held f (omega arith) (mod-lt (label + signExtend 32 (wordAt held 0)) (omega arith)) (omega arith) tt
+    (rw end (true-range 2147483648 2147483647 (minus goal (offset + 4)) (omega arith)))
+adds-exactly X86BranchRel8 base offset label held e f h small = absurd (omega arith)
+adds-exactly A64Branch14 base offset label held e f h small = absurd (omega arith)
+adds-exactly A64Branch19 base offset label held e f h small = absurd (omega arith)
+adds-exactly A64Branch26 base offset label held e f h small = absurd (omega arith)
+adds-exactly A64Ldr19 base offset label held e f h small = absurd (omega arith)
+adds-exactly A64Adr21 base offset label held e f h small = absurd (omega arith)
+adds-exactly A64Adrp21 base offset label held e f h small = absurd (omega arith)
+adds-exactly A64AddAbsLo12 base offset label held e f h small = absurd (omega arith)
+
+abbrev noUse : tables.Use
+noUse = record { offset = 0; label = 0; code = 0 }
 
 module _ (p : Pooled) where
   -- a part that no constant covers
@@ -133,9 +158,40 @@ module _ (p : Pooled) (reaching : Reaching p) where
       ap (λ (l : List ℕ). meaning k (plus base offset) (wordAt l 0) % 4294967296) (field-is i k h is uses constants)
       ∙ adds-held k base offset label (heldBy p i k) none·code (held-field i k h is) (omega (arith, reaching .within i k h is, reaching .recorded))
 
+  use-exact : (i : ℕ) (k : LabelUse) → i < length (p .uses) → decoded (useOf p i .code) ≡ Use k → codeOf k ≡ 0
+      → ((j : ℕ) → i < j → UseMisses p (useOf p i .offset) (patchSize k) j)
+      → ((j : ℕ) → ConstantMisses here p (useOf p i .offset) (patchSize k) j)
+      → Signed32 (minus (plus (getD (p .labels) (useOf p i .label) none) (signExtend 32 (wordAt (heldBy p i k) 0))) (useOf p i .offset + 4))
+      → Means k (useOf p i .offset) (plus (getD (p .labels) (useOf p i .label) none) (signExtend 32 (wordAt (heldBy p i k) 0)))
+      (part (inPlace p) (useOf p i .offset) (patchSize k))
+  use-exact i k h is none·code uses constants small base loaded =
+      let offset = useOf p i .offset in
+      let label = getD (p .labels) (useOf p i .label) none in
+      ap (λ (l : List ℕ). meaning k (plus base offset) (wordAt l 0)) (field-is i k h is uses constants)
+      ∙ adds-exactly k base offset label (heldBy p i k) none·code (held-field i k h is) (omega (arith, reaching .within i k h is, reaching .recorded)) small
+
+  use-keeps : (i : ℕ) (k : LabelUse) → i < length (p .uses) → decoded (useOf p i .code) ≡ Use k
+      → ((j : ℕ) → i < j → UseMisses p (useOf p i .offset) (patchSize k) j)
+      → ((j : ℕ) → ConstantMisses here p (useOf p i .offset) (patchSize k) j)
+      → Keeps k (heldBy p i k) (part (inPlace p) (useOf p i .offset) (patchSize k))
+  use-keeps i k h is uses constants b within outside =
+      let offset = useOf p i .offset in
+      let label = getD (p .labels) (useOf p i .label) none in
+      ap (λ (l : List ℕ). bits b b (wordAt l 0)) (field-is i k h is uses constants)
+      ∙ field-outside-stays k offset (plus label (heldAddend k (heldBy p i k))) b (heldBy p i k) (held-field i k h is) within outside
+
+  use-held : (i : ℕ) (k : LabelUse) → ((j : ℕ) → j < i → UseMisses p (useOf p i .offset) (patchSize k) j)
+      → heldBy p i k ≡ part (p .code) (useOf p i .offset) (patchSize k)
+  use-held i k misses =
+      uses-kept (p .labels) (take i (p .uses)) (p .code) (useOf p i .offset) (patchSize k) noUse
+      (λ j h.
+      let few : j < i = omega (arith, simp length-take at h) in
+      let known : j < length (p .uses) = omega (arith, simp length-take at h) in
+      rw (getD-take i (p .uses) j noUse few) (misses j few known))
+
   -- Every field of the code of a recording without a jump.
   pub in-place-means : InPlace p (inPlace p)
-  in-place-means = record { uses = use-means; adds = use-adds; spends = reaching .spends; copied = all-stay p }
+  in-place-means = record { uses = use-means; adds = use-adds; exact = use-exact; keeps = use-keeps; held = use-held; inside = λ i k h is. rw (length-inPlace p) (reaching .within i k h is); spends = reaching .spends; copied = all-stay p }
 
 -- the padding before constant j stands in the pooled code
 record PadStands (arch : ℕ) (v : tables.View) (j n : ℕ) : Type 0 where

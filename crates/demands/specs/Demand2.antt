@@ -4,16 +4,17 @@ use mathlib.Core.Path.{_≡_}
 use mathlib.Core.Logic.{_≢_}
 use mathlib.Core.Bool.{true, false}
 use mathlib.Core.List.{List, []}
-use Prim.Native.Nat.{ℕ, _+_, _-_, _%_, _≤_, _<_}
+use Prim.Native.Nat.{ℕ, _+_, _-_, _*_, _%_, _≤_, _<_}
 use lib.ListN.{length, getD, take, replicate}
 use Rattle.words.specs.Words.{wordAt}
 use Rattle.encoder.specs.Padding.{paddingLength, paddingWithin, Spends}
 use Rattle.encoder.specs.Intel.{AreNops}
 use Rattle.fields.specs.declared.LabelUse.{LabelUse}
 use Rattle.fields.specs.declared.Decoded.the-variants.{Use}
-use Rattle.fields.specs.Words64.{plus, signExtend}
+use Rattle.fields.specs.Words64.{plus, minus, signExtend}
+use Rattle.fields.specs.Bits.{bits}
 use Rattle.fields.specs.Kinds.{archA64, codeOf, patchSize, decoded}
-use Rattle.fields.specs.Meaning.{meaning, demanded, loadMultiple, Clear}
+use Rattle.fields.specs.Meaning.{meaning, demanded, loadMultiple, Clear, inField}
 use Rattle.relax.specs.declared.LayoutEvent.{LayoutEvent}
 use Rattle.relax.specs.declared.LayoutEvent.the-variants.{Jump, Align}
 use Rattle.relax.specs.declared.Segment.{Segment}
@@ -76,6 +77,14 @@ abbrev pub Means : LabelUse → ℕ → ℕ → List ℕ → Type 0
 Means k offset target bytes =
     (base : ℕ) → base % loadMultiple k ≡ 0 → meaning k (plus base offset) (wordAt bytes 0) ≡ demanded k (plus base target)
 
+-- the bits of these bytes that are not the field's own, opcode and registers, are those of `before`
+abbrev pub Keeps : LabelUse → List ℕ → List ℕ → Type 0
+Keeps k before bytes = (i : ℕ) → i < 8 * patchSize k → inField k i ≡ false → bits i i (wordAt bytes 0) ≡ bits i i (wordAt before 0)
+
+-- 32 bits hold a 64-bit number, signed: it lies in -2^31..2^31 - 1
+abbrev pub Signed32 : ℕ → Type 0
+Signed32 v = plus v 2147483648 < 4294967296
+
 -- With a jump: p is the pooled recording, c the choice of long jumps. Refs are filled first, then jumps, then the constants.
 pub record Relaxed (p : Pooled) (c : Choice) (code : List ℕ) : Type 0 where
   -- a ref that no later ref and no constant covers means its label plus its addend; no jump covers one
@@ -84,6 +93,9 @@ pub record Relaxed (p : Pooled) (c : Choice) (code : List ℕ) : Type 0 where
       → ((j : ℕ) → ConstantMisses (moved p c) p (moved p c (refOf p i .offset)) (patchSize k) j)
       → Means k (moved p c (refOf p i .offset)) (plus (target p c (refOf p i .label)) (signExtend 32 (refOf p i .addend)))
       (part code (moved p c (refOf p i .offset)) (patchSize k))
+  -- and leaves what was recorded beside its field; of x86's kinds every bit is the field's own
+  pub keeps : (i : ℕ) (k : LabelUse) → i < length (p .refs) → decoded (refOf p i .code) ≡ Use k
+      → Keeps k (part (p .code) (refOf p i .offset) (patchSize k)) (part code (moved p c (refOf p i .offset)) (patchSize k))
   -- every jump is read, on its condition, as a jump to its label; nothing covers one
   pub jumps : (i : ℕ) (v : RelaxableJump) → i < length (p .events) → eventOf p i ≡ Jump v → (base : ℕ)
       → Reads (plus base (newStart p c i)) (part code (newStart p c i) (newEnd p c i - newStart p c i)) (v .cc) (plus base (target p c (v .label)))
@@ -92,6 +104,8 @@ pub record Relaxed (p : Pooled) (c : Choice) (code : List ℕ) : Type 0 where
       → AreNops (part code (newStart p c i) (newEnd p c i - newStart p c i))
   -- an alignment ends on its multiple, or is empty where that would have taken more than it may spend (document 02, Request Seven)
   pub spends : (i : ℕ) (a : Alignment) → i < length (p .events) → eventOf p i ≡ Align a → Spends (a .align) (a .most) (newStart p c i) (newEnd p c i)
+  -- every field lies within the code
+  pub inside : (i : ℕ) (k : LabelUse) → i < length (p .refs) → decoded (refOf p i .code) ≡ Use k → moved p c (refOf p i .offset) + patchSize k ≤ length code
   -- and all of it lies within the code
   pub within : (i : ℕ) → i < length (p .events) → newEnd p c i ≤ length code
 
@@ -117,6 +131,22 @@ pub record InPlace (p : Pooled) (code : List ℕ) : Type 0 where
       → ((j : ℕ) → ConstantMisses (λ (offset : ℕ). offset) p (useOf p i .offset) (patchSize k) j)
       → (base : ℕ) → meaning k (plus base (useOf p i .offset)) (wordAt (part code (useOf p i .offset) (patchSize k)) 0) % 4294967296
       ≡ demanded k (plus base (plus (getD (p .labels) (useOf p i .label) none) (signExtend 32 (wordAt (heldBy p i k) 0)))) % 4294967296
+  -- and exactly that, wherever the label plus what the field held, less the field's end, fits in 32 bits, signed
+  pub exact : (i : ℕ) (k : LabelUse) → i < length (p .uses) → decoded (useOf p i .code) ≡ Use k → codeOf k ≡ 0
+      → ((j : ℕ) → i < j → UseMisses p (useOf p i .offset) (patchSize k) j)
+      → ((j : ℕ) → ConstantMisses (λ (offset : ℕ). offset) p (useOf p i .offset) (patchSize k) j)
+      → Signed32 (minus (plus (getD (p .labels) (useOf p i .label) none) (signExtend 32 (wordAt (heldBy p i k) 0))) (useOf p i .offset + 4))
+      → Means k (useOf p i .offset) (plus (getD (p .labels) (useOf p i .label) none) (signExtend 32 (wordAt (heldBy p i k) 0)))
+      (part code (useOf p i .offset) (patchSize k))
+  -- every field lies within the code
+  pub inside : (i : ℕ) (k : LabelUse) → i < length (p .uses) → decoded (useOf p i .code) ≡ Use k → useOf p i .offset + patchSize k ≤ length code
+  -- a use leaves what its field held beside its own bits; and its field held what was recorded where no earlier use covers it
+  pub keeps : (i : ℕ) (k : LabelUse) → i < length (p .uses) → decoded (useOf p i .code) ≡ Use k
+      → ((j : ℕ) → i < j → UseMisses p (useOf p i .offset) (patchSize k) j)
+      → ((j : ℕ) → ConstantMisses (λ (offset : ℕ). offset) p (useOf p i .offset) (patchSize k) j)
+      → Keeps k (heldBy p i k) (part code (useOf p i .offset) (patchSize k))
+  pub held : (i : ℕ) (k : LabelUse) → ((j : ℕ) → j < i → UseMisses p (useOf p i .offset) (patchSize k) j)
+      → heldBy p i k ≡ part (p .code) (useOf p i .offset) (patchSize k)
   -- an alignment that is kept ends on its multiple, or is empty where that would have taken more than it may spend; nothing has moved
   pub spends : (i : ℕ) (a : Alignment) → i < length (p .events) → eventOf p i ≡ Align a → SpendsAsRecorded a
   -- what no use and no constant covers, recorded padding too, stays as it was recorded and padded

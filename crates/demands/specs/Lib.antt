@@ -3,3 +3,5 @@ pub mod Reading
 pub mod Demand2
 pub mod Constants
 pub mod Boundary
+pub mod Later
+pub mod Joining

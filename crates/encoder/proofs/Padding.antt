@@ -117,3 +117,17 @@ padding-masked o k h l =
     and-mask ((2 ^ 32 - o) % 2 ^ 32) k
     ∙ mod-mod-of-dvd (2 ^ k) (2 ^ 32 - o) d
     ∙ padding-unique o (2 ^ k) ((2 ^ 32 - o) % 2 ^ k) (mod-lt (2 ^ 32 - o) (pow-pos k)) (rw (add-mod-mod o (2 ^ 32 - o) (2 ^ k), sum) (mod-eq-zero-of-dvd (2 ^ k) d))
+
+-- What `Spends` claims, in numbers: from 6 an alignment to 16 that may spend 10 bytes ends at 16; from 16 one to 32 that may spend 5 is empty; from 3 one to 8
+-- that may spend 7 is not; and one that may spend 4 does not end at 8.
+pub spends-all : (end : ℕ) → 6 ≤ end → Spends 16 10 6 end → end ≡ 16
+spends-all end h s = ⊎-elim (λ (e : end % 16 ≡ 0). omega (arith, s .few)) (λ q. absurd (omega (arith, q .1 10 refl))) (s .ends)
+
+pub spends-none : (end : ℕ) → 16 ≤ end → Spends 32 5 16 end → end ≡ 16
+spends-none end h s = ⊎-elim (λ (e : end % 32 ≡ 0). absurd (omega (arith, s .few))) (λ q. q .0) (s .ends)
+
+pub spends-where-it-may : Spends 8 7 3 3 → ⊥
+spends-where-it-may s = ⊎-elim (λ (e : 3 % 8 ≡ 0). omega (arith, e)) (λ q. omega (arith, q .1 5 refl)) (s .ends)
+
+pub spends-no-more : Spends 8 4 3 8 → ⊥
+spends-no-more s = omega (arith, s .few)

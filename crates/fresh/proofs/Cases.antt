@@ -19,7 +19,7 @@ use Rattle.fresh.specs.Forms.{width, Branch, branches, roleOf}
 use Rattle.fresh.specs.Pooled.{Pooled}
 use Rattle.fresh.specs.Fresh.{items, starts, stands, moved, walk}
 use Rattle.fresh.specs.Rounds.{jumps, reaches, isFar, farOf, any, join, settle, settled}
-use Rattle.fresh.specs.Demand.{Fits, Includes}
+use Rattle.fresh.specs.Demand.{Fits, Includes, Branches, NoAlign}
 use Rattle.fresh.specs.Segments.{segments, image, chosen, decided, mapOffset, segmentsOf}
 use Rattle.fresh.specs.Order.{Ordered, Clear, Lies, RefsLie, PoolLies, WellFormed}
 use Rattle.fresh.proofs.Least.{Bound}
@@ -59,3 +59,8 @@ met = (record { ordered = (lit≤ tt, lit≤ tt); landed = lands; fields = tt; c
     bound : (i : ℕ) (b : Branch) → roleOf (getD (jmp 0 0 ∷ []) i noEvent) ≡ branches b → getD (132 ∷ []) (b .label) none ≢ none
     bound zero b r = let first : 0 ≡ b .label = cc in rw (← first) (eqb-false 132 none refl)
     bound (suc i) b r = let z : _≡_ {A = ℕ} 0 1 = cc in absurd (omega arith)
+
+-- Cases B and C have neither alignment nor constant, whichever labels their jumps go to.
+pub least-is-of-every-jump : ((b : Branch) → Branches (branches b)) × (NoAlign (jmp 0 0 ∷ []) × NoAlign (jmp 0 0 ∷ jmp 5 1 ∷ []))
+unfolding roleOf NoAlign
+least-is-of-every-jump = (λ b. tt, ((tt, tt), (tt, (tt, tt))))

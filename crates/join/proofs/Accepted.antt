@@ -83,7 +83,7 @@ module _ (l : Lent) (output labels relocs : List ℕ) (accepted : join l output 
   abbrev code : List ℕ
   code = join l output labels relocs .1 .0
 
-  nothing-refuses : whyNotJoined l (length output) (length labels) (length relocs) ≡ 0
+  pub nothing-refuses : whyNotJoined l (length output) (length labels) (length relocs) ≡ 0
   unfolding join
   nothing-refuses =
       let why = whyNotJoined l (length output) (length labels) (length relocs) in
@@ -92,13 +92,13 @@ module _ (l : Lent) (output labels relocs : List ℕ) (accepted : join l output 
       (λ some. sym (ap (λ (a : Joined × Left). a .0 .refusal) (no-eq why 0 _ _ some)) ∙ accepted)
       (eq-or-ne why 0)
 
-  passed : Fit l × Room l (length output) (length labels) (length relocs)
+  pub passed : Fit l × Room l (length output) (length labels) (length relocs)
   passed = joined-passed l (length output) (length labels) (length relocs) nothing-refuses
 
   lies : (k : ℕ) → k < n → CodeIn (l .code) (piece k) (before k)
   lies = fit-joins l (length output) (length labels) (length relocs) (passed .0) (passed .1) .code
 
-  code-left : code ≡ over output 0 (image (knownIn l) (l .pieces) (l .relocs) (l .code) n)
+  pub code-left : code ≡ over output 0 (image (knownIn l) (l .pieces) (l .relocs) (l .code) n)
   unfolding join joined
   code-left = ap (λ (a : Joined × Left). a .1 .0) (yes-eq (whyNotJoined l (length output) (length labels) (length relocs)) 0 _ _ nothing-refuses)
 
@@ -106,7 +106,7 @@ module _ (l : Lent) (output labels relocs : List ℕ) (accepted : join l output 
   unfolding join joined
   labels-left = ap (λ (a : Joined × Left). a .1 .1 .0) (yes-eq (whyNotJoined l (length output) (length labels) (length relocs)) 0 _ _ nothing-refuses)
 
-  label-moves : (k : ℕ) → k < n → (j : ℕ) → j < piece k .labels → labelMoves (baseOf (piece k) (before k)) (wordAt (l .labels) (before k .labels + j)) ≡ true
+  pub label-moves : (k : ℕ) → k < n → (j : ℕ) → j < piece k .labels → labelMoves (baseOf (piece k) (before k)) (wordAt (l .labels) (before k .labels + j)) ≡ true
   unfolding allLabelsMove labelsMove
   label-moves k within j known =
       all-at (λ (i : ℕ). labelMoves (baseOf (piece k) (before k)) (wordAt (l .labels) (before k .labels + i))) (piece k .labels) j

@@ -9,4 +9,5 @@ pub mod Answers
 pub mod Meaning
 pub mod Once
 pub mod Accepted
+pub mod Leaving
 mod Worked

@@ -98,6 +98,10 @@ caseOf pieces code labels relocs definitions output joined-labels joined-relocs 
 abbrev called : Case
 called = caseOf (pieceOf archX64 5 32 0 1 0 ++ pieceOf archX64 1 32 1 0 1) (caller ++ callee) (0 ∷ []) call (7 ∷ 0 ∷ []) 35 5 0
 
+-- a caller in the second piece, whose label 1, at 6, defines the symbol: its base is 32, so that the symbol's place is 38 and the field, at 33, holds 1
+abbrev calls-on : Case
+calls-on = caseOf (pieceOf archX64 1 32 1 0 0 ++ pieceOf archX64 7 32 2 1 1) (callee ++ (caller ++ (144 ∷ 195 ∷ []))) (0 ∷ 5 ∷ 6 ∷ []) call (7 ∷ 1 ∷ []) 39 12 0
+
 -- the same with the symbol defined twice, by a label that is unknown, and by one that is not bound
 abbrev twice : Case
 twice = caseOf (pieceOf archX64 5 32 0 1 0 ++ pieceOf archX64 1 32 1 0 2) (caller ++ callee) (0 ∷ []) call (7 ∷ 0 ∷ 7 ∷ 9 ∷ []) 33 4 0
@@ -143,6 +147,10 @@ narrow = caseOf (pieceOf archX64 1 16 0 0 0) callee [] [] [] 1 0 0
 abbrev cases : List (Case × (Joined × Left))
 cases =
     (called, answered (wholeOf archX64 33 32 1 0) ((232 ∷ 27 ∷ 0 ∷ 0 ∷ 0 ∷ []) ++ (replicate 27 0 ++ (callee ++ replicate 2 170))) (bytesOfAll (32 ∷ []) ++ (170 ∷ [])) [])
+    ∷ (
+      calls-on,
+      answered (wholeOf archX64 39 32 3 0) (callee ++ (replicate 31 0 ++ (232 ∷ 1 ∷ 0 ∷ 0 ∷ 0 ∷ 144 ∷ 195 ∷ []))) (bytesOfAll (0 ∷ 37 ∷ 38 ∷ [])) [],
+    )
     ∷ (twice, refusedWith refusals.symbolDefinedTwice twice)
     ∷ (unknown, refusedWith refusals.symbolUndefined unknown)
     ∷ (unbound, refusedWith refusals.symbolUndefined unbound)

@@ -53,23 +53,23 @@ abbrev begunIn : Word → Word → Lent → Recording
 begunIn arch symbols m =
     begun (arch .value) (symbols .value) (m .code) (m .labels) (m .events) (m .uses) (m .refs) (m .constants) (m .asked) (m .relocs)
 
-start-left : (arch symbols : Word) (m : Lent) → countsSize ≤ length (m .counts) → afterStart arch symbols m ≡ lentWith (m .counts) (begunIn arch symbols m)
+pub start-left : (arch symbols : Word) (m : Lent) → countsSize ≤ length (m .counts) → afterStart arch symbols m ≡ lentWith (m .counts) (begunIn arch symbols m)
 unfolding start
 start-left arch symbols m room =
     ap (λ (a : ℕ × List ℕ). lentOf (a .1) (m .code) (m .labels) (m .events) (m .uses) (m .refs) (m .constants) (m .asked) (m .relocs))
     (no-lt {A = ℕ × List ℕ} (length (m .counts)) countsSize _ _ room)
 
-sheet-left : (s : List ℕ) (m : Lent) → countsSize ≤ length (m .counts) → runSheet s m .1 ≡ lentWith (m .counts) (sheets.runSheet s (recordingIn m) .1)
+pub sheet-left : (s : List ℕ) (m : Lent) → countsSize ≤ length (m .counts) → runSheet s m .1 ≡ lentWith (m .counts) (sheets.runSheet s (recordingIn m) .1)
 unfolding runSheet
 sheet-left s m room = ap (λ (a : (ℕ × ℕ) × Lent). a .1) (no-lt {A = (ℕ × ℕ) × Lent} (length (m .counts)) countsSize _ _ room)
 
-bytes-left : (bs : List ℕ) (m : Lent) → countsSize ≤ length (m .counts) → afterBytes bs m ≡ lentWith (m .counts) (after (call.bytes bs) (recordingIn m))
+pub bytes-left : (bs : List ℕ) (m : Lent) → countsSize ≤ length (m .counts) → afterBytes bs m ≡ lentWith (m .counts) (after (call.bytes bs) (recordingIn m))
 unfolding putBytes
 bytes-left bs m room =
     ap (λ (a : ℕ × (List ℕ × List ℕ)). lentOf (a .1 .0) (a .1 .1) (m .labels) (m .events) (m .uses) (m .refs) (m .constants) (m .asked) (m .relocs))
     (no-lt {A = ℕ × (List ℕ × List ℕ)} (length (m .counts)) countsSize _ _ room)
 
-align-left : (multiple most : Word) (m : Lent) → countsSize ≤ length (m .counts)
+pub align-left : (multiple most : Word) (m : Lent) → countsSize ≤ length (m .counts)
     → afterAlign multiple most m ≡ lentWith (m .counts) (after (call.align multiple most) (recordingIn m))
 unfolding align
 align-left multiple most m room =
@@ -78,14 +78,14 @@ align-left multiple most m room =
     lentOf (a .1 .0) (a .1 .1 .0) (m .labels) (a .1 .1 .1) (m .uses) (m .refs) (m .constants) (m .asked) (m .relocs))
     (no-lt {A = ℕ × (List ℕ × (List ℕ × List ℕ))} (length (m .counts)) countsSize _ _ room)
 
-constant-left : (bs : List ℕ) (m : Lent) → countsSize ≤ length (m .counts)
+pub constant-left : (bs : List ℕ) (m : Lent) → countsSize ≤ length (m .counts)
     → afterConstant bs m ≡ lentWith (m .counts) (after (call.constant bs) (recordingIn m))
 unfolding addConstant
 constant-left bs m room =
     ap (λ (a : ℕ × (List ℕ × (List ℕ × ℕ))). lentOf (a .1 .0) (m .code) (m .labels) (m .events) (m .uses) (m .refs) (a .1 .1 .0) (m .asked) (m .relocs))
     (no-lt {A = ℕ × (List ℕ × (List ℕ × ℕ))} (length (m .counts)) countsSize _ _ room)
 
-reloc-left : (o k t : Word) (d : Word64) (m : Lent) → countsSize ≤ length (m .counts)
+pub reloc-left : (o k t : Word) (d : Word64) (m : Lent) → countsSize ≤ length (m .counts)
     → afterReloc o k t d m ≡ lentWith (m .counts) (after (call.relocation o k t d) (recordingIn m))
 unfolding addReloc
 reloc-left o k t d m room =
