@@ -141,37 +141,36 @@ enum wargnifla_field {
                                           Bit 22, which shifts it, stays and is to be 0; the code is to be loaded on a multiple of 4,096 */
 };
 
-/* The kinds of relocation, with asmkit's names. Kinds 0 and 1 are of every architecture, 2 to 6, 9 and 10 of X86 and X64, 8 and 11 to 21 of AArch64;
- * 7 and 22 to 27 are foreign to all three. */
+/* The kinds of relocation, with asmkit's names, and the architectures that take each; to the others it is foreign (7). */
 enum wargnifla_reloc {
-    WARGNIFLA_RELOC_Abs4 = 0,
-    WARGNIFLA_RELOC_Abs8 = 1,
-    WARGNIFLA_RELOC_X86PCRel4 = 2,
-    WARGNIFLA_RELOC_X86CallPCRel4 = 3,
-    WARGNIFLA_RELOC_X86CallPLTRel4 = 4,
-    WARGNIFLA_RELOC_X86GOTPCRel4 = 5,
-    WARGNIFLA_RELOC_X86SecRel = 6,
-    WARGNIFLA_RELOC_Arm32Call = 7,
-    WARGNIFLA_RELOC_Arm64Call = 8,
-    WARGNIFLA_RELOC_ElfX86_64TlsGd = 9,
-    WARGNIFLA_RELOC_MachOX86_64Tlv = 10,
-    WARGNIFLA_RELOC_MachOAarch64TlsAdrPage21 = 11,
-    WARGNIFLA_RELOC_MachOAarch64TlsAdrPageOff12 = 12,
-    WARGNIFLA_RELOC_Aarch64TlsDescAdrPage21 = 13,
-    WARGNIFLA_RELOC_Aarch64TlsDescLd64Lo12 = 14,
-    WARGNIFLA_RELOC_Aarch64TlsDescAddLo12 = 15,
-    WARGNIFLA_RELOC_Aarch64TlsDescCall = 16,
-    WARGNIFLA_RELOC_Aarch64AdrGotPage21 = 17,
-    WARGNIFLA_RELOC_Aarch64Ld64GotLo12Nc = 18,
-    WARGNIFLA_RELOC_Aarch64AdrPrelPgHi21 = 19,
-    WARGNIFLA_RELOC_Aarch64AddAbsLo12Nc = 20,
-    WARGNIFLA_RELOC_Aarch64Ld64AbsLo12Nc = 21,
-    WARGNIFLA_RELOC_RiscvAbs8 = 22,
-    WARGNIFLA_RELOC_RiscvCallPlt = 23,
-    WARGNIFLA_RELOC_RiscvTlsGdHi20 = 24,
-    WARGNIFLA_RELOC_RiscvPCRelLo12I = 25,
-    WARGNIFLA_RELOC_RiscvGotHi20 = 26,
-    WARGNIFLA_RELOC_RiscvPCRelHi20 = 27
+    WARGNIFLA_RELOC_Abs4 = 0,                           /* X86, X64, AArch64 */
+    WARGNIFLA_RELOC_Abs8 = 1,                           /* X86, X64, AArch64 */
+    WARGNIFLA_RELOC_X86PCRel4 = 2,                      /* X86, X64 */
+    WARGNIFLA_RELOC_X86CallPCRel4 = 3,                  /* X86, X64 */
+    WARGNIFLA_RELOC_X86CallPLTRel4 = 4,                 /* X86, X64 */
+    WARGNIFLA_RELOC_X86GOTPCRel4 = 5,                   /* X86, X64 */
+    WARGNIFLA_RELOC_X86SecRel = 6,                      /* X86, X64 */
+    WARGNIFLA_RELOC_Arm32Call = 7,                      /* none */
+    WARGNIFLA_RELOC_Arm64Call = 8,                      /* AArch64 */
+    WARGNIFLA_RELOC_ElfX86_64TlsGd = 9,                 /* X86, X64 */
+    WARGNIFLA_RELOC_MachOX86_64Tlv = 10,                /* X86, X64 */
+    WARGNIFLA_RELOC_MachOAarch64TlsAdrPage21 = 11,      /* AArch64 */
+    WARGNIFLA_RELOC_MachOAarch64TlsAdrPageOff12 = 12,   /* AArch64 */
+    WARGNIFLA_RELOC_Aarch64TlsDescAdrPage21 = 13,       /* AArch64 */
+    WARGNIFLA_RELOC_Aarch64TlsDescLd64Lo12 = 14,        /* AArch64 */
+    WARGNIFLA_RELOC_Aarch64TlsDescAddLo12 = 15,         /* AArch64 */
+    WARGNIFLA_RELOC_Aarch64TlsDescCall = 16,            /* AArch64 */
+    WARGNIFLA_RELOC_Aarch64AdrGotPage21 = 17,           /* AArch64 */
+    WARGNIFLA_RELOC_Aarch64Ld64GotLo12Nc = 18,          /* AArch64 */
+    WARGNIFLA_RELOC_Aarch64AdrPrelPgHi21 = 19,          /* AArch64 */
+    WARGNIFLA_RELOC_Aarch64AddAbsLo12Nc = 20,           /* AArch64 */
+    WARGNIFLA_RELOC_Aarch64Ld64AbsLo12Nc = 21,          /* AArch64 */
+    WARGNIFLA_RELOC_RiscvAbs8 = 22,                     /* none */
+    WARGNIFLA_RELOC_RiscvCallPlt = 23,                  /* none */
+    WARGNIFLA_RELOC_RiscvTlsGdHi20 = 24,                /* none */
+    WARGNIFLA_RELOC_RiscvPCRelLo12I = 25,               /* none */
+    WARGNIFLA_RELOC_RiscvGotHi20 = 26,                  /* none */
+    WARGNIFLA_RELOC_RiscvPCRelHi20 = 27                 /* none */
 };
 
 /* The ELF types of relocations, with the names of the psABIs, and the kinds that become each. These are all: the other kinds have no type here. */

@@ -2,7 +2,7 @@
 
 use std::fmt::Debug;
 
-use wargnifla::{Arch, AsmConstant, Call, ElfType, LabelUse, Refusal, Reloc};
+use wargnifla::{Arch, AsmConstant, Call, CodeBuffer, ElfType, LabelUse, Refusal, Reloc};
 
 const HEADER: &str = include_str!("../../../include/wargnifla.h");
 
@@ -80,6 +80,44 @@ fn kinds_of_field_and_relocation() {
         enumerators("wargnifla_reloc", "WARGNIFLA_RELOC_"),
         named(&Reloc::ALL, Reloc::number)
     );
+}
+
+/// The architectures that the comment beside a kind of relocation names.
+fn archs_beside(kind: &str) -> Vec<Arch> {
+    let (_, after) = HEADER
+        .split_once(&format!("WARGNIFLA_RELOC_{kind} = "))
+        .expect("the kind stands in the header");
+    let (_, comment) = after.split_once("/* ").expect("a comment stands beside it");
+    let (names, _) = comment.split_once(" */").expect("the comment ends");
+    Arch::ALL
+        .into_iter()
+        .filter(|arch| names.split(", ").any(|name| name == format!("{arch:?}")))
+        .collect()
+}
+
+#[test]
+fn architectures_of_relocations() {
+    for kind in Reloc::ALL {
+        let taken: Vec<Arch> = Arch::ALL
+            .into_iter()
+            .filter(|&arch| {
+                let call = Call::Relocation {
+                    offset: 0,
+                    kind: kind.number(),
+                    target: 0,
+                    addend: 0,
+                };
+                match CodeBuffer::with_symbols(arch, 1).call(&call) {
+                    Ok(()) => true,
+                    Err(error) => {
+                        assert_eq!(error.number(), 7, "{kind:?}");
+                        false
+                    }
+                }
+            })
+            .collect();
+        assert_eq!(archs_beside(&format!("{kind:?}")), taken, "{kind:?}");
+    }
 }
 
 #[test]
