@@ -22,8 +22,12 @@ pub mod Boundary
 pub mod Relocations
 pub mod NoneOpen
 pub mod Padded
+pub mod OpenCount
+pub mod OpenFinish
 pub mod Joining
 pub mod Claims
 pub mod Worked
 pub mod WorkedJoin
 pub mod JoinClaims
+pub mod Theorems
+pub mod OpenClaims

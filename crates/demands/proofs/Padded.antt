@@ -13,9 +13,8 @@ use Rattle.seqs.specs.Pick.{pick}
 use Rattle.seqs.proofs.Picking.{pick-yes, pick-no, no-lt}
 use Rattle.words.specs.Words.{wordAt}
 use Rattle.relax.specs.declared.Segment.{Segment}
-use Rattle.buffer.specs.declared.CodeBuffer.{CodeBuffer}
 use Rattle.buffer.specs.Refusals.{standing}
-use Rattle.recording.specs.Calls.{Recording, Word, Call, withBuffer, after, afterAll, answered}
+use Rattle.recording.specs.Calls.{Recording, Word, Call, after, afterAll, answered}
 use Rattle.recording.specs.Calls as call
 use Rattle.recording.specs.Sequences.{Leads}
 use Rattle.recording.specs.Sequences as leads
@@ -31,7 +30,7 @@ use Rattle.finish.specs.Finish as finishing
 use Rattle.wargnifla.specs.Boundary.{countsSize, Lent, recordingIn, lentWith, align, runSheet, finish}
 use Rattle.wargnifla.specs.Sequences.{afterAlign, Recorded}
 use Rattle.wargnifla.specs.Sequences as making
-use Rattle.wargnifla.proofs.Counts.{counts-read}
+use Rattle.wargnifla.proofs.Counts.{recording-read}
 use Rattle.wargnifla.proofs.Sequences.{Good, recorded-good, sheet-left, bytes-left, align-left, constant-left, reloc-left}
 use Rattle.demands.specs.Later.{Later, here, sheet, bytes, alignment, constant, relocation, grows}
 use Rattle.demands.specs.Demand2.{AlignPadded}
@@ -40,10 +39,6 @@ use Rattle.demands.specs.Boundary.{finishedCode, pooledIn}
 use Rattle.demands.proofs.Answers.{chosen-zero}
 use Rattle.demands.proofs.Recorded.{recorded-padding}
 use Rattle.demands.proofs.Boundary.{c-finish-calls, code-read}
-
--- bytes with a recording in them hold that recording
-with-read : (counts : List ℕ) (r : Recording) → countsSize ≤ length counts → Words (r .buffer) → recordingIn (lentWith counts r) ≡ r
-with-read counts r room w = ap (λ (b : CodeBuffer). withBuffer r b) (counts-read counts (r .buffer) room w)
 
 -- what a C program goes on to make is what one makes from start on
 later-recorded : (l f : Lent) → Recorded l → Later l f → Recorded f
@@ -61,7 +56,7 @@ calls-lead (c ∷ cs) r s before = calls-lead cs r (after c s) (leads.calls c s 
 
 -- a call on what is lent leaves the recording after it
 call-reads : (c : Call) (m n : Lent) → Good m → n ≡ lentWith (m .counts) (after c (recordingIn m)) → recordingIn n ≡ after c (recordingIn m)
-call-reads c m n g is = ap recordingIn is ∙ with-read (m .counts) (after c (recordingIn m)) (g .room) (call-words c (recordingIn m) (g .words))
+call-reads c m n g is = ap recordingIn is ∙ recording-read (m .counts) (after c (recordingIn m)) (g .room) (call-words c (recordingIn m) (g .words))
 
 call-leads : (l : Lent) (c : Call) (m n : Lent) → Good m → n ≡ lentWith (m .counts) (after c (recordingIn m)) → Leads (recordingIn l) (recordingIn m)
     → Leads (recordingIn l) (recordingIn n)
@@ -74,7 +69,7 @@ later-leads l f made (sheet s m before) =
     let cs = sheet-makes-calls s (recordingIn m) in
     subst (Leads (recordingIn l))
     (sym (ap recordingIn (sheet-left s m (g .room) ∙ ap (lentWith (m .counts)) (cs .1))
-    ∙ with-read (m .counts) (afterAll (cs .0) (recordingIn m)) (g .room) (calls-words (cs .0) (recordingIn m) (g .words))))
+    ∙ recording-read (m .counts) (afterAll (cs .0) (recordingIn m)) (g .room) (calls-words (cs .0) (recordingIn m) (g .words))))
     (calls-lead (cs .0) (recordingIn l) (recordingIn m) (later-leads l m made before))
 later-leads l f made (bytes bs m before) =
     let g = recorded-good m (later-recorded l m made before) in
@@ -189,7 +184,7 @@ c-recorded-padding-of-a-sheet l made s e before rest m most is f later ss output
     let end = afterAll rest (after c (afterAll before r)) in
     let ends : sheets.runSheet s r .1 ≡ end = ap (λ (x : (ℕ × ℕ) × Recording). x .1) runs ∙ all .is in
     let w : Words (end .buffer) = calls-words rest (after c (afterAll before r)) (call-words c (afterAll before r) (calls-words before r (g .words))) in
-    let left : recordingIn (runSheet s l .1) ≡ end = ap recordingIn (sheet-left s l (g .room) ∙ ap (lentWith (l .counts)) ends) ∙ with-read (l .counts) end (g .room) w in
+    let left : recordingIn (runSheet s l .1) ≡ end = ap recordingIn (sheet-left s l (g .room) ∙ ap (lentWith (l .counts)) ends) ∙ recording-read (l .counts) end (g .room) w in
     padded-at-c (afterAll before r) (calls-sound before r (g .sound)) m most (all .takes) f
     (leads-on (after c (afterAll before r)) end (recordingIn f)
     (calls-lead rest (after c (afterAll before r)) (after c (afterAll before r)) leads.here)

@@ -58,9 +58,9 @@ pub record LabelsBound (l : Lent) (a : Answer) : Type 0 where
   pub refs : (i : ℕ) → i < length (pooledIn l .refs) → getD (offsetsOf l a) (refOf (pooledIn l) i .label) none ≢ none
   pub jumps : (i : ℕ) (v : RelaxableJump) → i < length (pooledIn l .events) → eventOf (pooledIn l) i ≡ Jump v → getD (offsetsOf l a) (v .label) none ≢ none
 
--- The three demands of a finish. A number is answered: recording and output are unchanged. 0 is: the finished code meets demand 2 and, where a jump stands,
--- it, the labels' offsets, its length (word 1) and the layouts (word 3) meet demand 3; where none does, the labels' offsets are those recorded, and the pool's. Of pooled constants it, those offsets and the alignment (word 2) are
--- as claimed.
+-- The three demands of a finish. A number is answered: recording and output are unchanged. 0 is: the finished code meets demand 2. Where a jump stands, the
+-- code, the labels' offsets, its length (word 1) and the layouts (word 3) meet demand 3; where none does, the offsets are those recorded, and the pool's.
+-- Of pooled constants the code, the offsets and the alignment (word 2) are as claimed.
 pub record Demands (l : Lent) (output finalized : List ℕ) (a : Answer) : Type 0 where
   pub one : a .0 ≢ 0 → LentUnchanged l output finalized a
   pub two : a .0 ≡ 0 → Demand2 (recordingIn l) (finishedCode a)

@@ -4,4 +4,5 @@ pub mod Demand2
 pub mod Constants
 pub mod Boundary
 pub mod Later
+pub mod OpenCount
 pub mod Joining

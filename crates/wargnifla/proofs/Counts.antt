@@ -1,5 +1,5 @@
 -- Counts as lent bytes: what is written is read, and counts that a call hands back unchanged leave the bytes unchanged.
-use mathlib.Core.Path.{_≡_, sym, _∙_}
+use mathlib.Core.Path.{_≡_, sym, ap, _∙_}
 use mathlib.Core.List.{List}
 use Prim.Native.Nat.{ℕ, _≤_, _<_}
 use native.Mathlib.Omega.{arith}
@@ -7,9 +7,10 @@ use lib.ListN.{length, getD}
 use Rattle.words.specs.Words.{wordAt, overWords}
 use Rattle.words.proofs.Entries.{words-over, word-read}
 use Rattle.buffer.specs.declared.CodeBuffer.{CodeBuffer}
+use Rattle.recording.specs.Calls.{Recording, withBuffer}
 use Rattle.recording.proofs.Words.{Words}
 use Rattle.pool.proofs.Pool.{setWord-same}
-use Rattle.wargnifla.specs.Boundary.{countsSize, countsAt, countsOf}
+use Rattle.wargnifla.specs.Boundary.{countsSize, countsAt, countsOf, recordingIn, lentWith}
 
 -- Counts that are words are read as they were written.
 pub counts-read : (t : List ℕ) (b : CodeBuffer) → countsSize ≤ length t → Words b → countsAt (overWords t (countsOf b)) ≡ b
@@ -31,6 +32,10 @@ counts-read t b room w =
       read 11 (omega arith) (w .relocs),
       read 12 (omega arith) (w .unresolved),
     )
+
+-- Bytes with a recording in them hold that recording.
+pub recording-read : (counts : List ℕ) (r : Recording) → countsSize ≤ length counts → Words (r .buffer) → recordingIn (lentWith counts r) ≡ r
+recording-read counts r room w = ap (λ (b : CodeBuffer). withBuffer r b) (counts-read counts (r .buffer) room w)
 
 pub counts-stay : (counts : List ℕ) → ((n : ℕ) → getD counts n 0 < 256) → overWords counts (countsOf (countsAt counts)) ≡ counts
 counts-stay counts small =
