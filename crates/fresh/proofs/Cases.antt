@@ -32,7 +32,7 @@ unfolding pick paddingLength paddingWithin width items stands moved
 behind-gained-padding = refl
 
 -- two jumps to the end of the code, and behind them an alignment to 8 that may spend 5 bytes
-abbrev skipping : Pooled
+abbrev pub skipping : Pooled
 skipping = zeros 134 (jmp 0 0 ∷ jmp 5 0 ∷ Align (record { start = 10; len = 0; align = 8; most = 5 }) ∷ []) (134 ∷ [])
 
 -- A skipped alignment still counts as one. The first round pads with 4 bytes, so neither jump reaches and both become long. Then 6 would be needed, and

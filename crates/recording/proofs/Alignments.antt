@@ -11,7 +11,7 @@ use Rattle.seqs.proofs.Booleans.{true-is-not-false, both-true}
 use Rattle.seqs.proofs.Numbers.{lt-or-ge}
 use Rattle.buffer.specs.Refusals.{isAlignment}
 
-pub isPower : ℕ → Bool
+abbrev pub isPower : ℕ → Bool
 isPower n =
     eqb n 1 || eqb n 2 || eqb n 4 || eqb n 8 || eqb n 16 || eqb n 32 || eqb n 64 || eqb n 128 || eqb n 256 || eqb n 512 || eqb n 1024 || eqb n 2048 || eqb n 4096
 
@@ -25,7 +25,7 @@ agree zero = true
 agree (suc n) = same (isAlignment n) (isPower n) && agree n
 
 agreed : agree 4097 ≡ true
-unfolding agree same isAlignment isPower
+unfolding agree same isAlignment
 agreed = refl
 
 same-equal : (a b : Bool) → same a b ≡ true → a ≡ b
@@ -45,7 +45,7 @@ agree-at (suc n) m h l =
     (lt-or-ge m n)
 
 past-limit : (n : ℕ) → 4097 ≤ n → isAlignment n ≡ isPower n
-unfolding isAlignment isPower
+unfolding isAlignment
 past-limit n h =
     let whole : 4096 % n ≡ 4096 = mod-eq-of-lt h in
     rw (
