@@ -2,7 +2,7 @@
 -- less than it should is refused here.
 use mathlib.Core.Path.{_≡_, refl, sym, ap, _∙_}
 use mathlib.Core.Logic.{⊎-elim}
-use mathlib.Core.Bool.{true, false}
+use mathlib.Core.Bool.{true, false, cond}
 use mathlib.Core.List.{List, [], _∷_, _++_, map}
 use Prim.Native.Nat.{ℕ, zero, suc, _+_, _*_, _/_, _%_, _≤_, _<_}
 use native.Mathlib.Omega.{arith}
@@ -33,7 +33,7 @@ use Rattle.relax.specs.declared.Condition.the-variants.{On}
 use Rattle.relax.specs.declared.Segment.{Segment}
 use Rattle.relax.specs.Events.{conditionOf, eventOf, eventAt}
 use Rattle.buffer.specs.State.{none}
-use Rattle.buffer.specs.Refusals.{standing, isAlignment, lastEnd}
+use Rattle.buffer.specs.Refusals.{standing, isAlignment, lastEnd, foreignReloc}
 use Rattle.buffer.specs.Tables.{defaultMost}
 use Rattle.checks.specs.Entries.{formFits, eventFits, keptOnly, eventsFit, outside, labelFits, labelsFit, useFits, usesFit, refFits, refsFit, relocsFit, constantFits, constantsFit, askedFits, askedOnce, isAsked, orderFits, entriesFit}
 use Rattle.checks.specs.Lent.{countsFit, withinLimits}
@@ -406,3 +406,13 @@ wide-meets =
       given = refl;
       less = λ m h. asks·not .least m h (λ j known. absurd (omega arith));
     }
+
+-- The kinds of relocation that an architecture takes, as include/wargnifla.h has them.
+kindsFrom : ℕ → ℕ → ℕ → List ℕ
+kindsFrom arch zero kind = []
+kindsFrom arch (suc n) kind = cond (foreignReloc kind arch) (kindsFrom arch n (suc kind)) (kind ∷ kindsFrom arch n (suc kind))
+
+relocation-kinds : (kindsFrom archX86 28 0 ≡ 0 ∷ 1 ∷ 2 ∷ 3 ∷ 4 ∷ 5 ∷ 6 ∷ 9 ∷ 10 ∷ []) × (kindsFrom archX64 28 0 ≡ 0 ∷ 1 ∷ 2 ∷ 3 ∷ 4 ∷ 5 ∷ 6 ∷ 9 ∷ 10 ∷ [])
+    × (kindsFrom archA64 28 0 ≡ 0 ∷ 1 ∷ 8 ∷ 11 ∷ 12 ∷ 13 ∷ 14 ∷ 15 ∷ 16 ∷ 17 ∷ 18 ∷ 19 ∷ 20 ∷ 21 ∷ [])
+unfolding kindsFrom foreignReloc pick
+relocation-kinds = (refl, refl, refl)
