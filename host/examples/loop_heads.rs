@@ -1,6 +1,6 @@
 //! Loop heads like a multiple of 32, at the price of at most 10 bytes: what each alignment comes to where it is recorded, and where finish sets it.
 
-use wargnifla::{Arch, CodeBuffer, Condition, Error, LayoutEvent, RelaxableJump};
+use wargnifla::{Arch, CodeBuffer, Condition, Error, RelaxableJump};
 
 /// A loop of so many bytes, and the jump back to its head.
 fn put_loop(buffer: &mut CodeBuffer, bytes: usize) -> Result<(), Error> {
@@ -27,7 +27,7 @@ fn main() -> Result<(), Error> {
     let recording = buffer.recording();
     let code = buffer.finish()?;
     for (event, settled) in recording.events.iter().zip(code.segments()) {
-        if let LayoutEvent::Align(align) = event {
+        if let Some(align) = event.alignment() {
             println!(
                 "recorded at {}: {}; finished at {}: {}",
                 align.start,

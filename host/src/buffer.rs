@@ -3,12 +3,12 @@
 use std::fmt;
 
 use crate::call::{one_call_sheet, words_of};
+use crate::event::RelaxableJump;
 use crate::explain::{explain_call, explain_finish};
 use crate::ffi::Segment;
 use crate::finalized::CodeBufferFinalized;
 use crate::recording::{
-    AsmFixup, AsmReloc, Constant, Label, LayoutEvent, Recording, RelaxableJump, RelocTarget, Sym,
-    constant_alignment,
+    AsmFixup, AsmReloc, Constant, Label, Recording, RelocTarget, Sym, constant_alignment,
 };
 use crate::sheet::{Sheet, extended, most_padding};
 use crate::tables::{Counts, TableName, Tables};
@@ -716,11 +716,8 @@ impl CodeBuffer {
     fn most_finished(&self) -> usize {
         let mut most = self.data().len();
         for event in self.tables.events() {
-            most -= (event.end() - event.start()) as usize;
-            most += match event {
-                LayoutEvent::Jump(jump) => jump.long_len() as usize,
-                LayoutEvent::Align(alignment) => most_padding(alignment.align, alignment.most),
-            };
+            most -= event.recorded_len() as usize;
+            most += event.most_len();
         }
         let pool = self.tables.asked_sizes();
         most += pool

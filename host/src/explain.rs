@@ -11,7 +11,7 @@ pub(crate) use finish::explain_finish;
 pub(crate) use join::explain_join;
 pub(crate) use relas::{explain_read_relas, explain_write_relas, of_relocation};
 
-use crate::recording::LayoutEvent;
+use crate::event::LayoutEvent;
 
 /// Where the tables do not show the reason; the wrapper's tables always do.
 const NO_REASON: &str = "the tables do not show why";

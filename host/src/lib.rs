@@ -42,6 +42,7 @@ mod buffer;
 mod call;
 mod elf;
 mod error;
+mod event;
 mod explain;
 #[allow(missing_docs, unsafe_code)]
 pub mod ffi;
@@ -62,6 +63,7 @@ mod verified;
 pub use buffer::CodeBuffer;
 pub use elf::{ElfType, ObjectError, Rela, read_relas};
 pub use error::{Entry, Error, Place};
+pub use event::{Alignment, LayoutEvent, RelaxableJump};
 pub use ffi::Segment;
 pub use finalized::CodeBufferFinalized;
 pub use join::{Filled, Joined, Origin, join};
@@ -70,8 +72,8 @@ pub use listing::{
 };
 pub use picture::Picture;
 pub use recording::{
-    Alignment, AsmConstant, AsmFixup, AsmReloc, Constant, Label, LabelRef, LayoutEvent, Names,
-    Pooled, PooledConstant, Recording, RelaxableJump, RelocTarget, Sym,
+    AsmConstant, AsmFixup, AsmReloc, Constant, Label, LabelRef, Names, Pooled, PooledConstant,
+    Recording, RelocTarget, Sym,
 };
 pub use refusal::Refusal;
 pub use rounds::{Change, Lengthened, Mismatch, Round, Rounds, Turn};

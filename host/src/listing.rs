@@ -8,9 +8,8 @@ use std::collections::HashSet;
 use std::fmt::Write;
 use std::ops::Range;
 
-use crate::recording::{
-    Alignment, AsmReloc, Constant, Label, LayoutEvent, Names, Pooled, Recording, RelaxableJump,
-};
+use crate::event::{Alignment, Form, LayoutEvent, RelaxableJump};
+use crate::recording::{AsmReloc, Constant, Label, Names, Pooled, Recording};
 use crate::relax::map;
 use crate::{
     Arch, Call, CodeBufferFinalized, CodeOffset, DEFAULT_MOST, LabelUse, Padding, UNBOUND,
@@ -106,8 +105,7 @@ pub fn record(recording: &Recording, finished: &CodeBufferFinalized) -> String {
         .segments()
         .iter()
         .zip(&recording.events)
-        .filter(|(_, event)| matches!(event, LayoutEvent::Jump(_)))
-        .filter(|(segment, _)| segment.new_end - segment.new_start > RelaxableJump::SHORT_LEN)
+        .filter(|(segment, event)| event.form(segment.new_end - segment.new_start) == Form::Long)
         .count();
     // Finish leaves nothing open: what was is settled by the labels of pooled constants.
     let open = match recording.open {
@@ -174,12 +172,13 @@ fn event_rows(texts: &Texts<'_>, pooled: &Pooled) -> Vec<Row> {
     let finished = texts.finished;
     let row = |(i, event): (usize, &LayoutEvent)| {
         let (start, end) = placed(finished, i, event);
-        match event {
-            LayoutEvent::Jump(jump) => Row::new(start, end, texts.jump(jump, start, end)),
-            LayoutEvent::Align(alignment) => Row {
-                line: padding_line(finished.arch()),
-                ..Row::new(start, end, padding_text(alignment, pooled.owner(i), start))
-            },
+        let line = match event.form(end - start) {
+            Form::Padding => padding_line(finished.arch()),
+            Form::Short | Form::Long => LINE,
+        };
+        Row {
+            line,
+            ..Row::new(start, end, texts.event(pooled, i, start, end))
         }
     };
     pooled.events.iter().enumerate().map(row).collect()
@@ -206,11 +205,7 @@ fn padding_line(arch: Arch) -> usize {
 
 /// `align 16: 14 bytes of padding, 11 recorded`, or `align 8 skipped: 7 needed, at most 3`, of an alignment that comes to stand at an offset; `owner`
 /// is the pooled constant that it is for.
-pub(crate) fn padding_text(
-    alignment: &Alignment,
-    owner: Option<Constant>,
-    at: CodeOffset,
-) -> String {
+fn padding_text(alignment: &Alignment, owner: Option<Constant>, at: CodeOffset) -> String {
     let Alignment { align, most, .. } = *alignment;
     let recorded = alignment.padding_at(alignment.start);
     let now = alignment.padding_at(at);
@@ -391,10 +386,25 @@ impl<'a> Texts<'a> {
         format!("{} at {offset}", self.label(label))
     }
 
+    /// An event, by its index, that comes to stand from an offset to another.
+    pub fn event(
+        &self,
+        pooled: &Pooled,
+        index: usize,
+        start: CodeOffset,
+        end: CodeOffset,
+    ) -> String {
+        let event = &pooled.events[index];
+        match event {
+            LayoutEvent::Jump(jump) => self.jump(jump, event.form(end - start), end),
+            LayoutEvent::Align(alignment) => padding_text(alignment, pooled.owner(index), start),
+        }
+    }
+
     /// `jmp short to label end at 16, distance 14`.
-    pub fn jump(&self, jump: &RelaxableJump, start: CodeOffset, end: CodeOffset) -> String {
-        let form = match end - start {
-            RelaxableJump::SHORT_LEN => "short",
+    fn jump(&self, jump: &RelaxableJump, form: Form, end: CodeOffset) -> String {
+        let form = match form {
+            Form::Short => "short",
             _ => "near",
         };
         let target = self.finished.label_offset(jump.label);

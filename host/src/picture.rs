@@ -7,9 +7,10 @@ mod parts;
 mod still;
 mod table;
 
+use crate::event::LayoutEvent;
 use crate::ffi::Segment;
 use crate::listing::record;
-use crate::recording::{LayoutEvent, Pooled, Recording};
+use crate::recording::{Pooled, Recording};
 use crate::{CodeBufferFinalized, Rounds, Style};
 use data::data;
 use markup::escaped;

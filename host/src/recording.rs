@@ -1,13 +1,11 @@
-//! A recording as typed entries, to be shown and explained. Types after asmkit's core/buffer.rs and core/relax.rs (see NOTICE).
+//! A recording as typed entries, to be shown and explained. Types after asmkit's core/buffer.rs (see NOTICE).
 
 use std::collections::BTreeMap;
 
 use sheet_text::{most_of_word, shown};
 
-use crate::{
-    Arch, Call, CodeOffset, Condition, DEFAULT_MOST, ExternalName, LabelUse, Padding, Reloc,
-    UNBOUND,
-};
+use crate::event::{Alignment, LayoutEvent};
+use crate::{Arch, Call, CodeOffset, DEFAULT_MOST, ExternalName, LabelUse, Reloc, UNBOUND};
 
 /// What is added to a label's number where a relocation's target is one word.
 const LABEL_TARGET: u32 = 1 << 31;
@@ -191,127 +189,6 @@ impl std::fmt::Display for RelocTarget {
     }
 }
 
-/// A `jmp` or `jcc` whose size relaxation may change.
-#[derive(Clone, Copy, Debug, PartialEq, Eq)]
-pub struct RelaxableJump {
-    /// Offset of the opcode.
-    pub start: CodeOffset,
-    /// Bytes recorded for it.
-    pub len: u8,
-    /// Where it goes.
-    pub label: Label,
-    /// The condition of a `jcc`, or `None` for `jmp`.
-    pub cc: Option<Condition>,
-}
-
-impl RelaxableJump {
-    /// Length of the short form: opcode and rel8.
-    pub const SHORT_LEN: u32 = 2;
-
-    /// Length of the long form: `E9 rel32` or `0F 8x rel32`.
-    #[must_use]
-    pub const fn long_len(&self) -> u32 {
-        if self.cc.is_some() { 6 } else { 5 }
-    }
-
-    /// The instruction's name: `jmp`, or `j` and the condition.
-    #[must_use]
-    pub fn mnemonic(&self) -> String {
-        match self.cc {
-            Some(cc) => format!("j{cc}"),
-            None => "jmp".into(),
-        }
-    }
-}
-
-/// The padding of an alignment.
-#[derive(Clone, Copy, Debug, PartialEq, Eq)]
-pub struct Alignment {
-    /// Where the padding was recorded.
-    pub start: CodeOffset,
-    /// Its length as recorded.
-    pub len: CodeOffset,
-    /// The multiple that it reaches, where it is not skipped.
-    pub align: CodeOffset,
-    /// The most bytes that it may spend.
-    pub most: u32,
-}
-
-impl Alignment {
-    /// An alignment as it is recorded at an offset.
-    pub(crate) fn recorded(start: CodeOffset, align: CodeOffset, most: u32) -> Self {
-        Self {
-            start,
-            len: Padding::at(start.into(), align, most).spent(),
-            align,
-            most,
-        }
-    }
-
-    /// What it comes to at an offset.
-    #[must_use]
-    pub const fn padding_at(&self, offset: CodeOffset) -> Padding {
-        Padding::at(offset as u64, self.align, self.most)
-    }
-
-    /// As a text has it: `align 16`, or `align 16 5` where it may spend no more than 5 bytes.
-    #[must_use]
-    pub fn mnemonic(&self) -> String {
-        match self.most {
-            DEFAULT_MOST => format!("align {}", self.align),
-            most => format!("align {} {most}", self.align),
-        }
-    }
-}
-
-/// What finish may resize.
-#[derive(Clone, Copy, Debug, PartialEq, Eq)]
-#[non_exhaustive]
-pub enum LayoutEvent {
-    /// A jump.
-    Jump(RelaxableJump),
-    /// The padding of an alignment.
-    Align(Alignment),
-}
-
-impl LayoutEvent {
-    /// Where the event was recorded.
-    #[must_use]
-    pub const fn start(&self) -> CodeOffset {
-        match self {
-            Self::Jump(jump) => jump.start,
-            Self::Align(alignment) => alignment.start,
-        }
-    }
-
-    /// The end of the event as recorded.
-    #[must_use]
-    pub const fn end(&self) -> CodeOffset {
-        match self {
-            Self::Jump(jump) => jump.start + jump.len as u32,
-            Self::Align(alignment) => alignment.start + alignment.len,
-        }
-    }
-
-    /// As a message names it: `the jump`, `the alignment to 16`.
-    #[must_use]
-    pub fn name(&self) -> String {
-        match self {
-            Self::Jump(_) => "the jump".into(),
-            Self::Align(alignment) => format!("the alignment to {}", alignment.align),
-        }
-    }
-
-    /// As an assembler writes it: `jne`, `align 16`.
-    #[must_use]
-    pub fn mnemonic(&self) -> String {
-        match self {
-            Self::Jump(jump) => jump.mnemonic(),
-            Self::Align(alignment) => alignment.mnemonic(),
-        }
-    }
-}
-
 /// A use of a label: patched by a finish without a jump, dropped by one with.
 #[derive(Clone, Copy, Debug, PartialEq, Eq)]
 pub struct AsmFixup {
@@ -408,15 +285,13 @@ impl Recording {
     /// Whether finish has jumps to relax.
     #[must_use]
     pub fn has_jump(&self) -> bool {
-        self.jumps().next().is_some()
+        self.events.iter().any(LayoutEvent::is_relaxed)
     }
 
-    /// The jumps, in the order of recording.
-    pub fn jumps(&self) -> impl Iterator<Item = &RelaxableJump> {
-        self.events.iter().filter_map(|event| match event {
-            LayoutEvent::Jump(jump) => Some(jump),
-            LayoutEvent::Align(_) => None,
-        })
+    /// The events that go to a label, in the order of recording.
+    pub fn jumps(&self) -> impl Iterator<Item = &LayoutEvent> {
+        let events = self.events.iter();
+        events.filter(|event| event.label().is_some())
     }
 
     /// Adds the alignments that some calls made, for a listing: off X64 a recording does not keep them.

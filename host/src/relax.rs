@@ -1,8 +1,8 @@
 //! Layouts of a pooled recording, to be shown and explained: the host's own reckoning, beside the verified one. After asmkit's core/relax.rs (see
 //! NOTICE).
 
+use crate::event::LayoutEvent;
 use crate::ffi::Segment;
-use crate::recording::{LayoutEvent, RelaxableJump};
 use crate::{CodeOffset, UNBOUND};
 
 /// Places events in order, each jump long that `long` marks, and every alignment with what it comes to where it stands.
@@ -11,16 +11,11 @@ pub(crate) fn layout(events: &[LayoutEvent], long: &[bool]) -> Vec<Segment> {
     let mut segments = Vec::with_capacity(events.len());
     for (event, &long) in events.iter().zip(long) {
         let new_start = last.new_end + (event.start() - last.old_end);
-        let new_end = match event {
-            LayoutEvent::Jump(jump) if long => new_start + jump.long_len(),
-            LayoutEvent::Jump(_) => new_start + RelaxableJump::SHORT_LEN,
-            LayoutEvent::Align(align) => new_start + align.padding_at(new_start).spent(),
-        };
         last = Segment {
             old_start: event.start(),
             old_end: event.end(),
             new_start,
-            new_end,
+            new_end: new_start + event.len_at(new_start, long),
         };
         segments.push(last);
     }
@@ -62,7 +57,7 @@ pub(crate) fn map(segments: &[Segment], offset: CodeOffset) -> CodeOffset {
 #[cfg(test)]
 mod tests {
     use super::*;
-    use crate::{Alignment, DEFAULT_MOST, Label};
+    use crate::{Alignment, DEFAULT_MOST, Label, RelaxableJump};
 
     fn jump(start: u32, len: u8) -> LayoutEvent {
         LayoutEvent::Jump(RelaxableJump {

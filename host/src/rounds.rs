@@ -4,10 +4,11 @@
 use std::fmt;
 use std::ops::Range;
 
+use crate::event::{Alignment, LayoutEvent};
 use crate::ffi::Segment;
-use crate::recording::{Alignment, LayoutEvent, Pooled, Recording, RelaxableJump};
+use crate::recording::{Label, Pooled, Recording};
 use crate::relax::{deciding, events_before, layout, map, moved};
-use crate::{CodeBufferFinalized, CodeOffset, Padding};
+use crate::{CodeBufferFinalized, CodeOffset, Padding, Reach};
 use sheet_text::counted;
 
 /// A jump that a round made long, and why.
@@ -15,12 +16,14 @@ use sheet_text::counted;
 pub struct Lengthened {
     /// The jump's index among the events.
     pub event: usize,
-    /// The jump as recorded.
-    pub jump: RelaxableJump,
+    /// Where it goes.
+    pub label: Label,
+    /// What it reaches while it is short.
+    pub reach: Reach,
     /// The label's offset in this round.
     pub target: CodeOffset,
-    /// The end of the jump, still short, in this round.
-    pub end: CodeOffset,
+    /// Where the distance counts from in this round: the end of the jump, still short.
+    pub from: CodeOffset,
     /// What the distance was in the first round.
     pub first_distance: i64,
     /// What changed since then between the jump and its label, by events and, of each, by rounds.
@@ -50,9 +53,9 @@ pub struct Turn {
 }
 
 impl Lengthened {
-    /// What the short form could not hold: the label's offset less the jump's end.
+    /// What the short form could not hold: the label's offset less where the distance counts from.
     pub fn distance(&self) -> i64 {
-        distance(self.target, self.end)
+        distance(self.target, self.from)
     }
 
     /// What the changes that are kept leave unexplained of the distance's growth since the first round: 0, unless there were too many to keep.
@@ -255,11 +258,9 @@ struct Ceilings {
 impl Ceilings {
     fn new(pooled: &Pooled) -> Self {
         let events = pooled.events.iter().enumerate();
-        let alignments = events.filter_map(|(event, entry)| match entry {
-            LayoutEvent::Align(align) if align.most < align.align - 1 => {
-                Some((event, *align, None))
-            }
-            _ => None,
+        let alignments = events.filter_map(|(event, entry)| {
+            let align = entry.alignment().filter(|align| align.has_ceiling())?;
+            Some((event, *align, None))
         });
         Self {
             alignments: alignments.collect(),
@@ -290,7 +291,8 @@ impl Ceilings {
 /// A jump that is still short, its label's recorded offset, and the event that decides where that goes.
 struct ShortJump {
     event: usize,
-    jump: RelaxableJump,
+    label: Label,
+    reach: Reach,
     recorded_target: CodeOffset,
     decided_by: Option<usize>,
     first_distance: i64,
@@ -299,39 +301,44 @@ struct ShortJump {
 }
 
 impl ShortJump {
-    fn new(event: usize, jump: RelaxableJump, pooled: &Pooled, first: &[Segment]) -> Self {
-        let recorded_target = pooled.labels[jump.label.id() as usize];
+    /// The jump that an event is; padding is none.
+    fn new(event: usize, entry: &LayoutEvent, pooled: &Pooled, first: &[Segment]) -> Option<Self> {
+        let (label, reach) = (entry.label()?, entry.reach()?);
+        let recorded_target = pooled.labels[label.id() as usize];
         let decided_by = deciding(first, recorded_target);
         let mut short = Self {
             event,
-            jump,
+            label,
+            reach,
             recorded_target,
             decided_by,
             first_distance: 0,
             crossed: crossed(event, events_before(first, recorded_target)),
         };
-        let (target, end) = short.placed(first);
-        short.first_distance = distance(target, end);
-        short
+        let (target, from) = short.placed(first);
+        short.first_distance = distance(target, from);
+        Some(short)
     }
 
-    /// Where its label and its own end stand in a layout.
+    /// Where its label stands in a layout, and where the distance to it counts from.
     fn placed(&self, segments: &[Segment]) -> (CodeOffset, CodeOffset) {
         let target = self.recorded_target;
         let target = self
             .decided_by
             .map_or(target, |i| moved(&segments[i], target));
-        (target, segments[self.event].new_end)
+        let start = segments[self.event].new_start;
+        (target, start + self.reach.bias as CodeOffset)
     }
 
     /// What making it long rests on.
-    fn lengthened(&self, target: CodeOffset, end: CodeOffset, changes: &Changes) -> Lengthened {
+    fn lengthened(&self, target: CodeOffset, from: CodeOffset, changes: &Changes) -> Lengthened {
         let crossed = changes.of_event[self.crossed.clone()].iter();
         Lengthened {
             event: self.event,
-            jump: self.jump,
+            label: self.label,
+            reach: self.reach,
             target,
-            end,
+            from,
             first_distance: self.first_distance,
             crossed: crossed.flatten().copied().collect(),
         }
@@ -347,19 +354,15 @@ fn crossed(jump: usize, first_behind_label: usize) -> Range<usize> {
     }
 }
 
-fn distance(target: CodeOffset, end: CodeOffset) -> i64 {
-    i64::from(target) - i64::from(end)
+fn distance(target: CodeOffset, from: CodeOffset) -> i64 {
+    i64::from(target) - i64::from(from)
 }
 
 /// Every jump. Which event decides on a label's offset depends on recorded offsets alone, so it is looked for once.
 fn short_jumps(pooled: &Pooled, first: &[Segment]) -> Vec<ShortJump> {
     let events = pooled.events.iter().enumerate();
     events
-        .filter_map(|(event, entry)| match entry {
-            LayoutEvent::Jump(jump) => Some((event, *jump)),
-            LayoutEvent::Align(_) => None,
-        })
-        .map(|(event, jump)| ShortJump::new(event, jump, pooled, first))
+        .filter_map(|(event, entry)| ShortJump::new(event, entry, pooled, first))
         .collect()
 }
 
@@ -371,10 +374,10 @@ fn take_out_of_reach(
 ) -> Vec<Lengthened> {
     let mut out_of_reach = Vec::new();
     short.retain(|jump| {
-        let (target, end) = jump.placed(segments);
-        let reaches = i8::try_from(distance(target, end)).is_ok();
+        let (target, from) = jump.placed(segments);
+        let reaches = jump.reach.spans(distance(target, from));
         if !reaches {
-            out_of_reach.push(jump.lengthened(target, end, changes));
+            out_of_reach.push(jump.lengthened(target, from, changes));
         }
         reaches
     });

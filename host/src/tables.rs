@@ -1,11 +1,11 @@
 //! The tables of a recording, as the C functions are lent them: bytes that grow before a call could be refused for room, up to document 01's limits
 //! and never beyond. include/wargnifla.h says what their entries hold; here they are read.
 
+use crate::event::LayoutEvent;
 use crate::recording::{
-    Alignment, AsmConstant, AsmFixup, AsmReloc, Constant, Label, LabelRef, LayoutEvent, Names,
-    Recording, RelaxableJump, RelocTarget,
+    AsmConstant, AsmFixup, AsmReloc, Constant, Label, LabelRef, Names, Recording, RelocTarget,
 };
-use crate::{Arch, Condition, LabelUse, MOST_CODE, MOST_ENTRIES, Reloc};
+use crate::{Arch, LabelUse, MOST_CODE, MOST_ENTRIES, Reloc};
 
 /// The bytes of the counts: 13 words.
 pub(crate) const COUNTS_BYTES: usize = 52;
@@ -240,7 +240,7 @@ impl Tables {
 
     /// Whether a jump stands, so that finish lays the code out anew.
     pub fn has_jump(&self) -> bool {
-        self.events.entries(self.event_count()).any(is_jump)
+        self.events.entries(self.event_count()).any(is_relaxed)
     }
 
     pub fn labels(&self) -> impl Iterator<Item = u32> {
@@ -357,28 +357,12 @@ fn label_use(code: u32) -> LabelUse {
     LabelUse::from_code(code).expect("recordings keep known codes only")
 }
 
-fn is_jump(event: &[u8]) -> bool {
-    const JUMP: u32 = 1;
-    word(event, 0) == JUMP
+fn is_relaxed(event: &[u8]) -> bool {
+    LayoutEvent::is_relaxed_kind(word(event, 0))
 }
 
 fn event(entry: &[u8]) -> LayoutEvent {
-    let (start, len) = (word(entry, 1), word(entry, 2));
-    if is_jump(entry) {
-        LayoutEvent::Jump(RelaxableJump {
-            start,
-            len: u8::try_from(len).expect("recorded jumps have at most 15 bytes"),
-            label: Label::from_id(word(entry, 3)),
-            cc: Condition::from_number(word(entry, 4)),
-        })
-    } else {
-        LayoutEvent::Align(Alignment {
-            start,
-            len,
-            align: word(entry, 3),
-            most: word(entry, 4),
-        })
-    }
+    LayoutEvent::from_words(std::array::from_fn(|index| word(entry, index)))
 }
 
 fn constant(entry: &[u8]) -> AsmConstant {

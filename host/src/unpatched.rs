@@ -3,7 +3,7 @@
 use std::collections::HashSet;
 
 use crate::tables::Tables;
-use crate::{Call, Label, LabelUse, LayoutEvent};
+use crate::{Call, Label, LabelUse};
 
 /// A jump, ref or use that was accepted and that finish did not write.
 #[derive(Clone, Debug, PartialEq, Eq)]
@@ -68,13 +68,6 @@ pub(crate) fn unpatched(tables: &Tables, unread: &[Call]) -> Vec<Unpatched> {
     entries
 }
 
-fn jump_end(event: &LayoutEvent) -> Option<(u64, Label)> {
-    match event {
-        LayoutEvent::Jump(jump) => Some((event.end().into(), jump.label)),
-        LayoutEvent::Align(_) => None,
-    }
-}
-
 /// What finish fills, by where it ends, since a jump's displacement ends with the jump whatever its form.
 struct Filled {
     fields: HashSet<(u64, Label, u32)>,
@@ -100,7 +93,7 @@ impl Filled {
             },
             jumps: tables
                 .events()
-                .filter_map(|event| jump_end(&event))
+                .filter_map(|event| Some((event.end().into(), event.label()?)))
                 .collect(),
         }
     }

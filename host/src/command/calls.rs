@@ -2,13 +2,13 @@
 
 use std::collections::HashSet;
 
-use wargnifla::{Arch, Call, Entry, Error, Label, Recording, RelocTarget};
+use wargnifla::{Arch, Call, Entry, Error, Label, LayoutEvent, Recording, RelocTarget};
 
 /// The call, by index, that made an entry of a recording that accepted all calls; none makes a definition.
 pub fn call_of_entry(calls: &[Call], arch: Arch, entry: Entry) -> Option<usize> {
     let mut asked = HashSet::new();
     let mut makes_entry = |call: &Call| match (entry, call) {
-        (Entry::Event(_), Call::Jump { .. } | Call::Align { .. }) => arch.tracks_layout(),
+        (Entry::Event(_), _) => LayoutEvent::is_made_by(call, arch),
         (Entry::Ref(_), Call::Ref { .. }) => arch.tracks_layout(),
         (Entry::Use(_), Call::Use { .. }) => true,
         (Entry::Reloc(_), Call::Relocation { .. }) => true,

@@ -6,8 +6,8 @@ use std::io::{self, Read};
 
 use sheet_text::nearest;
 use wargnifla::{
-    Arch, Call, CodeBuffer, Definition, Entry, Error, ExternalName, ObjectError, Recording, Script,
-    Sheet, Span, UNBOUND, Unwritable, read_text_for, symbols_named,
+    Arch, Call, CodeBuffer, Definition, Entry, Error, ExternalName, LayoutEvent, ObjectError,
+    Recording, Script, Sheet, Span, UNBOUND, Unwritable, read_text_for, symbols_named,
 };
 
 use super::Failure;
@@ -365,12 +365,7 @@ impl Input {
 
     /// The call that made each event of the recording, its alignments noted.
     pub fn event_calls(&self) -> Vec<usize> {
-        let keeps_jumps = self.arch.tracks_layout();
-        let makes_event = |call: &Call| match call {
-            Call::Jump { .. } => keeps_jumps,
-            Call::Align { .. } => true,
-            _ => false,
-        };
+        let makes_event = |call: &Call| LayoutEvent::is_made_by(call, self.arch);
         self.calls_where(makes_event).collect()
     }
 

@@ -86,12 +86,13 @@ impl<'a> RoundsReport<'a> {
         let offset = |at| self.style.offsets.text(at);
         let _ = writeln!(
             out,
-            "          {}: {} at {} less its own end at {} is {}, outside -128..127",
+            "          {}: {} at {} less its own end at {} is {}, outside {}",
             self.event(step.event),
-            self.recording.names.text(step.jump.label),
+            self.recording.names.text(step.label),
             offset(step.target),
-            offset(step.end),
-            step.distance()
+            offset(step.from),
+            step.distance(),
+            step.reach
         );
         if step.crossed.is_empty() {
             return;

@@ -2,9 +2,7 @@
 
 use super::{NO_REASON, with_offsets};
 use crate::ffi::Segment;
-use crate::recording::{
-    AsmFixup, Label, LabelRef, LayoutEvent, Names, Pooled, Recording, RelocTarget,
-};
+use crate::recording::{AsmFixup, Label, LabelRef, Names, Pooled, Recording, RelocTarget};
 use crate::relax::map;
 use crate::{CodeOffset, Entry, LabelUse, Reach, UNBOUND};
 use sheet_text::counted;
@@ -85,12 +83,9 @@ fn naming_labels(
     let refs = (0..)
         .zip(&recording.refs)
         .map(|(i, field)| (field.label, "ref", field.offset, Entry::Ref(i)));
-    let jumps = (0..)
-        .zip(&recording.events)
-        .filter_map(|(i, event)| match event {
-            LayoutEvent::Jump(jump) => Some((jump.label, "jump", jump.start, Entry::Event(i))),
-            LayoutEvent::Align(_) => None,
-        });
+    let jumps = (0..).zip(&recording.events).filter_map(|(i, event)| {
+        Some((event.label()?, event.noun(), event.start(), Entry::Event(i)))
+    });
     uses.chain(relocs).chain(refs).chain(jumps)
 }
 

@@ -3,9 +3,10 @@
 use super::markup::{array, string};
 use super::parts::place;
 use super::{Picture, Placed};
+use crate::event::LayoutEvent;
 use crate::ffi::Segment;
 use crate::listing::Radix;
-use crate::recording::{LayoutEvent, Names};
+use crate::recording::Names;
 use crate::rounds::{Change, Round, Rounds};
 use crate::{CodeOffset, Label, LabelUse, UNBOUND};
 use sheet_text::{counted, shown};
@@ -44,7 +45,8 @@ fn recorded_text(picture: &Picture<'_>, placed: &Placed) -> String {
         pool => format!(", and {} of pool behind", counted(pool as usize, "byte")),
     };
     let jumps = picture.recording.jumps().count();
-    let alignments = picture.recording.events.len() - jumps;
+    let alignments = picture.recording.events.iter();
+    let alignments = alignments.filter_map(LayoutEvent::alignment).count();
     format!(
         "as recorded: {}, {}, {}{pool}",
         counted(code as usize, "byte"),
@@ -60,21 +62,18 @@ fn finished_text(placed: &Placed) -> String {
 /// `["jmp", start, length, label, "line 6"]`, or `["align 8 3", start, length, -1, "line 6", multiple, most]`.
 fn events(picture: &Picture<'_>, placed: &Placed) -> String {
     array(placed.pooled.events.iter().enumerate().map(|(i, event)| {
-        let (label, ceiling) = match event {
-            LayoutEvent::Jump(jump) => (jump.label.id().to_string(), None),
-            LayoutEvent::Align(align) => ("-1".into(), Some([align.align, align.most])),
-        };
+        let label = event.label().map(|label| label.id().to_string());
+        let ceiling = event.alignment().map(|align| [align.align, align.most]);
         let mut what = event.mnemonic();
         if let Some(constant) = placed.pooled.owner(i) {
             what += &format!(" for constant {}", constant.id());
         }
-        let len = event.end() - event.start();
         let place = picture.places.get(i).map_or("", String::as_str);
         let entries = [
             string(&what),
             event.start().to_string(),
-            len.to_string(),
-            label,
+            event.recorded_len().to_string(),
+            label.unwrap_or("-1".into()),
             string(place),
         ];
         let ceiling = ceiling.into_iter().flatten().map(|word| word.to_string());

@@ -7,7 +7,7 @@ use std::ops::Range;
 use super::Placed;
 use super::parts::{Part, What, parts};
 use crate::CodeOffset;
-use crate::recording::{LayoutEvent, RelaxableJump};
+use crate::event::Form;
 use sheet_text::counted;
 
 /// The drawing's width in its own units, the step that offsets are rounded to, and how far lines of a class are kept apart.
@@ -90,12 +90,10 @@ impl Drawing {
                 return;
             }
             What::Constant(_) => (Class::Constant, Class::Constant),
-            What::Event(event) => match placed.pooled.events[event] {
-                LayoutEvent::Align(_) => (Class::Padding, Class::Padding),
-                LayoutEvent::Jump(_) if part.new.len() as u32 == RelaxableJump::SHORT_LEN => {
-                    (Class::Recorded, Class::Short)
-                }
-                LayoutEvent::Jump(_) => (Class::Recorded, Class::Long),
+            What::Event(event) => match placed.pooled.events[event].form(part.new.len() as u32) {
+                Form::Padding => (Class::Padding, Class::Padding),
+                Form::Short => (Class::Recorded, Class::Short),
+                Form::Long => (Class::Recorded, Class::Long),
             },
         };
         self.block(old, RECORDED_TOP, &part.old);

@@ -5,8 +5,7 @@ use std::ops::Range;
 use super::markup::escaped;
 use super::parts::{Part, What, parts};
 use super::{Picture, Placed};
-use crate::listing::{Extent, Texts, padding_text};
-use crate::recording::LayoutEvent;
+use crate::listing::{Extent, Texts};
 use crate::{CodeOffset, UNBOUND};
 use sheet_text::counted;
 
@@ -92,16 +91,16 @@ impl Rows<'_> {
                 let constant = pooled.constants[index].constant.id();
                 ("constant", String::new(), format!("constant {constant}"))
             }
-            What::Event(event) => match &pooled.events[event] {
-                LayoutEvent::Jump(jump) => {
-                    let what = self.texts.jump(jump, part.new.start, part.new.end);
-                    ("jump", pick("event", event), what)
-                }
-                LayoutEvent::Align(alignment) => {
-                    let what = padding_text(alignment, pooled.owner(event), part.new.start);
-                    ("padding", pick("event", event), what)
-                }
-            },
+            What::Event(event) => {
+                let class = match pooled.events[event].label() {
+                    Some(_) => "jump",
+                    None => "padding",
+                };
+                let what = self
+                    .texts
+                    .event(pooled, event, part.new.start, part.new.end);
+                (class, pick("event", event), what)
+            }
         }
     }
 

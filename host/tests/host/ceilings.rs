@@ -1,8 +1,8 @@
 //! Alignments that may spend so many bytes and no more.
 
 use wargnifla::{
-    Alignment, Arch, Call, CodeBuffer, DEFAULT_MOST, Label, LayoutEvent, MOST_CODE, MOST_ENTRIES,
-    Padding, write_sheet,
+    Alignment, Arch, Call, CodeBuffer, DEFAULT_MOST, Label, MOST_CODE, MOST_ENTRIES, Padding,
+    write_sheet,
 };
 
 use crate::lent::{self, CODE, EVENTS, Lent};
@@ -11,10 +11,7 @@ use crate::{finished, recorded};
 /// The alignments that an X64 buffer has recorded.
 fn alignments(buffer: &CodeBuffer) -> Vec<Alignment> {
     let events = buffer.recording().events.into_iter();
-    let alignments = events.map(|event| match event {
-        LayoutEvent::Align(alignment) => alignment,
-        other => panic!("{other:?}"),
-    });
+    let alignments = events.map(|event| *event.alignment().expect("an alignment"));
     alignments.collect()
 }
 

@@ -13,10 +13,7 @@ use crate::recorded;
 fn counted(recording: &Recording) -> u32 {
     let uses = recording.uses.iter().map(|field| field.label);
     let refs = recording.refs.iter().map(|field| field.label);
-    let jumps = recording.events.iter().filter_map(|event| match event {
-        LayoutEvent::Jump(jump) => Some(jump.label),
-        _ => None,
-    });
+    let jumps = recording.events.iter().filter_map(LayoutEvent::label);
     let relocs = recording
         .relocs
         .iter()

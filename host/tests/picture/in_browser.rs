@@ -3,8 +3,7 @@
 use std::iter::repeat_with;
 
 use wargnifla::{
-    Arch, Change, CodeBuffer, LayoutEvent, Lengthened, Recording, Round, Rounds, Turn, read_text,
-    symbols_named,
+    Arch, Change, CodeBuffer, Lengthened, Recording, Round, Rounds, Turn, read_text, symbols_named,
 };
 
 use crate::browser::{find, lines, lines_of_all};
@@ -83,7 +82,7 @@ impl Expected {
     }
 
     fn is_padding(&self, event: usize) -> bool {
-        matches!(self.recording.pooled().events[event], LayoutEvent::Align(_))
+        self.recording.pooled().events[event].alignment().is_some()
     }
 
     /// How much padding a round changes, from the one before or from what was recorded.
@@ -120,9 +119,9 @@ impl Expected {
             for step in &round.lengthened {
                 lines.push(format!(
                     "{} at {} less its own end at {} is {}, outside -128..127: it becomes long.",
-                    self.recording.names.text(step.jump.label),
+                    self.recording.names.text(step.label),
                     step.target,
-                    step.end,
+                    step.from,
                     step.distance()
                 ));
                 lines.extend(history(step));

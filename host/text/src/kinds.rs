@@ -165,7 +165,12 @@ impl Reach {
     /// Whether the field can hold a target this far from its start.
     pub const fn holds(&self, from_start: i64) -> bool {
         let distance = self.distance(from_start);
-        distance % self.multiple == 0 && self.least <= distance && distance <= self.most
+        distance % self.multiple == 0 && self.spans(distance)
+    }
+
+    /// Whether a distance lies between the least and the greatest, a multiple or not.
+    pub const fn spans(&self, distance: i64) -> bool {
+        self.least <= distance && distance <= self.most
     }
 }
 
