@@ -184,14 +184,6 @@ fn shown_joined(sheets: &[&str]) -> String {
     stdout(&output)
 }
 
-#[test]
-fn the_readme_shows_what_is_joined() {
-    let start = "    $ wargnifla sheets/join-caller.txt sheets/join-callee.txt\n";
-    let expected = readme_between(start, "\n- ");
-    let text = shown_joined(&["join-caller.txt", "join-callee.txt"]);
-    assert_eq!(text.trim_end(), expected.trim_end());
-}
-
 /// What is open after each call of a sheet.
 fn shown_open(sheet: &str) -> String {
     let text = shown_with("--open", sheet);
@@ -223,61 +215,6 @@ fn a_sheet_of_what_is_still_open() {
         found += 1;
     }
     assert_eq!(found, 5);
-}
-
-#[test]
-fn the_readme_shows_what_is_open() {
-    let start = "    $ wargnifla --open sheets/still-open.txt\n";
-    let expected = readme_between(start, "\nFiles are written");
-    let (_, expected) = expected.split_once("open\n").unwrap();
-    assert_eq!(shown_open("still-open.txt").trim_end(), expected.trim_end());
-}
-
-/// The text between two lines of the README, without what its blocks are indented by.
-fn readme_between(start: &str, end: &str) -> String {
-    let (_, after) = include_str!("../README.md").split_once(start).unwrap();
-    let (block, _) = after.split_once(end).unwrap();
-    let lines = block
-        .lines()
-        .map(|line| line.strip_prefix("    ").unwrap_or(line));
-    lines.collect::<Vec<_>>().join("\n")
-}
-
-#[test]
-fn the_text_of_the_readme_assembles() {
-    let text = readme_between("## Sheets as text", "- LABEL is");
-    let (_, text) = text.split_once("# A loop with a way out.").unwrap();
-    let script = wargnifla::read_text(&format!("#{text}")).unwrap();
-    let mut buffer = wargnifla::CodeBuffer::new(wargnifla::Arch::X64);
-    for call in &script.calls {
-        buffer.call(call).unwrap();
-    }
-    let code = buffer.finish().unwrap();
-    assert_eq!(code.data()[3..5], [0x74, 5]);
-    assert_eq!(code.unpatched(), []);
-}
-
-#[test]
-fn the_readme_shows_what_the_command_prints() {
-    let expected = readme_between("    $ wargnifla --rounds sheets/case-c.txt\n", "\n## ");
-    assert_eq!(shown("case-c.txt").trim_end(), expected.trim_end());
-}
-
-#[test]
-fn the_readme_shows_ceilings() {
-    let start = "    $ wargnifla --rounds sheets/ceiling.txt\n";
-    let expected = readme_between(start, "\n**What is still open**");
-    let shown = shown("ceiling.txt");
-    let mut rest = shown.as_str();
-    // The lines stand in this order, with others in the place of the dots.
-    for part in expected.split("...\n").map(str::trim_end) {
-        let (_, after) = rest.split_once(part).expect(part);
-        rest = after;
-    }
-    assert!(
-        rest.starts_with("\n\nfinished for X64: 183 bytes"),
-        "{rest}"
-    );
 }
 
 /// What an example program prints. Cargo builds the examples with the tests, into a folder beside the command.
