@@ -1,6 +1,6 @@
 -- The theorems that docs/PROOFS.md names, beyond the demands and the joins (Claims, JoinClaims), each with its statement written out: one that is deleted,
 -- weakened or put under a premise is refused here.
-use mathlib.Core.Path.{_≡_}
+use mathlib.Core.Path.{_≡_, refl}
 use mathlib.Core.Logic.{_≢_, _⊎_, _↔_}
 use mathlib.Core.Bool.{Bool, true, false, _||_}
 use mathlib.Core.List.{List, [], _∷_, map}
@@ -59,6 +59,8 @@ use Rattle.fresh.proofs.Cases as skipped
 use Rattle.sheet.specs.Run.{runSheet}
 use Rattle.sheet.proofs.Sheets as sheets
 use Rattle.finish.specs.declared.CodeBufferFinalized.{CodeBufferFinalized}
+use Rattle.cases.specs.Cases.{Row, answer, table}
+use Rattle.cases.proofs.Table as worked
 use Rattle.elf.specs.declared.Rela.{Rela}
 use Rattle.elf.specs.Elf.{relaSize, noType, elfType, typeListed, wordsOfRela, joined, relaOf, relaAt, wordsOfEntry, writeRelas, readRelas}
 use Rattle.elf.proofs.Listed as listed
@@ -73,6 +75,7 @@ use Rattle.wargnifla.specs.Sequences.{Recorded}
 use Rattle.wargnifla.proofs.Sequences as sequences
 use Rattle.demands.specs.Reading.{Reads}
 use Rattle.demands.specs.Boundary.{Answer, labelsOf, relocsOf, recordIn}
+use Rattle.demands.proofs.Example as example
 use Rattle.demands.proofs.Read as reads
 use Rattle.demands.proofs.Recorded as recorded
 use Rattle.demands.proofs.Relocations as relocations
@@ -191,6 +194,19 @@ walk-stands p c wf t h = let s = walking.walk-stands p c wf t h in (s .passed, s
 
 reads-once : (address : ℕ) (l : List ℕ) (c c′ : Condition) (t t′ : ℕ) → Reads address l c t → Reads address l c′ t′ → (c ≡ c′) × (t ≡ t′)
 reads-once = reads.reads-once
+
+-- Document 01's cases, and those of document 02: every row is answered as it says, and there are so many.
+cases-hold : map answer table ≡ map (λ (r : Row). r .expected) table
+cases-hold = worked.cases-hold
+
+cases-counted : length table ≡ 26
+unfolding table
+cases-counted = refl
+
+-- What a ref's field held makes no difference to what is written.
+stale-field-ignored : (offset target : ℕ) (xs ys : List ℕ) → length xs ≡ 4 → length ys ≡ 4
+    → patched X86JmpRel32 offset target xs ≡ patched X86JmpRel32 offset target ys
+stale-field-ignored = example.stale-field-ignored
 
 -- Relocations as ELF.
 type-listed : (arch kind : ℕ) → elfType arch kind ≢ noType → typeListed (elfType arch kind) ≡ true
