@@ -22,7 +22,7 @@ use Rattle.recording.specs.Sound.{Sound}
 use Rattle.recording.proofs.Recordings.{calls-sound}
 use Rattle.recording.proofs.Words.{Words, call-words, calls-words}
 use Rattle.checks.specs.Lent.{countsFit, withinLimits}
-use Rattle.sheet.specs.Form.{isWhole, kindsOf, argumentsOf, firstBroken}
+use Rattle.sheet_form.specs.Form.{isWhole, kindsOf, argumentsOf, firstBroken}
 use Rattle.sheet.specs.Run as sheets
 use Rattle.sheet.proofs.Sheets.{sheet-makes-calls}
 use Rattle.fresh.specs.Forms.{moves}

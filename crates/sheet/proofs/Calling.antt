@@ -23,7 +23,7 @@ use Rattle.buffer.specs.Calls.{putBytes, getLabel, bindLabel, alignTo, useLabel
 use Rattle.recording.specs.Calls.{Recording, Call}
 use Rattle.checks.specs.Lent.{recordingOf}
 use Rattle.sheet.specs.Run.{word, mostIn, signedWord, bytesIn, callOf, called}
-use Rattle.sheet.specs.Form.{argumentSize, mostBytes}
+use Rattle.sheet_form.specs.Form.{argumentSize, mostBytes}
 
 -- a word of an argument, as the program reads it
 pub as-word : (w : ℕ) (arguments : List ℕ) (k : ℕ) → w ≡ wordAt arguments k → w < 4294967296 → w ≡ word arguments k .value

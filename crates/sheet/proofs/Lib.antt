@@ -1,7 +1,5 @@
-pub mod Forming
-pub mod Parts
 pub mod Calling
-pub mod Bounds
+pub mod Following
 pub mod Running
 pub mod Sheets
 pub mod Counting

@@ -12,9 +12,9 @@ use Rattle.words.specs.Words.{wordAt}
 use Rattle.buffer.specs.Refusals.{standing}
 use Rattle.recording.specs.Calls.{Recording, Call, answered}
 use Rattle.checks.specs.Lent.{countsFit, withinLimits}
-use Rattle.sheet.specs.Form.{isWhole, kindsOf, argumentsOf, firstBroken, argumentSize}
+use Rattle.sheet_form.specs.Form.{isWhole, kindsOf, argumentsOf, firstBroken, argumentSize}
 use Rattle.sheet.specs.Run.{callOf, callsOf, called, runCalls, runSheet}
-use Rattle.sheet.proofs.Forming.{next-arguments}
+use Rattle.sheet_form.proofs.Forming.{next-arguments}
 
 module _ (kinds arguments : List ℕ) (i : ℕ) (r : Recording) (total : (ℕ × ℕ) × Recording) (so-far : runCalls (callsOf (drop i kinds) (drop (i * argumentSize) arguments)) i r ≡ total) where
   abbrev call : Call

@@ -13,7 +13,7 @@ use Rattle.buffer.specs.Refusals.{standing}
 use Rattle.buffer.specs.Tables.{defaultMost}
 use Rattle.recording.specs.Calls.{Recording, Word, Word64, Call, bytes, newLabel, bind, align, use-label, ref, jump, constant, constant-label, relocation, answered, after}
 use Rattle.checks.specs.Lent.{countsFit, withinLimits}
-use Rattle.sheet.specs.Form.{isWhole, kindsOf, argumentsOf, firstBroken, bytesCall, newLabelCall, bindCall, alignCall, useCall, refCall, jumpCall, constantCall, constantLabelCall, argumentSize}
+use Rattle.sheet_form.specs.Form.{isWhole, kindsOf, argumentsOf, firstBroken, bytesCall, newLabelCall, bindCall, alignCall, useCall, refCall, jumpCall, constantCall, constantLabelCall, argumentSize}
 
 -- a word of an argument; it is below 2^32 whatever the list holds
 abbrev pub word : List ℕ → ℕ → Word

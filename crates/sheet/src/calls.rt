@@ -11,12 +11,12 @@ ghost use Rattle.words.specs.Words.{wordAt};
 ghost use Rattle.buffer.specs.steps.Below.{Told};
 ghost use Rattle.checks.specs.Lent.{recordingOf};
 ghost use Rattle.sheet.specs.Run.{callOf, called};
-ghost use Rattle.sheet.specs.Form.{bytesCall, newLabelCall, bindCall, alignCall, jumpCall, constantCall, constantLabelCall, argumentSize, mostBytes};
-use crate::MOST_BYTES;
-use crate::kinds;
+ghost use Rattle.sheet_form.specs.Form.{bytesCall, newLabelCall, bindCall, alignCall, jumpCall, constantCall, constantLabelCall, argumentSize, mostBytes};
 use buffer::CodeBuffer;
 use buffer::Made;
 use buffer::Recorded;
+use sheet_form::MOST_BYTES;
+use sheet_form::kinds;
 
 // What a call for a label or a constant answers, without its number.
 fn recorded(made: Made) -> Recorded

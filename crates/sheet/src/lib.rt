@@ -10,21 +10,16 @@ ghost use Rattle.buffer.specs.steps.Count.{NamersFit, openCount};
 ghost use Rattle.recording.specs.steps.Righted.{Fitting};
 ghost use Rattle.checks.specs.Lent.{recordingOf};
 ghost use Rattle.sheet.specs.Run.{callsOf, runCalls, runSheet};
-ghost use Rattle.sheet.specs.Form.{argumentSize};
+ghost use Rattle.sheet_form.specs.Form.{argumentSize};
 ghost use Rattle.sheet.specs.steps.Meant.{meant, Going};
-use bound::Bound;
 use buffer::CodeBuffer;
 use buffer::NONE;
+use sheet_form::ARGUMENT_SIZE;
+use sheet_form::bound::Bound;
+use sheet_form::form;
+use sheet_form::kinds;
 
-mod bound;
 mod calls;
-mod form;
-mod kinds;
-
-// The bytes of an argument, and of what a count in one may count.
-const ARGUMENT_SIZE: usize = 16;
-
-const MOST_BYTES: u32 = 12;
 
 // So many binds of a sheet look at the tables themselves; where there are more, the open entries are counted once, after its calls.
 const FEW_BINDS: usize = 4;

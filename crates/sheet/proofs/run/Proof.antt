@@ -6,13 +6,13 @@ use native.Mathlib.Omega.{arith}
 use lib.ListN.{length, getD, take, drop}
 use Rattle.checks.specs.Lent.{recordingOf}
 use Rattle.sheet.specs.Run.{callOf, callsOf, runCalls}
-use Rattle.sheet.proofs.Forming.{argument-part, argument-length}
-use Rattle.sheet.proofs.Bounds.{call-follows}
+use Rattle.sheet_form.proofs.Forming.{argument-part, argument-length}
+use Rattle.sheet.proofs.Following.{call-follows}
 use Rattle.sheet.proofs.Counting.{call-meant, meant-on, going-fits, going-on, gone-labels, gone-code}
 use Rattle.sheet.proofs.Running.{run-again, run-refused, run-end}
 use Rattle.sheet.proofs.run.Statement.{statement}
-use Rattle.sheet.specs.Form.{argumentSize}
-use Rattle.sheet.specs.steps.Bound.{Known}
+use Rattle.sheet_form.specs.Form.{argumentSize}
+use Rattle.sheet_form.specs.steps.Bound.{Known}
 use Rattle.sheet.specs.steps.Meant.{meant, Going}
 use Rattle.sheet.proofs.run.Tie as tie
 

@@ -2,7 +2,7 @@
 use mathlib.Core.Path.{sym, _∙_}
 use borrow.Author.Tests.{not-true, not-false}
 use native.Mathlib.Omega.{arith}
-use Rattle.sheet.proofs.Parts.{whole-length, kinds-part, arguments-part, parts-match, kinds-few}
+use Rattle.sheet_form.proofs.Parts.{whole-length, kinds-part, arguments-part, parts-match, kinds-few}
 use Rattle.checks.specs.Lent.{recordingOf}
 use Rattle.sheet.proofs.Counting.{standing-fits}
 use Rattle.sheet.proofs.Running.{sheet-cut, sheet-broken, sheet-not-standing, sheet-run}

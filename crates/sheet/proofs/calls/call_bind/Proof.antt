@@ -1,7 +1,7 @@
 -- `call_bind` meets its contract.
 use mathlib.Core.Path.{refl}
 use native.Mathlib.Omega.{arith}
-use Rattle.sheet.specs.Form.{bindCall}
+use Rattle.sheet_form.specs.Form.{bindCall}
 use Rattle.sheet.proofs.Calling.{as-word, bind-called}
 use borrow.Author.Needs.{needs}
 use Rattle.sheet.proofs.calls.call_bind.Statement.{statement}

@@ -1,0 +1,3 @@
+pub mod Forming
+pub mod Parts
+pub mod Bounds
