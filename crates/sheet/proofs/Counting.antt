@@ -1,6 +1,6 @@
 -- Calls of a sheet that does not keep the number of open entries: what it goes on from stands for a recording with the right one.
 use mathlib.Core.Path.{_≡_, refl, ap, _∙_, sym, subst}
-use mathlib.Core.Bool.{Bool, true, false}
+use mathlib.Core.Bool.{Bool, true, false, not}
 use Prim.Native.Nat.{ℕ, _≤_, _<_}
 use native.Mathlib.Omega.{arith}
 use Rattle.seqs.specs.Pick.{pick}
@@ -70,11 +70,24 @@ gone-code true b = refl
 gone-code false b = refl
 
 -- with what is counted the number is right, and where it was right it stays
-pub counted-is : (r : Recording) → withNumber r (openCount (r .buffer) (r .labels) (r .events) (r .uses) (r .refs) (r .relocs)) ≡ righted r
+counted-is : (r : Recording) → withNumber r (openCount (r .buffer) (r .labels) (r .events) (r .uses) (r .refs) (r .relocs)) ≡ righted r
 counted-is r = ap (withNumber r) (sym (open-count r))
 
-pub right-is : (r : Recording) → r .buffer .unresolved ≡ openCount (r .buffer) (r .labels) (r .events) (r .uses) (r .refs) (r .relocs) → righted r ≡ r
+right-is : (r : Recording) → r .buffer .unresolved ≡ openCount (r .buffer) (r .labels) (r .events) (r .uses) (r .refs) (r .relocs) → righted r ≡ r
 right-is r right = ap (withNumber r) (open-count r ∙ sym right)
+
+-- so a sheet leaves what is meant, and starts from it
+pub counted-meant : (kept : Bool) (r : Recording)
+    → withBuffer r (pick kept (r .buffer) (withOpen (r .buffer) (openCount (r .buffer) (r .labels) (r .events) (r .uses) (r .refs) (r .relocs)))) ≡ meant kept r
+unfolding pick
+counted-meant true r = refl
+counted-meant false r = counted-is r
+
+pub meant-first : (after : Bool) (r : Recording) → (after ≡ true → r .buffer .unresolved ≡ openCount (r .buffer) (r .labels) (r .events) (r .uses) (r .refs) (r .relocs))
+    → meant (not after) r ≡ r
+unfolding pick
+meant-first true r right = right-is r (right refl)
+meant-first false r right = refl
 
 -- on a recording that a sheet is not turned down for, open entries can be counted
 pub standing-fits : (r : Recording) → standing (r .buffer) (countsFit r) (withinLimits r 0 0) ≡ 0 → Fitting r × (r .buffer .unresolved ≤ mostOpen)

@@ -3,7 +3,7 @@ use mathlib.Core.Path.{_≡_, sym, ap, _∙_}
 use mathlib.Core.Logic.{_≢_}
 use mathlib.Core.Bool.{true, false}
 use mathlib.Core.List.{List, _∷_}
-use Prim.Native.Nat.{ℕ, suc, _+_, _*_, _≤_, _<_}
+use Prim.Native.Nat.{ℕ, suc, _+_, _*_, _-_, _≤_, _<_}
 use native.Mathlib.Numerals.{add-one}
 use lib.ListN.{length, getD, take, drop, drop-of-length-le}
 use lib.Seq.{drop-cons}
@@ -15,6 +15,7 @@ use Rattle.checks.specs.Lent.{countsFit, withinLimits}
 use Rattle.sheet_form.specs.Form.{isWhole, kindsOf, argumentsOf, firstBroken, argumentSize}
 use Rattle.sheet.specs.Run.{callOf, callsOf, called, runCalls, runSheet}
 use Rattle.sheet_form.proofs.Forming.{next-arguments}
+use Rattle.sheet_form.proofs.Parts.{kinds-part, arguments-part}
 
 module _ (kinds arguments : List ℕ) (i : ℕ) (r : Recording) (total : (ℕ × ℕ) × Recording) (so-far : runCalls (callsOf (drop i kinds) (drop (i * argumentSize) arguments)) i r ≡ total) where
   abbrev call : Call
@@ -49,6 +50,11 @@ module _ (kinds arguments : List ℕ) (i : ℕ) (r : Recording) (total : (ℕ ×
   pub run-end : length kinds ≤ i → ((0, i), r) ≡ total
   unfolding runCalls callsOf
   run-end h = rw (drop-of-length-le kinds {i = i} h) at so-far
+
+-- the calls of a sheet's parts, as the program takes them, are its calls
+pub parts-run : (sheet : List ℕ) (n : ℕ) (r : Recording) → n ≡ wordAt sheet 0
+    → runCalls (callsOf (take (4 + n - 4) (drop 4 sheet)) (take (length sheet - (4 + n)) (drop (4 + n) sheet))) 0 r ≡ runCalls (callsOf (kindsOf sheet) (argumentsOf sheet)) 0 r
+parts-run sheet n r e = rw (kinds-part sheet n e, arguments-part sheet n e)
 
 -- a sheet whose length is wrong
 module _ (sheet : List ℕ) (r : Recording) where

@@ -152,69 +152,25 @@ fn run(
     }
 }
 
-// What a sheet leaves, with its open entries counted.
-fn counted(ran: Ran, labels: &[u8], events: &[u8], uses: &[u8], refs: &[u8], relocs: &[u8]) -> Ran
-    requires { ⌜ NamersFit (ran .buffer) (now events) (now uses) (now refs) (now relocs) ⌝ ∗ ⌜ ran .buffer .labels * labelSize ≤ length (now labels) ⌝ }
-    ensures { λ r. ⌜ r ≡ record { buffer = withOpen (ran .buffer) (openCount (ran .buffer) (now (labels .entry)) (now (events .entry)) (now (uses .entry)) (now (refs .entry)) (now (relocs .entry))); refusal = ran .refusal; index = ran .index } ⌝ }
+// What a sheet leaves: where the number of open entries was not kept, they are counted.
+fn counted(
+    mut b: CodeBuffer,
+    kept: bool,
+    labels: &[u8],
+    events: &[u8],
+    uses: &[u8],
+    refs: &[u8],
+    relocs: &[u8],
+) -> CodeBuffer
+    requires { ⌜ NamersFit b (now events) (now uses) (now refs) (now relocs) ⌝ ∗ ⌜ b .labels * labelSize ≤ length (now labels) ⌝ }
+    ensures { λ r. ⌜ r ≡ pick kept b (withOpen b (openCount b (now (labels .entry)) (now (events .entry)) (now (uses .entry)) (now (refs .entry)) (now (relocs .entry)))) ⌝ }
 {
-    let mut buffer = ran.buffer;
-    let found = buffer.count_open(labels, events, uses, refs, relocs);
-    buffer.unresolved = found;
-    Ran {
-        buffer,
-        refusal: ran.refusal,
-        index: ran.index,
+    if kept {
+        return b;
     }
-}
-
-// Makes the calls of a sheet whose form is sound, on a recording whose counts fit, up to the first that is refused.
-fn make_calls(
-    b: CodeBuffer,
-    kinds: &[u8],
-    arguments: &[u8],
-    code: &mut [u8],
-    labels: &mut [u8],
-    events: &mut [u8],
-    uses: &mut [u8],
-    refs: &mut [u8],
-    constants: &mut [u8],
-    asked: &mut [u8],
-    relocs: &mut [u8],
-) -> Ran
-    requires { ⌜ (length (now arguments) ≡ length (now kinds) * argumentSize) × (length (now kinds) < 4294967296) ⌝ ∗ ⌜ Fitting (recordingOf b (now code) (now labels) (now events) (now uses) (now refs) (now constants) (now asked) (now relocs)) ⌝ ∗ ⌜ b .unresolved ≤ mostOpen ⌝ }
-    ensures { λ r. ⌜ ((r .refusal, r .index), recordingOf (r .buffer) (now (code .exit)) (now (labels .exit)) (now (events .exit)) (now (uses .exit)) (now (refs .exit)) (now (constants .exit)) (now (asked .exit)) (now (relocs .exit))) ≡ runCalls (callsOf (now (kinds .entry)) (now (arguments .entry))) 0 (recordingOf b (now (code .entry)) (now (labels .entry)) (now (events .entry)) (now (uses .entry)) (now (refs .entry)) (now (constants .entry)) (now (asked .entry)) (now (relocs .entry))) ⌝ }
-{
-    if !is_counted_after(b, kinds, labels, events, uses, refs, relocs) {
-        return run(
-            b,
-            true,
-            kinds,
-            arguments,
-            code,
-            labels,
-            events,
-            uses,
-            refs,
-            constants,
-            asked,
-            relocs,
-        );
-    }
-    let ran = run(
-        b,
-        false,
-        kinds,
-        arguments,
-        code,
-        labels,
-        events,
-        uses,
-        refs,
-        constants,
-        asked,
-        relocs,
-    );
-    counted(ran, labels, events, uses, refs, relocs)
+    let found = b.count_open(labels, events, uses, refs, relocs);
+    b.unresolved = found;
+    b
 }
 
 // Makes the calls of a sheet up to the first that is refused. All tables of the recording are lent.
@@ -269,8 +225,10 @@ pub fn run_sheet(
             index: 0,
         };
     }
-    make_calls(
+    let kept = !is_counted_after(b, &sheet[4..middle], labels, events, uses, refs, relocs);
+    let ran = run(
         b,
+        kept,
         &sheet[4..middle],
         &sheet[middle..],
         code,
@@ -281,5 +239,11 @@ pub fn run_sheet(
         constants,
         asked,
         relocs,
-    )
+    );
+    let left = ran.buffer;
+    Ran {
+        buffer: counted(left, kept, labels, events, uses, refs, relocs),
+        refusal: ran.refusal,
+        index: ran.index,
+    }
 }
