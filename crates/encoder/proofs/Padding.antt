@@ -11,6 +11,7 @@ use borrow.Author.Tests.{le-leb, lt-leb}
 use Rattle.seqs.proofs.Picking.{pick-yes, pick-no, yes-le}
 use Rattle.seqs.proofs.Numbers.{lt-or-ge}
 use Rattle.encoder.specs.Padding.{paddingLength, paddingWithin, Spends}
+use Rattle.encoder.proofs.Powers.{Power}
 
 -- The definition, of a multiple above 0.
 pub padding-is : (o m : ℕ) → 0 < m → paddingLength o m ≡ (m - o % m) % m
@@ -117,6 +118,12 @@ padding-masked o k h l =
     and-mask ((2 ^ 32 - o) % 2 ^ 32) k
     ∙ mod-mod-of-dvd (2 ^ k) (2 ^ 32 - o) d
     ∙ padding-unique o (2 ^ k) ((2 ^ 32 - o) % 2 ^ k) (mod-lt (2 ^ 32 - o) (pow-pos k)) (rw (add-mod-mod o (2 ^ 32 - o) (2 ^ k), sum) (mod-eq-zero-of-dvd (2 ^ k) d))
+
+-- The same of any r that wraps to 0 with the offset.
+pub padding-wrapped : (o a r : ℕ) → o < 2 ^ 32 → r < 2 ^ 32 → (r + o) % 2 ^ 32 ≡ 0 → Power 32 a → bitAnd r (a - 1) ≡ paddingLength o a
+padding-wrapped o a r h l e p =
+    let back : r ≡ (2 ^ 32 - o) % 2 ^ 32 = omega arith in
+    rw (p .is, back) (padding-masked o (p .exponent) h (p .least))
 
 -- What `Spends` claims, in numbers: from 6 an alignment to 16 that may spend 10 bytes ends at 16; from 16 one to 32 that may spend 5 is empty; from 3 one to 8
 -- that may spend 7 is not; and one that may spend 4 does not end at 8.

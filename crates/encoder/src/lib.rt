@@ -46,12 +46,16 @@ pub fn push_nops(pad: &mut [u8])
     }
 }
 
-// The least number of bytes that takes `offset` to a multiple of `align_to`; 0 where that is 0.
+// The least number of bytes that takes `offset` to a multiple of `align_to`; 0 where that is 0. A power of two takes no division.
 pub fn padding_len(offset: u32, align_to: u32) -> u32
     ensures { λ r. ⌜ r ≡ paddingLength offset «align_to» ⌝ }
 {
     if align_to == 0 {
         return 0;
+    }
+    let mask = align_to - 1;
+    if align_to & mask == 0 {
+        return std::num::wrapping_sub_u32(0, offset) & mask;
     }
     let past = offset % align_to;
     if past == 0 {
