@@ -321,9 +321,9 @@ uint32_t wargnifla_finish(uint8_t *counts, size_t counts_len, const uint8_t *cod
                           size_t relocs_len, wargnifla_segment *segments, size_t segments_len, uint8_t *output, size_t output_len,
                           uint8_t *record, size_t record_len);
 
-/* Bytes of stack that are enough for finish: c/finish_stack.c measures some 132,000, and 4,096 more are for a memcpy or memset that the dynamic
+/* Bytes of stack that are enough for finish: c/finish_stack.c measures some 137,500, and 4,096 more are for a memcpy or memset that the dynamic
  * linker looks up at its first call. The second number is for wargnifla_join. Less than 8,192 are enough for each of the others. */
-#define WARGNIFLA_FINISH_STACK 139264
+#define WARGNIFLA_FINISH_STACK 143360
 #define WARGNIFLA_JOIN_STACK 532480
 
 /* Four calls that a sheet carries only in part. */

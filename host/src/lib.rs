@@ -27,7 +27,7 @@
 /// Bytes of stack that are enough for finish, as a literal: `WARGNIFLA_FINISH_STACK` in include/wargnifla.h.
 macro_rules! finish_stack {
     () => {
-        139264
+        143360
     };
 }
 
