@@ -67,8 +67,9 @@ module _ {l : Lent} {n output label-bytes reloc-bytes : ℕ} (joins : Joins l n 
         relocs-room = omega (arith, remain, count-remaining-grows (l .pieces) (l .relocs) (k + 1) n (omega arith), joins .relocs-room);
       })
 
-  pub next-count : {at : ℕ} → at ≡ countRemaining (l .pieces) (l .relocs) k + countRemainingIn (l .relocs) p c (p .relocs) → at ≡ countRemaining (l .pieces) (l .relocs) (k + 1)
-  next-count e = e ∙ rw (turn .piece, turn .cursor) (count-remaining-more (l .pieces) (l .relocs) k)
+  pub next-count : {at at' : ℕ} → at ≡ countRemaining (l .pieces) (l .relocs) k → at' ≡ at + countRemainingIn (l .relocs) p c (p .relocs)
+      → at' ≡ countRemaining (l .pieces) (l .relocs) (k + 1)
+  next-count count e = e ∙ rw (turn .piece, turn .cursor, count) (count-remaining-more (l .pieces) (l .relocs) k)
 
 -- what stands in the three outputs once k pieces are written
 pub record Stands (known : ℕ → ℕ) (l : Lent) (output₀ labels₀ relocs₀ : List ℕ) (k : ℕ) (output labels relocs : List ℕ) : Type 0 where

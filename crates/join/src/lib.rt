@@ -1,8 +1,8 @@
 // `join`: several finished records become one. After asmkit's core/linker.rs (see NOTICE), whose layout it has; fields it fills itself.
 ghost use mathlib.Core.Path.{_≡_};
 ghost use lib.ListN.{length};
-ghost use Rattle.join.specs.Pieces.{lentOf, pieceCount};
-ghost use Rattle.join.specs.Join.{noRecord, wholeRecord, whyNotJoined, joined, join};
+ghost use Rattle.join.specs.Pieces.{lentOf};
+ghost use Rattle.join.specs.Join.{noRecord, wholeRecord, join};
 ghost use Rattle.join.specs.steps.Tables.{Settled};
 ghost use Rattle.join.specs.steps.Writes.{Whole};
 use finish::CodeBufferFinalized;
@@ -106,37 +106,6 @@ fn whole(pieces: &[u8], relocs: &[u8], n: usize) -> CodeBufferFinalized
     }
 }
 
-// Writes the whole and gives its record.
-fn put_whole(
-    table: &[u64],
-    pieces: &[u8],
-    code: &[u8],
-    labels: &[u8],
-    relocs: &[u8],
-    definitions: &[u8],
-    output: &mut [u8],
-    joined_labels: &mut [u8],
-    joined_relocs: &mut [u8],
-) -> CodeBufferFinalized
-    requires { ⌜ whyNotJoined (lentOf (now pieces) (now code) (now labels) (now relocs) (now definitions)) (length (now output)) (length (now «joined_labels»)) (length (now «joined_relocs»)) ≡ 0 ⌝ ∗ ⌜ Settled (now table) (now pieces) (now labels) (now definitions) (pieceCount (now pieces)) ⌝ }
-    ensures { λ r. ⌜ (r, (now (output .exit), (now («joined_labels» .exit), now («joined_relocs» .exit)))) ≡ joined (lentOf (now (pieces .entry)) (now (code .entry)) (now (labels .entry)) (now (relocs .entry)) (now (definitions .entry))) (now (output .entry)) (now («joined_labels» .entry)) (now («joined_relocs» .entry)) ⌝ }
-{
-    let n = pieces.len() / PIECE_SIZE;
-    write::put_pieces(
-        output,
-        joined_labels,
-        joined_relocs,
-        table,
-        pieces,
-        code,
-        labels,
-        relocs,
-        definitions,
-        n,
-    );
-    whole(pieces, relocs, n)
-}
-
 // Joins, with a clear table for what is known of symbols.
 fn join_by(
     table: &mut [u64],
@@ -166,19 +135,22 @@ fn join_by(
     if why != 0 {
         return refused(why);
     }
+    let n = pieces.len() / PIECE_SIZE;
+    write::put_pieces(
+        output,
+        joined_labels,
+        joined_relocs,
+        table,
+        pieces,
+        code,
+        labels,
+        relocs,
+        definitions,
+        n,
+    );
     Joined {
         refusal: 0,
-        code: put_whole(
-            table,
-            pieces,
-            code,
-            labels,
-            relocs,
-            definitions,
-            output,
-            joined_labels,
-            joined_relocs,
-        ),
+        code: whole(pieces, relocs, n),
     }
 }
 

@@ -7,15 +7,15 @@ ghost use lib.ListN.{length, replicate};
 ghost use Rattle.seqs.specs.Counting.{one};
 ghost use Rattle.seqs.specs.Over.{over};
 ghost use Rattle.words.specs.Words.{bytesOf, bytesOfAll, overWords};
-ghost use Rattle.buffer.specs.Tables.{labelSize, relocSize};
+ghost use Rattle.buffer.specs.Tables.{relocSize};
 ghost use Rattle.buffer.specs.State.{labelTarget};
 ghost use Rattle.join.specs.declared.Test.the-variants.{Inside};
 ghost use Rattle.join.specs.Pieces.{gap, baseOf, lentOf};
 ghost use Rattle.join.specs.Symbols.{find};
-ghost use Rattle.join.specs.Join.{fieldSize, isFilled, relocsHold, pieceCode, fieldFilled, filledWith, filledCode, movedLabels, movedTarget, remainingWords, remainingIn, countRemainingIn, image, joinedLabels, remaining};
+ghost use Rattle.join.specs.Join.{fieldSize, isFilled, relocsHold, pieceCode, fieldFilled, filledWith, filledCode, movedTarget, remainingWords, remainingIn, countRemainingIn, image, joinedLabels, remaining};
 ghost use Rattle.join.specs.steps.Within.{Placed, RelocsIn, CodeIn};
 ghost use Rattle.join.specs.steps.Tables.{Resolves};
-ghost use Rattle.join.specs.steps.Writes.{RelocMoves, RelocsMove, Puts, Joins};
+ghost use Rattle.join.specs.steps.Writes.{RelocMoves, RelocsMove, Joins};
 use crate::AsmReloc;
 use crate::Cursor;
 use crate::Piece;
@@ -178,44 +178,6 @@ fn put_relocs(joined: &mut [u8], relocs: &[u8], piece: Piece, cursor: Cursor, at
     i
 }
 
-// Writes a piece: its code, its labels, and from entry `at` on its relocations that remain; gives the entry behind them.
-fn put_piece(
-    output: &mut [u8],
-    joined_labels: &mut [u8],
-    joined_relocs: &mut [u8],
-    table: &[u64],
-    pieces: &[u8],
-    code: &[u8],
-    labels: &[u8],
-    relocs: &[u8],
-    definitions: &[u8],
-    n: usize,
-    piece: Piece,
-    cursor: Cursor,
-    at: usize,
-) -> usize
-    requires { ⌜ Resolves (now table) (now pieces) (now labels) (now definitions) n ⌝ ∗ ⌜ Puts (find (now pieces) (now labels) (now definitions) n) (lentOf (now pieces) (now code) (now labels) (now relocs) (now definitions)) piece cursor at (length (now output)) (length (now «joined_labels»)) (length (now «joined_relocs»)) ⌝ }
-    ensures { λ r. ⌜ r ≡ at + countRemainingIn (now (relocs .entry)) piece cursor (piece .relocs) ⌝ }
-    ensures { λ r. ⌜ now (output .exit) ≡ over (now (output .entry)) (cursor .end) (replicate (gap piece cursor) 0 ++ filledCode (find (now (pieces .entry)) (now (labels .entry)) (now (definitions .entry)) n) (now (relocs .entry)) (now (code .entry)) piece cursor) ⌝ }
-    ensures { λ r. ⌜ now («joined_labels» .exit) ≡ over (now («joined_labels» .entry)) (cursor .labels * labelSize) (bytesOfAll (movedLabels (now (labels .entry)) piece cursor (piece .labels))) ⌝ }
-    ensures { λ r. ⌜ now («joined_relocs» .exit) ≡ over (now («joined_relocs» .entry)) (at * relocSize) (bytesOfAll (remainingIn (now (relocs .entry)) piece cursor (piece .relocs))) ⌝ }
-{
-    put_filled(
-        output,
-        table,
-        pieces,
-        code,
-        labels,
-        relocs,
-        definitions,
-        n,
-        piece,
-        cursor,
-    );
-    labels::put_labels(joined_labels, labels, piece, cursor);
-    put_relocs(joined_relocs, relocs, piece, cursor, at)
-}
-
 // Writes the whole.
 pub fn put_pieces(
     output: &mut [u8],
@@ -239,10 +201,8 @@ pub fn put_pieces(
     let mut k: usize = 0;
     while k < n {
         let piece = pieces::piece_at(pieces, k);
-        at = put_piece(
+        put_filled(
             output,
-            joined_labels,
-            joined_relocs,
             table,
             pieces,
             code,
@@ -252,8 +212,9 @@ pub fn put_pieces(
             n,
             piece,
             cursor,
-            at,
         );
+        labels::put_labels(joined_labels, labels, piece, cursor);
+        at = put_relocs(joined_relocs, relocs, piece, cursor, at);
         cursor = pieces::after(piece, cursor);
         k += 1;
     }

@@ -5,11 +5,11 @@ use native.Mathlib.Omega.{arith}
 use lib.ListN.{length}
 use Rattle.seqs.proofs.Overwrites.{over-nil}
 use Rattle.join.specs.Pieces.{lentOf, cursorAt}
-use Rattle.join.specs.steps.Writes.{Joins}
+use Rattle.join.specs.steps.Writes.{Puts, Joins}
 use Rattle.join.specs.Symbols.{find}
 use Rattle.join.specs.Join.{joinedLabels, remaining, countRemaining, image}
 use Rattle.join.proofs.Cursors.{cursor-none}
-use Rattle.join.proofs.Turns.{Turn, next-cursor}
+use Rattle.join.proofs.Turns.{next-cursor}
 use Rattle.join.proofs.Putting.{Stands, output-length, labels-length, relocs-length, next-placed, next-puts, next-count, next-stands}
 use Rattle.join.proofs.write.put_pieces.Statement.{statement}
 use Rattle.join.proofs.write.put_pieces.Tie as tie
@@ -39,19 +39,53 @@ piece-at-requires c κs =
     let start : tie.Start Inv-loop μ-loop = search in
     omega (arith, start .pre .0 .labels .standing .room)
 
-put-piece-requires : tie.Need-put-piece-requires Inv-loop μ-loop
-put-piece-requires c κs =
-    let start : tie.Start Inv-loop μ-loop = search in
-    let at-loop : tie.At-loop Inv-loop μ-loop = search in
-    let in-loop : tie.In-loop Inv-loop μ-loop = search in
-    let after-piece-at : tie.After-piece-at Inv-loop μ-loop = search in
-    let a = start .args in
-    let v = at-loop .loop in
-    let turn : Turn (a .pieces .now) (v .k) (after-piece-at .piece-at .result) (v .cursor) =
-    record { piece = after-piece-at .piece-at .ensures; cursor = v .inv .1 } in
-    let within = in-loop .loop-test .taken in
-    let stands = v .inv .3 in
-    (start .pre .1, rw (output-length stands, labels-length stands, relocs-length stands) (next-puts (start .pre .0) turn within (v .inv .2)))
+-- from a piece to its turn of the loop, the loop, and the entry
+abbrev turned : tie.After-piece-at Inv-loop μ-loop → tie.In-loop Inv-loop μ-loop
+turned c = search
+
+abbrev looped : tie.After-piece-at Inv-loop μ-loop → tie.At-loop Inv-loop μ-loop
+looped c = search
+
+abbrev entered : tie.At-loop Inv-loop μ-loop → tie.Start Inv-loop μ-loop
+entered c = search
+
+-- from where a piece was written back to it
+abbrev listed : tie.After-after Inv-loop μ-loop → tie.After-put-relocs Inv-loop μ-loop
+listed c = search
+
+abbrev labelled : tie.After-put-relocs Inv-loop μ-loop → tie.After-put-labels Inv-loop μ-loop
+labelled c = search
+
+abbrev coded : tie.After-put-labels Inv-loop μ-loop → tie.After-put-filled Inv-loop μ-loop
+coded c = search
+
+abbrev read : tie.After-put-filled Inv-loop μ-loop → tie.After-piece-at Inv-loop μ-loop
+read c = search
+
+-- the piece is one that is written
+puts : (c : tie.After-piece-at Inv-loop μ-loop) → let a = entered (looped c) .args in
+    Puts (find (a .pieces .now) (a .labels .now) (a .definitions .now) (a .n)) (lentOf (a .pieces .now) (a .code .now) (a .labels .now) (a .relocs .now) (a .definitions .now)) (c .piece-at .result) (looped c .loop .cursor) (looped c .loop .at) (length (a .output .now)) (length (a .joined-labels .now)) (length (a .joined-relocs .now))
+puts c =
+    let v = looped c .loop in
+    next-puts (v .inv .4) (record { piece = c .piece-at .ensures; cursor = v .inv .1 }) (turned c .loop-test .taken) (v .inv .2)
+
+put-filled-requires : tie.Need-put-filled-requires Inv-loop μ-loop
+put-filled-requires c κs =
+    let piece : tie.After-piece-at Inv-loop μ-loop = search in
+    let p = puts piece in
+    (entered (looped piece) .pre .1, (p .placed, ((p .code, p .relocs), (omega (arith, p .output-room, output-length (looped piece .loop .inv .3)), p .inside))))
+
+put-labels-requires : tie.Need-put-labels-requires Inv-loop μ-loop
+put-labels-requires c κs =
+    let piece : tie.After-piece-at Inv-loop μ-loop = search in
+    let p = puts piece in
+    (p .placed, (p .labels, (omega (arith, p .labels-room, labels-length (looped piece .loop .inv .3)), p .labels-move)))
+
+put-relocs-requires : tie.Need-put-relocs-requires Inv-loop μ-loop
+put-relocs-requires c κs =
+    let piece : tie.After-piece-at Inv-loop μ-loop = search in
+    let p = puts piece in
+    (p .placed, (p .relocs, (omega (arith, p .relocs-room, relocs-length (looped piece .loop .inv .3)), p .relocs-move)))
 
 after-requires : tie.Need-after-requires Inv-loop μ-loop
 after-requires c κs =
@@ -64,31 +98,33 @@ after-requires c κs =
 
 add-k : tie.Need-add-k Inv-loop μ-loop
 add-k c =
-    let at-loop : tie.At-loop Inv-loop μ-loop = search in
-    let in-loop : tie.In-loop Inv-loop μ-loop = search in
-    omega (arith, in-loop .loop-test .taken, at-loop .loop .inv .4 .few)
+    let after-after : tie.After-after Inv-loop μ-loop = search in
+    let piece = read (coded (labelled (listed after-after))) in
+    omega (arith, turned piece .loop-test .taken, looped piece .loop .inv .4 .few)
 
 loop-less : tie.Need-loop-less Inv-loop μ-loop
 loop-less c =
-    let in-loop : tie.In-loop Inv-loop μ-loop = search in
-    omega (arith, in-loop .loop-test .taken)
+    let after-after : tie.After-after Inv-loop μ-loop = search in
+    omega (arith, turned (read (coded (labelled (listed after-after)))) .loop-test .taken)
 
 loop-again : tie.Need-loop-again Inv-loop μ-loop
 loop-again c =
-    let at-loop : tie.At-loop Inv-loop μ-loop = search in
-    let in-loop : tie.In-loop Inv-loop μ-loop = search in
-    let after-piece-at : tie.After-piece-at Inv-loop μ-loop = search in
-    let after-put-piece : tie.After-put-piece Inv-loop μ-loop = search in
     let after-after : tie.After-after Inv-loop μ-loop = search in
+    let after-put-relocs = listed after-after in
+    let after-put-labels = labelled after-put-relocs in
+    let after-put-filled = coded after-put-labels in
+    let after-piece-at = read after-put-filled in
+    let in-loop = turned after-piece-at in
+    let at-loop = looped after-piece-at in
     let v = at-loop .loop in
     let piece = after-piece-at .piece-at .ensures in
     let joins = v .inv .4 in
     let within = in-loop .loop-test .taken in
-    let put = after-put-piece .put-piece .ensures in (
+    let put = after-put-relocs .put-relocs .ensures in (
       omega (arith, within),
       next-cursor _ (v .k) piece (v .inv .1) (after-after .after .ensures .0),
-      next-count joins (record { piece = piece; cursor = v .inv .1 }) within (rw (v .inv .2) at (put .0)),
-      next-stands joins (record { piece = piece; cursor = v .inv .1 }) within (v .inv .3) (v .inv .2) (put .1 .0) (put .1 .1 .0) (put .1 .1 .1),
+      next-count joins (record { piece = piece; cursor = v .inv .1 }) within (v .inv .2) (put .0),
+      next-stands joins (record { piece = piece; cursor = v .inv .1 }) within (v .inv .3) (v .inv .2) (after-put-filled .put-filled .ensures) (after-put-labels .put-labels .ensures) (put .1),
       joins,
     )
 
@@ -123,7 +159,9 @@ put-pieces-spec =
     μ-loop
     loop-holds
     piece-at-requires
-    put-piece-requires
+    put-filled-requires
+    put-labels-requires
+    put-relocs-requires
     after-requires
     add-k
     loop-less
