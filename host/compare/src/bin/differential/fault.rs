@@ -1,6 +1,57 @@
 //! Faults put into what ours answers, so that the comparison is seen to fail.
 
-use compare::{Ours, Part, Reply};
+use compare::{Lent, Ours, Part, Reply};
+
+/// What is put in after a call.
+#[derive(Clone, Copy)]
+pub enum Put<'a> {
+    Fault(Fault),
+    /// A wrong answer of ours, which the model shows.
+    IntoOurs(&'a [Change]),
+    /// The same wrong answer of ours and the model, which the Rust alone can show.
+    IntoBoth(&'a [Change]),
+}
+
+/// What a call answers, or leaves in a place: the right number, and a wrong one.
+pub struct Change {
+    pub place: Place,
+    pub right: u32,
+    pub wrong: u32,
+}
+
+#[derive(Clone, Copy)]
+pub enum Place {
+    Refusal,
+    /// The index of a sheet, or the number of a constant.
+    Value,
+    /// Bytes of a part: where they start, and how many they are, up to four.
+    Bytes(Part, usize, usize),
+}
+
+impl Change {
+    /// What stands in the place.
+    pub fn found(&self, reply: Reply, lent: &Lent) -> Option<u32> {
+        match self.place {
+            Place::Refusal => Some(reply.refusal),
+            Place::Value => Some(reply.value),
+            Place::Bytes(part, at, count) => {
+                let mut word = [0; 4];
+                word[..count].copy_from_slice(lent[part].get(at..at + count)?);
+                Some(u32::from_le_bytes(word))
+            }
+        }
+    }
+
+    pub fn put<'a>(&self, reply: &mut Reply, content: impl FnOnce(Part) -> &'a mut [u8]) {
+        match self.place {
+            Place::Refusal => reply.refusal = self.wrong,
+            Place::Value => reply.value = self.wrong,
+            Place::Bytes(part, at, count) => {
+                content(part)[at..at + count].copy_from_slice(&self.wrong.to_le_bytes()[..count]);
+            }
+        }
+    }
+}
 
 /// Something of ours that is changed.
 #[derive(Clone, Copy, Debug)]

@@ -6,7 +6,7 @@ use compare::{Boundary, Lent, Model, Ours, Part, Reply, Rules, pieces};
 use reference::{DEPARTURES, Departure};
 
 use crate::again;
-use crate::fault::Fault;
+use crate::fault::Put;
 use crate::rust::Rust;
 use crate::scenario::{Open, Scenario, Step};
 
@@ -32,6 +32,8 @@ impl fmt::Display for Disagreement {
 pub struct Outcome {
     /// Its first refusal, or 0.
     pub refusal: u32,
+    /// What its last step was answered.
+    pub last: Reply,
     /// A finish, or a join, was accepted.
     pub finished: bool,
     /// A finish was compared with the Rust's, or a join with its linker's.
@@ -75,12 +77,8 @@ impl Runner {
         self.run_with(scenario, None)
     }
 
-    /// As [`Self::run`], with a fault put into ours after the call of a step.
-    pub fn run_with(
-        &mut self,
-        scenario: &Scenario,
-        fault: Option<(usize, Fault)>,
-    ) -> Result<Outcome, Disagreement> {
+    /// As [`Self::run`], with something wrong put in after the call of a step.
+    pub fn run_with(&mut self, scenario: &Scenario, put: Option<(usize, Put<'_>)>) -> Result<Outcome, Disagreement> {
         let shift = scenario.lend(&mut self.model.lent);
         self.ours.lend(&self.model.lent, shift);
         let mut rust = Rust::new(scenario, self.departures);
@@ -93,8 +91,8 @@ impl Runner {
 
         for (number, step) in scenario.steps.iter().enumerate() {
             rust.before(step, &self.model.lent);
-            let fault = fault.filter(|(step, _)| *step == number);
-            let reply = self.step(step, fault.map(|(_, fault)| fault));
+            let put = put.filter(|(step, _)| *step == number);
+            let reply = self.step(step, put.map(|(_, put)| put));
             let compared = reply.and_then(|reply| {
                 rust.step(step, reply, &self.model.lent)?;
                 Ok(reply)
@@ -106,6 +104,7 @@ impl Runner {
             if outcome.refusal == 0 {
                 outcome.refusal = reply.refusal;
             }
+            outcome.last = reply;
             outcome.finished |= matches!(step, Step::Finish | Step::Join(_)) && reply.refusal == 0;
         }
         outcome.compared = rust.compared;
@@ -118,7 +117,7 @@ impl Runner {
         &self.model.lent
     }
 
-    fn step(&mut self, step: &Step, fault: Option<Fault>) -> Result<Reply, String> {
+    fn step(&mut self, step: &Step, put: Option<Put<'_>>) -> Result<Reply, String> {
         if let Step::Write { part, at, bytes } = step {
             self.write_by_hand(*part, *at, bytes);
             return Ok(Reply::default());
@@ -137,9 +136,17 @@ impl Runner {
         let bytes = step.bytes();
         let lent = bytes.as_deref().unwrap_or_default();
         let mut ours = step.call(&mut self.ours, lent);
-        let model = step.call(&mut self.model, lent);
-        if let Some(fault) = fault {
-            fault.put(&mut ours, &mut self.ours);
+        let mut model = step.call(&mut self.model, lent);
+        match put {
+            None => {}
+            Some(Put::Fault(fault)) => fault.put(&mut ours, &mut self.ours),
+            Some(Put::IntoOurs(wrong)) => {
+                wrong.iter().for_each(|one| one.put(&mut ours, |part| self.ours.part_mut(part).content_mut()));
+            }
+            Some(Put::IntoBoth(wrong)) => {
+                wrong.iter().for_each(|one| one.put(&mut ours, |part| self.ours.part_mut(part).content_mut()));
+                wrong.iter().for_each(|one| one.put(&mut model, |part| &mut self.model.lent[part]));
+            }
         }
         self.compare((ours, model))?;
         let read = self.ours.read();

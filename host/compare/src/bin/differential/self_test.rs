@@ -1,18 +1,15 @@
 //! Shows that the comparison can fail: every fault put into ours is found,
 //! against the model even where a departure leaves the Rust aside.
 
-mod ceilings;
-mod elf;
 mod join;
 mod links;
-mod open;
-mod requests;
+mod wrong;
 
-use compare::{Lent, Part, Reply, Rules};
+use compare::{Lent, Part, Reply};
 use reference::{Call, Departure, Error, Finished, Recording};
 
 use crate::families::{self, Family};
-use crate::fault::Fault;
+use crate::fault::{Fault, Put};
 use crate::runner::Runner;
 use crate::rust::{Rust, compare_finished};
 use crate::scenario::{Scenario, Step};
@@ -58,16 +55,10 @@ pub fn run() -> Findings {
             against_model(&family, &mut runner, &mut findings);
             against_rust(&family, &mut runner, &mut findings);
             with_departures(&family, &mut runner, &mut findings);
-            requests::as_wide_as_the_change(&family, &mut runner, &mut findings);
+            as_wide_as_the_change(&family, &mut runner, &mut findings);
         }
     }
-    requests::wrong_pools_are_found(&mut findings);
-    requests::wrong_adds_are_found(&mut findings);
-    elf::wrong_entries_are_found(&mut findings);
-    open::wrong_numbers_are_found(&mut findings);
-    ceilings::wrong_padding_is_found(&mut findings);
-    ceilings::smallest_are_answered(&mut findings);
-    join::wrong_joins_are_found(&mut findings);
+    wrong::answers_are_found(&mut findings);
     join::numbers_are_answered(&mut findings);
     links::changes_are_found(&mut findings);
     findings
@@ -82,33 +73,13 @@ fn inputs_of(name: &str, count: u64) -> Vec<Scenario> {
     (0..count).map(|index| family.scenario(0, index)).collect()
 }
 
-/// Puts each wrong rule in the place of the model's own: ours, which follows
-/// that, differs from it on some input. By the right rules it differs on none.
-fn with_wrong_rules(
-    about: &str,
-    wrong: &[(&str, Rules)],
-    inputs: &[Scenario],
-    findings: &mut Findings,
-) {
-    let differs = |rules| {
-        let mut runner = Runner::ruled_by(rules);
-        inputs.iter().any(|input| runner.run(input).is_err())
-    };
-    for (name, rules) in wrong {
-        findings.add(differs(*rules), || format!("{about}: {name}"));
-    }
-    findings.add(!differs(Rules::default()), || {
-        format!("{about}: differs by the right rules")
-    });
-}
-
 fn against_model(family: &Family, runner: &mut Runner, findings: &mut Findings) {
     for index in 0..INPUTS {
         let scenario = family.scenario(0, index);
         let step = call_of(&scenario, index);
         for fault in Fault::all() {
             if has_effect(fault, &scenario, step) {
-                let found = runner.run_with(&scenario, Some((step, fault))).is_err();
+                let found = runner.run_with(&scenario, Some((step, Put::Fault(fault)))).is_err();
                 findings.add(found, || format!("{} {index}: {fault:?}", family.name));
             }
         }
@@ -194,7 +165,7 @@ fn with_departures(family: &Family, runner: &mut Runner, findings: &mut Findings
         let outcome = departing.run(&scenario);
         tally.add(&outcome.expect("it agrees without departures, too"));
 
-        let fault = Some((1, Fault::Content(Part::Record)));
+        let fault = Some((1, Put::Fault(Fault::Content(Part::Record))));
         let found = departing.run_with(&scenario, fault).is_err();
         add(found, "record, held against the model");
 
@@ -233,4 +204,29 @@ fn compared_bytes(lent: &Lent) -> Vec<(Part, usize)> {
     let leap = length / 64 + 1;
     bytes.extend((0..length).step_by(leap).map(|at| (Part::Output, at)));
     bytes
+}
+
+/// Of the recordings that finish, those that meet a departure would differ
+/// from the Rust, and no others.
+fn as_wide_as_the_change(family: &Family, runner: &mut Runner, findings: &mut Findings) {
+    let mut undeparted = Runner::departing(&[]);
+    for index in 0..INPUTS {
+        let scenario = family.scenario(0, index);
+        if scenario.steps.iter().any(Step::is_by_hand) {
+            continue;
+        }
+        let name = || format!("{} {index}", family.name);
+        let Ok(outcome) = runner.run(&scenario) else {
+            findings.add(false, || format!("{}: differs, no departure met", name()));
+            continue;
+        };
+        if outcome.refusal != 0 {
+            continue;
+        }
+        let departs = outcome.departure;
+        let differs = undeparted.run(&scenario).is_err();
+        findings.add(differs == departs.is_some(), || {
+            format!("{}: departure {departs:?}, differs: {differs}", name())
+        });
+    }
 }

@@ -1,46 +1,14 @@
-//! Request Six: programs that join otherwise are found.
+//! Request Six: the numbers that joins are refused by.
 
-mod checks;
-mod orders;
-mod written;
-
-use compare::model::join::JoinRules;
-use compare::{Rules, Vast, pieces};
+use compare::{Vast, pieces};
 use reference::{Piece, read_join_differences};
 
-use super::{Findings, inputs_of, with_wrong_rules};
+use super::Findings;
 use crate::families::{self, Handed};
 use crate::runner::Runner;
 
-/// Inputs that each wrong rule is tried on, of those drawn at random and of the
-/// small ones.
-const DRAWN: u64 = 5_000;
-const SMALL: u64 = 15_000;
-/// And of those with full tables.
-const LARGE: u64 = 24;
-
 /// Longer code than this is lent as vast: pieces that have so much are refused.
 const LONG: usize = 1 << 20;
-
-fn ruled(join: JoinRules) -> Rules {
-    Rules {
-        join,
-        ..Rules::default()
-    }
-}
-
-pub fn wrong_joins_are_found(findings: &mut Findings) {
-    let mut inputs = inputs_of("join", DRAWN);
-    inputs.extend(inputs_of("joins", SMALL));
-    inputs.extend((0..LARGE).map(families::join_table));
-    // Large ones are looked at last.
-    inputs.sort_by_cached_key(|input| input.room.sum());
-    let wrong = orders::wrong()
-        .chain(checks::wrong())
-        .chain(written::wrong());
-    let wrong: Vec<_> = wrong.map(|(name, join)| (name, ruled(join))).collect();
-    with_wrong_rules("join", &wrong, &inputs, findings);
-}
 
 /// Each fault is answered by its number where it is alone, and each line of
 /// reference/joins.txt by the number that is kept there.
@@ -58,17 +26,21 @@ pub fn numbers_are_answered(findings: &mut Findings) {
     let kept = include_str!("../../../../../../reference/joins.txt");
     let kept = read_join_differences(kept).expect("joins.txt can be read");
     for join in kept {
-        let mut handed = Handed::new(join.pieces.iter().map(taken).collect());
-        if handed.pieces.iter().any(|piece| piece.vast.is_some()) {
-            handed.is_vast = Vast::Code;
-        }
-        findings.add(answers(handed, join.number), || {
+        findings.add(answers(handed(&join.pieces), join.number), || {
             format!("join: {} is not answered by {}", join.name, join.number)
         });
     }
 }
 
-/// A piece as it was written for the linker.
+/// Pieces as they were written for the linker.
+pub fn handed(pieces: &[Piece]) -> Handed {
+    let mut handed = Handed::new(pieces.iter().map(taken).collect());
+    if handed.pieces.iter().any(|piece| piece.vast.is_some()) {
+        handed.is_vast = Vast::Code;
+    }
+    handed
+}
+
 fn taken(piece: &Piece) -> pieces::Piece {
     let mut code = piece.code.clone();
     let is_long = piece.zeros > LONG;
