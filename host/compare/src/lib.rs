@@ -1,5 +1,4 @@
-//! What the differential runs and the benchmark share: everything that a
-//! caller lends, the C functions on it, and a plain model of document 01.
+//! What the differential runs and the benchmark share: everything that a caller lends, the C functions on it, and a plain model of document 01.
 
 pub mod boundary;
 pub mod lent;
@@ -11,7 +10,7 @@ pub mod vast;
 
 pub use boundary::{Boundary, Reply};
 pub use lent::{Lent, Part};
-pub use model::{Model, Rules, add_word, ceilings, code_alignment, open};
+pub use model::{Model, ceilings, open};
 pub use ours::{Lending, Ours};
 pub use pieces::Piece;
 pub use random::Random;
@@ -23,8 +22,7 @@ pub const X86: u32 = 1;
 pub const X64: u32 = 2;
 /// `Arch::AArch64`.
 pub const AARCH64: u32 = 6;
-/// The offset of an unbound label, the label of a constant that has none, and
-/// what a refused call for a number gives.
+/// The offset of an unbound label, the label of a constant that has none, and what a refused call for a number gives.
 pub const NONE: u32 = u32::MAX;
 /// Set in a relocation's target when it names a label.
 pub const LABEL_TARGET: u32 = 1 << 31;

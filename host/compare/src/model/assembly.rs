@@ -1,17 +1,15 @@
-//! The fresh assembly of document 01, defined without segments, and the
-//! rounds that settle which jumps are long.
+//! The fresh assembly of document 01, defined without segments, and the rounds that settle which jumps are long.
 
 use super::calls::nops;
-use super::ceilings::{CeilingRules, Round};
+use super::ceilings::spent;
+use super::fields;
 use super::pool::{Event, Pooled};
-use super::{Rules, fields};
 use crate::NONE;
 
 /// What a fresh assembly places: displacements, refs and constants are open.
 pub struct Placed {
     pub code: Vec<u8>,
-    /// By recorded offset: where the walk stands on it with all events of
-    /// length 0 there passed. Offsets inside an event have none.
+    /// By recorded offset: where the walk stands on it with all events of length 0 there passed. Offsets inside an event have none.
     positions: Vec<u32>,
     /// New start and new end of each event.
     pub events: Vec<(u32, u32)>,
@@ -28,13 +26,13 @@ impl Placed {
 }
 
 /// Walks over the recording with a choice of long jumps.
-pub fn place(pooled: &Pooled, long: &[bool], rules: CeilingRules) -> Placed {
+pub fn place(pooled: &Pooled, long: &[bool]) -> Placed {
     let mut walk = Walk::new(&pooled.code);
     let mut events = Vec::new();
     for (event, long) in pooled.events.iter().zip(long) {
         walk.copy_to(event.start());
         let new_start = walk.new_offset();
-        walk.written.extend(form(event, *long, new_start, rules));
+        walk.written.extend(form(event, *long, new_start));
         walk.pass_to(event.end());
         events.push((new_start, walk.new_offset()));
     }
@@ -84,19 +82,10 @@ impl<'a> Walk<'a> {
     }
 }
 
-/// The bytes of an event at a new offset: padding, or a jump with its
-/// displacement open.
-fn form(event: &Event, long: bool, new_start: u32, rules: CeilingRules) -> Vec<u8> {
+/// The bytes of an event at a new offset: padding, or a jump with its displacement open.
+fn form(event: &Event, long: bool, new_start: u32) -> Vec<u8> {
     match *event {
-        Event::Align {
-            length,
-            multiple,
-            most,
-            ..
-        } => {
-            let padding = rules.padding(new_start, multiple, most);
-            nops((rules.laid_out)(&padding, length))
-        }
+        Event::Align { multiple, most, .. } => nops(spent(new_start, multiple, most)),
         Event::Jump { condition, .. } => {
             let condition = (condition < 16).then_some(condition as u8);
             match (condition, long) {
@@ -116,33 +105,20 @@ pub struct Settled {
     pub placed: Placed,
 }
 
-/// Rounds from no jump long, until one lengthens none. A long jump whose label
-/// comes into reach again, since padding between them shrinks, stays long.
-pub fn settle(pooled: &Pooled, rules: CeilingRules) -> Settled {
+/// Rounds from no jump long, until one lengthens none. A long jump whose label comes into reach again, since padding between them shrinks, stays
+/// long.
+pub fn settle(pooled: &Pooled) -> Settled {
     let mut long = vec![false; pooled.events.len()];
     let mut rounds = 0;
-    let mut before = 0;
     loop {
         rounds += 1;
-        let placed = place(pooled, &long, rules);
-        let out_of_reach = jumps(pooled, &placed, |number, reaches| !long[number] && !reaches);
-        let length = placed.code.len();
-        let round = Round {
-            out_of_reach: out_of_reach.len(),
-            length,
-            before,
-        };
-        before = length;
-        if (rules.is_last)(&round) {
-            let within = jumps(pooled, &placed, |number, reaches| long[number] && reaches);
-            let settled = Settled {
+        let placed = place(pooled, &long);
+        let out_of_reach = out_of_reach(pooled, &placed, &long);
+        if out_of_reach.is_empty() {
+            return Settled {
                 long,
                 rounds,
                 placed,
-            };
-            return match rules.stays_long {
-                true => settled,
-                false => shortened(pooled, settled, &within, rules),
             };
         }
         for jump in out_of_reach {
@@ -151,26 +127,11 @@ pub fn settle(pooled: &Pooled, rules: CeilingRules) -> Settled {
     }
 }
 
-/// The same with some jumps short again.
-fn shortened(
-    pooled: &Pooled,
-    mut settled: Settled,
-    short: &[usize],
-    rules: CeilingRules,
-) -> Settled {
-    for jump in short {
-        settled.long[*jump] = false;
-    }
-    settled.placed = place(pooled, &settled.long, rules);
-    settled
-}
-
-/// The numbers of jumps, by whether a displacement of one byte holds theirs.
-fn jumps(pooled: &Pooled, placed: &Placed, is_meant: impl Fn(usize, bool) -> bool) -> Vec<usize> {
+/// The numbers of short jumps that do not reach their labels.
+fn out_of_reach(pooled: &Pooled, placed: &Placed, long: &[bool]) -> Vec<usize> {
     let is_meant = |&number: &usize| match pooled.events[number] {
         Event::Jump { label, .. } => {
-            let reaches = i8::try_from(displacement(pooled, placed, number, label)).is_ok();
-            is_meant(number, reaches)
+            !long[number] && i8::try_from(displacement(pooled, placed, number, label)).is_err()
         }
         Event::Align { .. } => false,
     };
@@ -193,14 +154,14 @@ pub fn refs_reach(pooled: &Pooled, placed: &Placed) -> bool {
 }
 
 /// Fills refs in order, then jumps, the constants' bytes last.
-pub fn fill(pooled: &Pooled, settled: &mut Settled, rules: Rules) {
+pub fn fill(pooled: &Pooled, settled: &mut Settled) {
     let placed = &mut settled.placed;
     for field in &pooled.refs {
         let target = i64::from(placed.position(pooled.labels[field.label as usize]));
         let offset = placed.position(field.offset);
         let bytes = &mut placed.code[offset as usize..][..fields::size(field.code)];
         let target = target + i64::from(field.addend);
-        fields::patch(field.code, bytes, offset.into(), target, rules);
+        fields::patch(field.code, bytes, offset.into(), target);
     }
     for (number, event) in pooled.events.iter().enumerate() {
         if let Event::Jump { label, .. } = event {

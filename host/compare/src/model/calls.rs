@@ -1,8 +1,8 @@
 //! The recording calls.
 
 use super::counts::{Counts, is_recorded};
-use super::open::{Change, MOST_OPEN};
-use super::{Refusal, Rules, fields};
+use super::open::{MOST_OPEN, changed};
+use super::{Refusal, ceilings, fields};
 use crate::{AARCH64, LABEL_TARGET, Lent, MOST_CODE, NONE, Part, X64};
 
 /// The most bytes of a constant.
@@ -13,8 +13,8 @@ const MOST_ALIGNMENT: u32 = 4096;
 pub const JUMP: u32 = 1;
 pub const ALIGNMENT: u32 = 2;
 
-/// One call on a recording. The most that an alignment may spend is its ceiling
-/// itself: what 0 stands for in a sheet is settled where the sheet is read.
+/// One call on a recording. The most that an alignment may spend is its ceiling itself: what 0 stands for in a sheet is settled where the sheet is
+/// read.
 pub type Call<'a> = wargnifla::Call<&'a [u8]>;
 
 /// Entries up to which a recording counts what is open after every call.
@@ -24,7 +24,6 @@ const FEW: usize = 4096;
 pub struct Recording<'a> {
     lent: &'a mut Lent,
     counts: Counts,
-    rules: Rules,
     /// How many entries were open when they were last counted.
     counted: u32,
     /// How many calls were made since.
@@ -32,20 +31,18 @@ pub struct Recording<'a> {
 }
 
 impl<'a> Recording<'a> {
-    pub fn new(lent: &'a mut Lent, counts: Counts, rules: Rules) -> Self {
+    pub fn new(lent: &'a mut Lent, counts: Counts) -> Self {
         Self {
-            counted: counts.counted(lent, rules.open),
+            counted: counts.counted(lent),
             lent,
             counts,
-            rules,
             waiting: 0,
         }
     }
 
-    /// Makes a call: its value (0 where it has none), or its refusal, which
-    /// is recorded unless document 01 excepts it.
+    /// Makes a call: its value (0 where it has none), or its refusal, which is recorded unless document 01 excepts it.
     pub fn make(&mut self, call: &Call<'_>) -> Result<u32, Refusal> {
-        if !(self.rules.open.stands)(self.counts.open, self.counted) {
+        if self.counts.open > MOST_OPEN {
             return Err(1);
         }
         let result = self.answer(call);
@@ -57,19 +54,15 @@ impl<'a> Recording<'a> {
         }
         self.waiting += 1;
         let binds = matches!(call, Call::Bind(_)) && result.is_ok();
-        let is_kept = self.counts.arch == X64;
-        let is_unread = !is_kept && matches!(call, Call::Jump { .. } | Call::Ref { .. });
         if binds || self.counts_each_call() {
-            self.recount(binds, is_unread);
+            self.recount();
         }
         self.counts.write(self.lent);
         result
     }
 
-    /// Counting after every call takes time by the square of a sheet. Only a
-    /// bind makes the count fall, so that the calls of a long recording can
-    /// wait for the next one, or for the last call, unless the number may have
-    /// passed the most.
+    /// Counting after every call takes time by the square of a sheet. Only a bind makes the count fall, so that the calls of a long recording can
+    /// wait for the next one, or for the last call, unless the number may have passed the most.
     fn counts_each_call(&self) -> bool {
         let tables = [Part::Uses, Part::Refs, Part::Events, Part::Relocations];
         let entries: usize = tables.iter().map(|table| self.counts.of(*table)).sum();
@@ -77,15 +70,9 @@ impl<'a> Recording<'a> {
     }
 
     /// Counts afresh what is open, and changes the number by as much.
-    fn recount(&mut self, binds: bool, is_unread: bool) {
-        let after = self.counts.counted(self.lent, self.rules.open);
-        self.counts.open = (self.rules.open.changed)(&Change {
-            open: self.counts.open,
-            before: self.counted,
-            after,
-            binds,
-            is_unread,
-        });
+    fn recount(&mut self) {
+        let after = self.counts.counted(self.lent);
+        self.counts.open = changed(self.counts.open, self.counted, after);
         self.counted = after;
         self.waiting = 0;
     }
@@ -93,7 +80,7 @@ impl<'a> Recording<'a> {
     /// After the last call.
     pub fn end(mut self) {
         if self.waiting > 0 {
-            self.recount(false, false);
+            self.recount();
             self.counts.write(self.lent);
         }
     }
@@ -186,23 +173,19 @@ impl<'a> Recording<'a> {
     }
 
     fn align(&mut self, multiple: u32, most: u32) -> Result<(), Refusal> {
-        let arch = self.counts.arch;
-        let rules = self.rules.ceilings;
-        let offset = self.counts.of(Part::Code) as u32;
-        let padding = rules.padding(offset, multiple, most);
-        let is_event = (rules.is_event)(&padding, arch);
-        let applies = |refusal: &Refusal| match refusal {
-            5 => !is_alignment(multiple),
-            11 => is_event && self.is_full(Part::Events),
-            _ => self.code_fits((rules.room)(&padding) as usize).is_err(),
-        };
-        if let Some(refusal) = rules.order.into_iter().find(applies) {
-            return Err(refusal);
+        if !is_alignment(multiple) {
+            return Err(5);
         }
-        let length = (rules.recorded)(&padding, arch);
+        let arch = self.counts.arch;
+        let is_event = arch == X64;
+        if is_event && self.is_full(Part::Events) {
+            return Err(11);
+        }
+        let offset = self.counts.of(Part::Code) as u32;
+        let length = ceilings::spent(offset, multiple, most);
+        self.code_fits(length as usize)?;
         if is_event {
-            let kept = (rules.kept)(&padding);
-            self.push(Part::Events, &[ALIGNMENT, offset, length, multiple, kept])?;
+            self.push(Part::Events, &[ALIGNMENT, offset, length, multiple, most])?;
         }
         self.append(&padding_bytes(arch, length))
     }

@@ -1,7 +1,7 @@
 //! A recording's counts, and what every call looks at first.
 
 use super::Refusal;
-use super::open::{OpenRules, Tables};
+use super::open::{self, MOST_OPEN, Tables};
 use crate::{AARCH64, Lent, MOST_CODE, MOST_ENTRIES, Part, X64, X86};
 
 /// The architectures that occur.
@@ -73,21 +73,14 @@ impl Counts {
         column.expect("only tables are counted")
     }
 
-    /// 1, the recorded refusal, 3 or 4: what every call answers before its
-    /// own refusals. `tables` are those that it is lent; `within` says that
+    /// 1, the recorded refusal, 3 or 4: what every call answers before its own refusals. `tables` are those that it is lent; `within` says that
     /// nothing else lent passes a limit.
-    pub fn standing(
-        &self,
-        lent: &Lent,
-        tables: &[Part],
-        within: bool,
-        rules: OpenRules,
-    ) -> Result<(), Refusal> {
+    pub fn standing(&self, lent: &Lent, tables: &[Part], within: bool) -> Result<(), Refusal> {
         let fit = tables
             .iter()
             .all(|table| self.of(*table) <= lent.room(*table));
         let refusal_occurs = self.refusal == 0 || is_recorded(self.refusal);
-        if !is_arch(self.arch) || !refusal_occurs || !fit || !self.open_stands(lent, rules) {
+        if !is_arch(self.arch) || !refusal_occurs || !fit || self.open > MOST_OPEN {
             return Err(1);
         }
         if self.refusal != 0 {
@@ -102,13 +95,9 @@ impl Counts {
         Ok(())
     }
 
-    fn open_stands(&self, lent: &Lent, rules: OpenRules) -> bool {
-        (rules.stands)(self.open, self.counted(lent, rules))
-    }
-
     /// How many entries of what is lent are open.
-    pub fn counted(&self, lent: &Lent, rules: OpenRules) -> u32 {
-        (rules.counted)(&Tables { lent, counts: self })
+    pub fn counted(&self, lent: &Lent) -> u32 {
+        open::counted(&Tables { lent, counts: self })
     }
 }
 

@@ -3,18 +3,14 @@
 use super::calls::{
     ALIGNMENT, JUMP, MOST_CONSTANT, is_alignment, is_known_reloc, is_known_target, is_reloc_offset,
 };
-use super::ceilings::CeilingRules;
+use super::ceilings::spent;
 use super::counts::Counts;
 use super::{fields, sheet};
 use crate::{Lent, NONE, Part, X64};
 
 /// Every entry of every table is one that a recording can write.
-pub fn fit(lent: &Lent, counts: &Counts, rules: CeilingRules) -> bool {
-    let tables = Tables {
-        lent,
-        counts,
-        rules,
-    };
+pub fn fit(lent: &Lent, counts: &Counts) -> bool {
+    let tables = Tables { lent, counts };
     tables.only_kept_tables()
         && tables.events_fit()
         && tables.labels_fit()
@@ -28,7 +24,6 @@ pub fn fit(lent: &Lent, counts: &Counts, rules: CeilingRules) -> bool {
 struct Tables<'a> {
     lent: &'a Lent,
     counts: &'a Counts,
-    rules: CeilingRules,
 }
 
 impl Tables<'_> {
@@ -60,10 +55,7 @@ impl Tables<'_> {
     fn event_form_fits(&self, [kind, start, length, what, how]: [u32; 5]) -> bool {
         match kind {
             JUMP => (2..=15).contains(&length) && self.is_label(what) && how <= 16,
-            ALIGNMENT => {
-                let padding = self.rules.padding(start, what, how);
-                is_alignment(what) && (self.rules.fits)(&padding, length)
-            }
+            ALIGNMENT => is_alignment(what) && length == spent(start, what, how),
             _ => false,
         }
     }
@@ -95,8 +87,7 @@ impl Tables<'_> {
         })
     }
 
-    /// Exactly the constants that have a label were asked for, each once, and
-    /// no two share one.
+    /// Exactly the constants that have a label were asked for, each once, and no two share one.
     fn asking_fits(&self) -> bool {
         let mut asked = vec![false; self.counts.of(Part::Constants)];
         let mut named = vec![false; self.counts.of(Part::Labels)];

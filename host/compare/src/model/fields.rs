@@ -1,7 +1,5 @@
-//! Fields that name labels: which architecture knows them, how far they
-//! reach, and what is written into them.
+//! Fields that name labels: which architecture knows them, how far they reach, and what is written into them.
 
-use super::Rules;
 use crate::AARCH64;
 
 pub const REL32: u32 = 0;
@@ -58,7 +56,7 @@ pub fn held_addend(code: u32, field: &[u8]) -> i64 {
 }
 
 /// Makes the field at `offset` name `target`.
-pub fn patch(code: u32, field: &mut [u8], offset: i64, target: i64, rules: Rules) {
+pub fn patch(code: u32, field: &mut [u8], offset: i64, target: i64) {
     let distance = target - offset;
     if code == REL8 {
         field[0] = (distance - 1) as u8;
@@ -73,7 +71,8 @@ pub fn patch(code: u32, field: &mut [u8], offset: i64, target: i64, rules: Rules
         BRANCH26 => insert(held, 0, 26, distance >> 2),
         ADR21 => insert_adr(held, distance),
         ADRP21 => insert_adr(held, pages),
-        _ => (rules.add_word)(held, target as u32 & 0xFFF),
+        // "Code 16 now clears bits 10 to 21 before writing."
+        _ => insert(held, 10, 12, target),
     };
     field.copy_from_slice(&word.to_le_bytes());
 }

@@ -2,18 +2,16 @@
 
 use super::assembly::{self, Placed};
 use super::counts::{Counts, passes_limit};
-use super::open::Asked;
 use super::pool::{Event, Field, Pooled};
-use super::{Refusal, Rules, entries, fields};
+use super::{Refusal, entries, fields};
 use crate::{Lent, NONE, Part};
 
-/// Finishes a recording: its refusal, or 0. Nothing is written where the
-/// record is lent too short; a refused finish gives a record of zeros.
-pub fn finish(lent: &mut Lent, rules: Rules) -> Refusal {
+/// Finishes a recording: its refusal, or 0. Nothing is written where the record is lent too short; a refused finish gives a record of zeros.
+pub fn finish(lent: &mut Lent) -> Refusal {
     if lent.room(Part::Record) < 1 {
         return 1;
     }
-    let refusal = attempt(lent, rules).err().unwrap_or(0);
+    let refusal = attempt(lent).err().unwrap_or(0);
     if refusal != 0 {
         lent.set_words(Part::Record, 0, &[0; 6]);
     }
@@ -28,57 +26,40 @@ struct Finished {
     relocation_offsets: Vec<u32>,
 }
 
-fn attempt(lent: &mut Lent, rules: Rules) -> Result<(), Refusal> {
+fn attempt(lent: &mut Lent) -> Result<(), Refusal> {
     let mut counts = Counts::read(lent).ok_or(1u32)?;
-    let counted = counts.counted(lent, rules.open);
-    let is_right = (rules.open.is_right)(counts.open, counted);
-    let ask = |here| match rules.open.asked == here && !is_right {
-        true => Err(1u32),
-        false => Ok(()),
-    };
-    ask(Asked::First)?;
     let within = [Part::Segments, Part::Output];
     let within = !within.iter().any(|part| passes_limit(lent, *part));
-    counts.standing(lent, &Part::TABLES, within, rules.open)?;
-    if !entries::fit(lent, &counts, rules.ceilings) {
+    counts.standing(lent, &Part::TABLES, within)?;
+    if !entries::fit(lent, &counts) || counts.open != counts.counted(lent) {
         return Err(1);
     }
-    ask(Asked::AfterEntries)?;
-    let pooled = Pooled::new(lent, &counts, rules)?;
-    ask(Asked::AfterPool)?;
-    if (rules.open.remains)(counts.open, pooled.open()) {
+    let pooled = Pooled::new(lent, &counts)?;
+    if pooled.is_open() {
         return Err(15);
     }
-    let alignment = alignment(lent, &counts, &pooled, rules);
+    let alignment = pooled.alignment();
     let finished = if pooled.has_jump() {
-        relax(lent, &pooled, rules)?
+        relax(lent, &pooled)?
     } else {
-        patch_uses(lent, pooled, rules)?
+        patch_uses(lent, pooled)?
     };
     counts.finished = 1;
-    counts.open = (rules.open.finished)(counts.open);
+    counts.open = 0;
     counts.write(lent);
     write(lent, &counts, &finished, alignment);
     Ok(())
 }
 
-fn alignment(lent: &Lent, counts: &Counts, pooled: &Pooled, rules: Rules) -> u32 {
-    let added = 0..counts.of(Part::Constants);
-    let added = added.map(|entry| lent.word(Part::Constants, entry, 0) as usize);
-    let pooled = pooled.pool.iter().map(|constant| constant.bytes.len());
-    (rules.code_alignment)(&added.collect::<Vec<_>>(), &pooled.collect::<Vec<_>>())
-}
-
-/// With a jump: 16, 17, the rounds, 18, 23. The settled segments stay in
-/// their table from the rounds on.
-fn relax(lent: &mut Lent, pooled: &Pooled, rules: Rules) -> Result<Finished, Refusal> {
+/// With a jump: 16, 17, the rounds, 18, 23. The settled segments stay in their table from the rounds on.
+fn relax(lent: &mut Lent, pooled: &Pooled) -> Result<Finished, Refusal> {
     if lent.room(Part::Segments) < pooled.events.len() {
         return Err(16);
     }
     if !pooled.refs.iter().all(|field| is_clear(pooled, field)) {
         return Err(17);
     }
-    let mut settled = assembly::settle(pooled, rules.ceilings);
+    let mut settled = assembly::settle(pooled);
     let segments = segments(pooled, &settled.placed);
     for (number, segment) in segments.iter().enumerate() {
         lent.set_words(Part::Segments, number, segment);
@@ -89,7 +70,7 @@ fn relax(lent: &mut Lent, pooled: &Pooled, rules: Rules) -> Result<Finished, Ref
     if settled.placed.code.len() > lent.room(Part::Output) {
         return Err(23);
     }
-    assembly::fill(pooled, &mut settled, rules);
+    assembly::fill(pooled, &mut settled);
     let position = |label: &u32| settled.placed.position(*label);
     let relocations = pooled.relocations.iter();
     Ok(Finished {
@@ -118,8 +99,7 @@ fn segments(pooled: &Pooled, placed: &Placed) -> Vec<Segment> {
         .collect()
 }
 
-/// "An offset in an event counts from its start, any other from the end of
-/// the event before; of events starting at one offset the last decides."
+/// "An offset in an event counts from its start, any other from the end of the event before; of events starting at one offset the last decides."
 fn map(segments: &[Segment], offset: u32) -> u32 {
     let starts_before = |segment: &&Segment| segment[0] <= offset;
     match segments.iter().rev().find(starts_before) {
@@ -133,7 +113,7 @@ fn map(segments: &[Segment], offset: u32) -> u32 {
 }
 
 /// Without a jump: 19 to 22 for each use in order, 23. Nothing moves.
-fn patch_uses(lent: &Lent, mut pooled: Pooled, rules: Rules) -> Result<Finished, Refusal> {
+fn patch_uses(lent: &Lent, mut pooled: Pooled) -> Result<Finished, Refusal> {
     for field in &pooled.uses {
         check_use(&pooled, field)?;
     }
@@ -144,7 +124,7 @@ fn patch_uses(lent: &Lent, mut pooled: Pooled, rules: Rules) -> Result<Finished,
         let label = pooled.labels[field.label as usize];
         let bytes = &mut pooled.code[field.offset as usize..][..fields::size(field.code)];
         let target = i64::from(label) + fields::held_addend(field.code, bytes);
-        fields::patch(field.code, bytes, field.offset.into(), target, rules);
+        fields::patch(field.code, bytes, field.offset.into(), target);
     }
     for constant in &pooled.pool {
         let offset = constant.offset as usize;

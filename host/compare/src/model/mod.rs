@@ -1,9 +1,7 @@
-//! A plain model of document 01, over the same bytes that the C functions are
-//! lent: what each call answers, and what it leaves in everything lent.
+//! A plain model of document 01, over the same bytes that the C functions are lent: what each call answers, and what it leaves in everything lent.
 //!
-//! It is written from document 01, the requests of document 02 and the readings
-//! of docs/DECISIONS.md, with vectors and without care for speed, so that it can
-//! be read beside them.
+//! It is written from document 01, the requests of document 02 and the readings of docs/DECISIONS.md, with vectors and without care for speed, so
+//! that it can be read beside them.
 
 mod assembly;
 mod calls;
@@ -12,17 +10,15 @@ mod counts;
 mod entries;
 mod fields;
 mod finish;
-pub mod join;
+mod join;
 pub mod open;
 mod pool;
 pub mod relas;
-mod rules;
 mod sheet;
 
 use crate::{Boundary, Lent, NONE, Part, Reply, Vast};
 use calls::{Call, Recording};
 use counts::Counts;
-pub use rules::{Rules, add_word, code_alignment};
 
 /// The number of a refusal.
 type Refusal = u32;
@@ -31,12 +27,10 @@ type Refusal = u32;
 #[derive(Default)]
 pub struct Model {
     pub lent: Lent,
-    pub rules: Rules,
 }
 
 impl Model {
-    /// 1 if too few bytes are lent for counts. It comes before everything else,
-    /// a sheet's form too, and nothing is written then.
+    /// 1 if too few bytes are lent for counts. It comes before everything else, a sheet's form too, and nothing is written then.
     fn counts(&self) -> Result<Counts, Refusal> {
         Counts::read(&self.lent).ok_or(1)
     }
@@ -44,11 +38,10 @@ impl Model {
     /// Makes the calls of a sheet; the refusal of one and its index.
     fn make_all(&mut self, bytes: &[u8]) -> Result<u32, (Refusal, u32)> {
         let counts = self.counts().map_err(|refusal| (refusal, 0))?;
-        let rules = self.rules;
-        let calls = sheet::read(bytes, rules.ceilings).map_err(|index| (1, index))?;
-        let standing = counts.standing(&self.lent, &Part::TABLES, true, rules.open);
+        let calls = sheet::read(bytes).map_err(|index| (1, index))?;
+        let standing = counts.standing(&self.lent, &Part::TABLES, true);
         standing.map_err(|refusal| (refusal, 0))?;
-        let mut recording = Recording::new(&mut self.lent, counts, rules);
+        let mut recording = Recording::new(&mut self.lent, counts);
         let made = (0..).zip(&calls).try_for_each(|(index, call)| {
             let made = recording.make(call);
             made.map(drop).map_err(|refusal| (refusal, index))
@@ -63,8 +56,8 @@ impl Model {
         if !is_well_formed(call) {
             return Err(1);
         }
-        counts.standing(&self.lent, tables, true, self.rules.open)?;
-        let mut recording = Recording::new(&mut self.lent, counts, self.rules);
+        counts.standing(&self.lent, tables, true)?;
+        let mut recording = Recording::new(&mut self.lent, counts);
         let made = recording.make(call);
         recording.end();
         made
@@ -107,9 +100,7 @@ impl Boundary for Model {
     }
 
     fn align(&mut self, multiple: u32, most: u32) -> Reply {
-        let rules = self.rules.ceilings;
-        let most = (rules.in_call)(most);
-        without_value(self.direct(rules.tables, &Call::Align { multiple, most }))
+        without_value(self.direct(&[Part::Code, Part::Events], &Call::Align { multiple, most }))
     }
 
     fn add_constant(&mut self, bytes: &[u8]) -> Reply {
@@ -130,18 +121,18 @@ impl Boundary for Model {
     }
 
     fn finish(&mut self) -> Reply {
-        Reply::new(finish::finish(&mut self.lent, self.rules), 0)
+        Reply::new(finish::finish(&mut self.lent), 0)
     }
 
     fn write_relas(&mut self, section: u32) -> Reply {
-        Reply::new(relas::write(&mut self.lent, section, self.rules), 0)
+        Reply::new(relas::write(&mut self.lent, section), 0)
     }
 
     fn read_relas(&mut self) -> Reply {
-        Reply::new(relas::read(&mut self.lent, self.rules), 0)
+        Reply::new(relas::read(&mut self.lent), 0)
     }
 
     fn join(&mut self, is_vast: Vast) -> Reply {
-        Reply::new(join::join(&mut self.lent, is_vast, self.rules.join), 0)
+        Reply::new(join::join(&mut self.lent, is_vast), 0)
     }
 }

@@ -1,5 +1,4 @@
-//! Request Five: how many uses, refs, jumps and relocations against labels name
-//! a label that is not bound.
+//! Request Five: how many uses, refs, jumps and relocations against labels name a label that is not bound.
 
 use super::calls::JUMP;
 use super::counts::Counts;
@@ -8,71 +7,13 @@ use crate::{LABEL_TARGET, Lent, NONE, Part};
 /// "Any call answers 1 to one above 262,144."
 pub const MOST_OPEN: u32 = 262_144;
 
-/// What the request says of the number, rule by rule.
-#[derive(Clone, Copy)]
-pub struct OpenRules {
-    /// How many entries are open.
-    pub counted: fn(tables: &Tables<'_>) -> u32,
-    /// The number after a call, refused or not.
-    pub changed: fn(change: &Change) -> u32,
-    /// A call may be handed the number, where so many entries are open.
-    pub stands: fn(open: u32, counted: u32) -> bool,
-    /// A finish may be.
-    pub is_right: fn(open: u32, counted: u32) -> bool,
-    /// Where a finish asks that.
-    pub asked: Asked,
-    /// A finish is refused by 15, where so many are open once constants are
-    /// pooled.
-    pub remains: fn(open: u32, left: u32) -> bool,
-    /// The number after a finish.
-    pub finished: fn(open: u32) -> u32,
+/// "Every call that is handed the right one keeps it equal to the count over the tables; a wrong one changes by as much, never below 0."
+pub fn changed(open: u32, before: u32, after: u32) -> u32 {
+    open.saturating_add(after).saturating_sub(before)
 }
 
-impl Default for OpenRules {
-    fn default() -> Self {
-        Self {
-            counted,
-            changed,
-            stands: |open, _| open <= MOST_OPEN,
-            is_right: |open, counted| open == counted,
-            asked: Asked::AfterEntries,
-            remains: |_, left| left > 0,
-            finished: |_| 0,
-        }
-    }
-}
-
-/// Where a finish asks whether the number is right: "after a recorded refusal, 3
-/// and 4", with the entries, and so before 13.
-#[derive(Clone, Copy, PartialEq, Eq)]
-pub enum Asked {
-    First,
-    AfterEntries,
-    AfterPool,
-}
-
-/// The number that a call was handed, how many entries were open before and
-/// after it, and what the call was.
-pub struct Change {
-    pub open: u32,
-    pub before: u32,
-    pub after: u32,
-    /// It bound a label.
-    pub binds: bool,
-    /// It was a jump or ref that was accepted unread.
-    pub is_unread: bool,
-}
-
-/// "Every call that is handed the right one keeps it equal to the count over
-/// the tables; a wrong one changes by as much, never below 0."
-pub fn changed(change: &Change) -> u32 {
-    let sum = change.open.saturating_add(change.after);
-    sum.saturating_sub(change.before)
-}
-
-/// What is lent, as far as its counts reach. Direct calls are not lent all of
-/// it; what they are not lent they leave, and so is counted alike before and
-/// after them.
+/// What is lent, as far as its counts reach. Direct calls are not lent all of it; what they are not lent they leave, and so is counted alike before
+/// and after them.
 pub struct Tables<'a> {
     pub lent: &'a Lent,
     pub counts: &'a Counts,
@@ -85,7 +26,7 @@ impl Tables<'_> {
     }
 
     /// "Unknown labels count as unbound."
-    pub fn is_unbound(&self, label: u32) -> bool {
+    fn is_unbound(&self, label: u32) -> bool {
         let label = label as usize;
         let known = self
             .counts
@@ -95,37 +36,35 @@ impl Tables<'_> {
     }
 
     /// The labels that uses, or refs, name.
-    pub fn fields(&self, table: Part) -> impl Iterator<Item = u32> {
+    fn fields(&self, table: Part) -> impl Iterator<Item = u32> {
         self.entries(table).map(|[_, label]| label)
     }
 
     /// The labels that jumps name, on whatever architecture.
-    pub fn jumps(&self) -> impl Iterator<Item = u32> {
+    fn jumps(&self) -> impl Iterator<Item = u32> {
         let events = self.entries(Part::Events);
         events.filter_map(|[kind, _, _, label]| (kind == JUMP).then_some(label))
     }
 
     /// The labels that relocations name.
-    pub fn relocations(&self) -> impl Iterator<Item = u32> {
+    fn relocations(&self) -> impl Iterator<Item = u32> {
         let relocations = self.entries(Part::Relocations);
         relocations.filter_map(|[_, _, target]| target.checked_sub(LABEL_TARGET))
     }
 
     /// How many of some labels are not bound.
-    pub fn unbound(&self, labels: impl Iterator<Item = u32>) -> u32 {
+    fn unbound(&self, labels: impl Iterator<Item = u32>) -> u32 {
         labels.filter(|label| self.is_unbound(*label)).count() as u32
     }
 }
 
-/// "How many label uses, refs, jumps and label relocations point to an unbound
-/// label."
+/// "How many label uses, refs, jumps and label relocations point to an unbound label."
 pub fn counted(tables: &Tables<'_>) -> u32 {
     let fields = tables.fields(Part::Uses).chain(tables.fields(Part::Refs));
     tables.unbound(fields.chain(tables.jumps()).chain(tables.relocations()))
 }
 
-/// The right number for what is lent; nothing if too few bytes are lent for
-/// counts.
+/// The right number for what is lent; nothing if too few bytes are lent for counts.
 pub fn right_number(lent: &Lent) -> Option<u32> {
     let counts = Counts::read(lent)?;
     Some(counted(&Tables {

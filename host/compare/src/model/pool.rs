@@ -1,9 +1,9 @@
 //! The recording as finish gets it, its constants pooled.
 
+use super::Refusal;
 use super::calls::{JUMP, padding_bytes};
-use super::ceilings::CeilingRules;
+use super::ceilings::{DEFAULT_CEILING, spent};
 use super::counts::Counts;
-use super::{Refusal, Rules};
 use crate::{LABEL_TARGET, Lent, MOST_CODE, NONE, Part, X64};
 
 /// A jump with its condition, or an alignment.
@@ -91,9 +91,8 @@ pub struct Pooled {
 }
 
 impl Pooled {
-    /// Reads tables whose entries fit, and pools the constants in the order
-    /// of asking. 13: a constant's label is bound; 14: the code is too long.
-    pub fn new(lent: &Lent, counts: &Counts, rules: Rules) -> Result<Self, Refusal> {
+    /// Reads tables whose entries fit, and pools the constants in the order of asking. 13: a constant's label is bound; 14: the code is too long.
+    pub fn new(lent: &Lent, counts: &Counts) -> Result<Self, Refusal> {
         let mut pooled = Self::read(lent, counts);
         let asked = 0..counts.of(Part::Asked);
         let asked = asked.map(|entry| lent.word(Part::Asked, entry, 0) as usize);
@@ -105,8 +104,7 @@ impl Pooled {
             return Err(13);
         }
         for (label, bytes) in constants {
-            let multiple = (rules.constant_multiple)(bytes.len());
-            pooled.add(label, bytes, multiple, rules.ceilings);
+            pooled.add(label, bytes);
         }
         if pooled.code.len() > MOST_CODE {
             return Err(14);
@@ -139,18 +137,17 @@ impl Pooled {
         }
     }
 
-    /// Aligns the end of the code for a constant, binds its label there, and
-    /// leaves room for its bytes.
-    fn add(&mut self, label: u32, bytes: Vec<u8>, multiple: u32, rules: CeilingRules) {
+    /// Aligns the end of the code for a constant, binds its label there, and leaves room for its bytes.
+    fn add(&mut self, label: u32, bytes: Vec<u8>) {
         let start = self.code.len() as u32;
-        let padding = rules.padding(start, multiple, rules.pooled);
-        let length = (rules.recorded)(&padding, self.arch);
+        let multiple = multiple_of(bytes.len());
+        let length = spent(start, multiple, DEFAULT_CEILING);
         if self.arch == X64 {
             self.events.push(Event::Align {
                 start,
                 length,
                 multiple,
-                most: rules.pooled,
+                most: DEFAULT_CEILING,
             });
         }
         let offset = start + length;
@@ -165,8 +162,14 @@ impl Pooled {
         self.events.iter().any(is_jump)
     }
 
-    /// How many entries name a label that is not bound.
-    pub fn open(&self) -> u32 {
+    /// "The greater of 32 and the largest alignment among pooled constants."
+    pub fn alignment(&self) -> u32 {
+        let sizes = self.pool.iter().map(|constant| constant.bytes.len());
+        sizes.map(multiple_of).fold(32, u32::max)
+    }
+
+    /// An entry names a label that is not bound.
+    pub fn is_open(&self) -> bool {
         let uses_and_refs = self.uses.iter().chain(&self.refs);
         let targets = self.relocations.iter().map(|relocation| relocation.target);
         let jumps = self.events.iter().filter_map(|event| match event {
@@ -177,8 +180,16 @@ impl Pooled {
             .map(|field| field.label)
             .chain(targets.filter_map(|target| target.checked_sub(LABEL_TARGET)))
             .chain(jumps)
-            .filter(|label| self.labels[*label as usize] == NONE)
-            .count() as u32
+            .any(|label| self.labels[label as usize] == NONE)
+    }
+}
+
+/// "A constant of more than 32 bytes stands on a multiple of 64, the others as before."
+fn multiple_of(size: usize) -> u32 {
+    match size {
+        0..=8 => 8,
+        9..=32 => 16,
+        _ => 64,
     }
 }
 

@@ -1,7 +1,7 @@
 //! A sheet of calls: its form, and the calls that it spells.
 
 use super::calls::Call;
-use super::ceilings::CeilingRules;
+use super::ceilings::in_sheet;
 
 /// The last number of `Reloc`.
 pub const LAST_RELOC: u32 = 27;
@@ -10,9 +10,8 @@ const LAST_CODE: u32 = 16;
 /// The most bytes that one call carries.
 const MOST_BYTES: u32 = 12;
 
-/// The calls of a sheet, or the index of the first one whose form is broken;
-/// 0 for a wrong length.
-pub fn read(sheet: &[u8], rules: CeilingRules) -> Result<Vec<Call<'_>>, u32> {
+/// The calls of a sheet, or the index of the first one whose form is broken; 0 for a wrong length.
+pub fn read(sheet: &[u8]) -> Result<Vec<Call<'_>>, u32> {
     let (count, rest) = sheet.split_first_chunk::<4>().ok_or(0u32)?;
     let count = u32::from_le_bytes(*count);
     if rest.len() as u64 != u64::from(count) * 17 {
@@ -22,12 +21,12 @@ pub fn read(sheet: &[u8], rules: CeilingRules) -> Result<Vec<Call<'_>>, u32> {
     let arguments = arguments.chunks_exact(16);
     let calls = kinds.iter().zip(arguments).enumerate();
     calls
-        .map(|(index, (kind, argument))| read_call(*kind, argument, rules).ok_or(index as u32))
+        .map(|(index, (kind, argument))| read_call(*kind, argument).ok_or(index as u32))
         .collect()
 }
 
 /// Nothing if the form is broken.
-fn read_call(kind: u8, argument: &[u8], rules: CeilingRules) -> Option<Call<'_>> {
+fn read_call(kind: u8, argument: &[u8]) -> Option<Call<'_>> {
     let word = |number: usize| {
         let bytes = argument[number * 4..][..4].try_into();
         u32::from_le_bytes(bytes.expect("a word has four bytes"))
@@ -39,7 +38,7 @@ fn read_call(kind: u8, argument: &[u8], rules: CeilingRules) -> Option<Call<'_>>
         4 => {
             let call = Call::Align {
                 multiple: word(0),
-                most: (rules.in_sheet)(word(1)),
+                most: in_sheet(word(1)),
             };
             (call, 8)
         }

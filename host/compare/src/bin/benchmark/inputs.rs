@@ -3,7 +3,7 @@
 use std::borrow::Cow;
 use std::slice;
 
-use compare::ceilings::CeilingRules;
+use compare::ceilings::{in_sheet, spent};
 use compare::{LABEL_TARGET, MOST_CODE, MOST_ENTRIES, Random};
 use reference::{Call, write_sheet};
 use wargnifla::Condition;
@@ -78,9 +78,7 @@ impl Draft {
 
     fn align(&mut self, Alignment { multiple, most }: Alignment) {
         self.calls.push(Call::Align { multiple, most });
-        let rules = CeilingRules::default();
-        let most = (rules.in_sheet)(most);
-        self.offset += rules.padding(self.offset, multiple, most).spent;
+        self.offset += spent(self.offset, multiple, in_sheet(most));
     }
 
     /// A jump in its long form; the condition 16 is none.
@@ -146,8 +144,7 @@ impl Labels {
     }
 }
 
-/// A rule: jumps with labels near them and now and then far away, alignments
-/// and plain code between.
+/// A rule: jumps with labels near them and now and then far away, alignments and plain code between.
 fn rule(jumps: u32, alignments: u32, plain: u32, labels: Labels, alignment: Alignment) -> Draft {
     let mut random = Random::new(1);
     let mut draft = Draft::default();
@@ -282,8 +279,7 @@ pub fn uses() -> Vec<Step> {
     uses_of(0, |draft| draft.bytes(264))
 }
 
-/// The same, of the immediates of ADDs that hold nothing: the Rust would mix
-/// in what they hold.
+/// The same, of the immediates of ADDs that hold nothing: the Rust would mix in what they hold.
 pub fn adds() -> Vec<Step> {
     const ADD: [u8; 4] = 0x9100_0000u32.to_le_bytes();
     uses_of(16, |draft| draft.copy(&ADD.repeat(66)))
@@ -308,8 +304,7 @@ fn uses_of(code: u32, put: impl Fn(&mut Draft)) -> Vec<Step> {
     vec![draft.sheet()]
 }
 
-/// 65,536 relocations over a typical rule, at the offsets of their numbers, of
-/// some kinds in turn.
+/// 65,536 relocations over a typical rule, at the offsets of their numbers, of some kinds in turn.
 fn relocations_at(kinds: &[u32], offset: impl Fn(u32, &mut Random) -> u32) -> Vec<Step> {
     let mut random = Random::new(3);
     let mut draft = typical_rule(Labels::Rising);
@@ -384,8 +379,7 @@ pub fn calls() -> Vec<Step> {
     vec![draft.sheet()]
 }
 
-/// A chain of jumps, of which one grows in each round: each has its label 127
-/// bytes on, behind the next jump; the last one's is out of reach.
+/// A chain of jumps, of which one grows in each round: each has its label 127 bytes on, behind the next jump; the last one's is out of reach.
 pub fn chain(jumps: u32) -> Vec<Step> {
     let mut draft = Draft::default();
     for _ in 0..jumps {

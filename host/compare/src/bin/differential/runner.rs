@@ -2,7 +2,7 @@
 
 use std::fmt;
 
-use compare::{Boundary, Lent, Model, Ours, Part, Reply, Rules, pieces};
+use compare::{Boundary, Lent, Model, Ours, Part, Reply, pieces};
 use reference::{DEPARTURES, Departure};
 
 use crate::again;
@@ -38,8 +38,7 @@ pub struct Outcome {
     pub finished: bool,
     /// A finish was compared with the Rust's, or a join with its linker's.
     pub compared: bool,
-    /// The departure that was met: a finish was held against the model alone, or
-    /// against the Rust told of the change, too.
+    /// The departure that was met: a finish was held against the model alone, or against the Rust told of the change, too.
     pub departure: Option<&'static str>,
 }
 
@@ -66,19 +65,16 @@ impl Runner {
         }
     }
 
-    /// A runner whose model follows other rules.
-    pub fn ruled_by(rules: Rules) -> Self {
-        let mut runner = Self::default();
-        runner.model.rules = rules;
-        runner
-    }
-
     pub fn run(&mut self, scenario: &Scenario) -> Result<Outcome, Disagreement> {
         self.run_with(scenario, None)
     }
 
     /// As [`Self::run`], with something wrong put in after the call of a step.
-    pub fn run_with(&mut self, scenario: &Scenario, put: Option<(usize, Put<'_>)>) -> Result<Outcome, Disagreement> {
+    pub fn run_with(
+        &mut self,
+        scenario: &Scenario,
+        put: Option<(usize, Put<'_>)>,
+    ) -> Result<Outcome, Disagreement> {
         let shift = scenario.lend(&mut self.model.lent);
         self.ours.lend(&self.model.lent, shift);
         let mut rust = Rust::new(scenario, self.departures);
@@ -141,11 +137,17 @@ impl Runner {
             None => {}
             Some(Put::Fault(fault)) => fault.put(&mut ours, &mut self.ours),
             Some(Put::IntoOurs(wrong)) => {
-                wrong.iter().for_each(|one| one.put(&mut ours, |part| self.ours.part_mut(part).content_mut()));
+                wrong.iter().for_each(|one| {
+                    one.put(&mut ours, |part| self.ours.part_mut(part).content_mut())
+                });
             }
             Some(Put::IntoBoth(wrong)) => {
-                wrong.iter().for_each(|one| one.put(&mut ours, |part| self.ours.part_mut(part).content_mut()));
-                wrong.iter().for_each(|one| one.put(&mut model, |part| &mut self.model.lent[part]));
+                wrong.iter().for_each(|one| {
+                    one.put(&mut ours, |part| self.ours.part_mut(part).content_mut())
+                });
+                wrong
+                    .iter()
+                    .for_each(|one| one.put(&mut model, |part| &mut self.model.lent[part]));
             }
         }
         self.compare((ours, model))?;
@@ -165,8 +167,7 @@ impl Runner {
         write(self.ours.part_mut(part).content_mut(), at, bytes);
     }
 
-    /// Writes the ELF entries that were read: where they can be relocations,
-    /// they come out as they were.
+    /// Writes the ELF entries that were read: where they can be relocations, they come out as they were.
     fn write_again(&mut self) -> Result<Reply, String> {
         let read = self.model.lent[Part::Relas].clone();
         again::take_back(&mut self.model.lent);

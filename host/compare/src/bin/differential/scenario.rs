@@ -96,8 +96,8 @@ impl Step {
         }
     }
 
-    /// Makes the step's call, lent its [`Self::bytes`]; what is written by hand
-    /// is no call, and the call of [`Self::WriteAgain`] is the first of its two.
+    /// Makes the step's call, lent its [`Self::bytes`]; what is written by hand is no call, and the call of [`Self::WriteAgain`] is the first of its
+    /// two.
     pub fn call(&self, boundary: &mut impl Boundary, bytes: &[u8]) -> Reply {
         match self {
             Self::Sheet(_) | Self::RawSheet(_) => boundary.run_sheet(bytes),
@@ -160,8 +160,8 @@ impl Step {
     }
 }
 
-/// The call that makes an alignment with any ceiling in the Rust. No sheet has a
-/// ceiling of 0: it spends nothing and never will, as an alignment to 1.
+/// The call that makes an alignment with any ceiling in the Rust. No sheet has a ceiling of 0: it spends nothing and never will, as an alignment to
+/// 1.
 pub fn alignment(multiple: u32, most: u32) -> Call<'static> {
     let is_empty = most == 0 && multiple.is_power_of_two() && multiple <= 4096;
     Call::Align {
@@ -247,11 +247,6 @@ impl Room {
 
     pub fn bytes(&self, part: Part) -> usize {
         self.0[part as usize]
-    }
-
-    /// The bytes lent of all parts.
-    pub fn sum(&self) -> usize {
-        self.0.iter().sum()
     }
 }
 

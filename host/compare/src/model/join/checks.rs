@@ -4,24 +4,21 @@ use super::{FIELD, LAST_OFFSET, Piece, Relocation, Whole};
 use crate::model::Refusal;
 use crate::{MOST_CODE, MOST_ENTRIES, NONE};
 
-/// A reason to refuse.
-pub type JoinCheck = fn(&Whole<'_>) -> Option<Refusal>;
-
-/// What is looked at, in order, each over the whole before the next.
-pub const JOIN_CHECKS: [JoinCheck; 9] = [
-    unknown_label,
-    past_limit,
-    archs_differ,
-    defined_twice,
-    undefined,
-    short_tables,
-    past_piece,
-    past_32_bits,
-    past_output,
-];
+/// Why pieces are not joined: the first reason, each looked for over the whole before the next.
+pub fn unjoined(whole: &Whole<'_>) -> Option<Refusal> {
+    unknown_label(whole)
+        .or_else(|| past_limit(whole))
+        .or_else(|| archs_differ(whole))
+        .or_else(|| defined_twice(whole))
+        .or_else(|| undefined(whole))
+        .or_else(|| short_tables(whole))
+        .or_else(|| past_piece(whole))
+        .or_else(|| past_32_bits(whole))
+        .or_else(|| past_output(whole))
+}
 
 /// "A relocation's unknown label answers 1."
-pub fn unknown_label(whole: &Whole<'_>) -> Option<Refusal> {
+fn unknown_label(whole: &Whole<'_>) -> Option<Refusal> {
     let is_unknown = |piece: &Piece<'_>| {
         let labels = piece.relocations.iter().filter_map(Relocation::label);
         labels
@@ -32,7 +29,7 @@ pub fn unknown_label(whole: &Whole<'_>) -> Option<Refusal> {
 }
 
 /// "Number 3 looks at each piece's tables alone."
-pub fn past_limit(whole: &Whole<'_>) -> Option<Refusal> {
+fn past_limit(whole: &Whole<'_>) -> Option<Refusal> {
     let passes = |piece: &Piece<'_>| {
         piece.code.len() > MOST_CODE
             || piece.labels.len() > MOST_ENTRIES
@@ -43,36 +40,35 @@ pub fn past_limit(whole: &Whole<'_>) -> Option<Refusal> {
 }
 
 /// "27 architectures differ."
-pub fn archs_differ(whole: &Whole<'_>) -> Option<Refusal> {
+fn archs_differ(whole: &Whole<'_>) -> Option<Refusal> {
     let first = whole.pieces.first().map(|piece| piece.arch);
     let differs = |piece: &Piece<'_>| Some(piece.arch) != first;
     whole.pieces.iter().any(differs).then_some(27)
 }
 
 /// "28 a symbol is defined twice."
-pub fn defined_twice(whole: &Whole<'_>) -> Option<Refusal> {
+fn defined_twice(whole: &Whole<'_>) -> Option<Refusal> {
     let mut definitions = whole.definitions.values();
     definitions.any(|one| one.len() > 1).then_some(28)
 }
 
-/// "29 such a relocation's symbol is defined nowhere, or by an unknown or
-/// unbound label."
-pub fn undefined(whole: &Whole<'_>) -> Option<Refusal> {
+/// "29 such a relocation's symbol is defined nowhere, or by an unknown or unbound label."
+fn undefined(whole: &Whole<'_>) -> Option<Refusal> {
     let mut filled = whole.filled();
     filled
-        .any(|(piece, one)| whole.symbol(piece, one).is_none())
+        .any(|(_, one)| whole.symbol(one).is_none())
         .then_some(29)
 }
 
 /// "11 for a short label or relocation table."
-pub fn short_tables(whole: &Whole<'_>) -> Option<Refusal> {
+fn short_tables(whole: &Whole<'_>) -> Option<Refusal> {
     let are_short =
         whole.labels_room < whole.labels() || whole.relocations_room < whole.remaining().count();
     are_short.then_some(11)
 }
 
 /// "A field that passes its piece's end 17."
-pub fn past_piece(whole: &Whole<'_>) -> Option<Refusal> {
+fn past_piece(whole: &Whole<'_>) -> Option<Refusal> {
     let passes = |(piece, one): (usize, &Relocation)| {
         u64::from(one.offset) + FIELD > whole.pieces[piece].code.len() as u64
     };
@@ -80,7 +76,7 @@ pub fn past_piece(whole: &Whole<'_>) -> Option<Refusal> {
 }
 
 /// "A filled value that doesn't fit answers 18."
-pub fn past_32_bits(whole: &Whole<'_>) -> Option<Refusal> {
+fn past_32_bits(whole: &Whole<'_>) -> Option<Refusal> {
     let mut values = whole
         .filled()
         .filter_map(|(piece, one)| whole.value(piece, one));
@@ -90,7 +86,7 @@ pub fn past_32_bits(whole: &Whole<'_>) -> Option<Refusal> {
 }
 
 /// "A short output, or a base, end or moved offset past 4,294,967,294, 23."
-pub fn past_output(whole: &Whole<'_>) -> Option<Refusal> {
+fn past_output(whole: &Whole<'_>) -> Option<Refusal> {
     let bases = whole.pieces.iter().map(|piece| piece.base);
     let labels = whole.pieces.iter().flat_map(|piece| {
         let bound = piece.labels.iter().filter(|offset| **offset != NONE);

@@ -2,8 +2,9 @@
 
 use std::collections::BTreeMap;
 
-use super::{Filling, JoinRules, Laying};
+use super::{base, is_filled};
 use crate::model::Refusal;
+use crate::model::counts::is_arch;
 use crate::vast::{self, VAST};
 use crate::{LABEL_TARGET, Lent, NONE, Part, Vast};
 
@@ -14,18 +15,15 @@ pub struct Relocation {
     pub kind: u32,
     pub target: u32,
     pub addend: i64,
-    /// The word of its entry that says nothing.
-    pub unused: u32,
 }
 
 impl Relocation {
-    fn new([offset, kind, target, unused, low, high]: [u32; 6]) -> Self {
+    fn new([offset, kind, target, _, low, high]: [u32; 6]) -> Self {
         Self {
             offset,
             kind,
             target,
             addend: (u64::from(high) << 32 | u64::from(low)).cast_signed(),
-            unused,
         }
     }
 
@@ -46,7 +44,6 @@ pub struct Definition {
 pub struct Piece<'a> {
     pub arch: u32,
     pub alignment: u32,
-    pub layouts: u32,
     pub code: &'a [u8],
     pub labels: Vec<u32>,
     pub relocations: Vec<Relocation>,
@@ -67,18 +64,11 @@ pub struct Whole<'a> {
     pub output_room: u64,
     pub labels_room: usize,
     pub relocations_room: usize,
-    pub rules: JoinRules,
 }
 
 impl<'a> Whole<'a> {
-    /// The pieces that are lent, or 1: too few or many of them, a record that
-    /// can't occur, or counts that come to more than is lent.
-    pub fn read(
-        lent: &Lent,
-        code: &'a [u8],
-        is_vast: Vast,
-        rules: JoinRules,
-    ) -> Result<Self, Refusal> {
+    /// The pieces that are lent, or 1: too few or many of them, a record that can't occur, or counts that come to more than is lent.
+    pub fn read(lent: &Lent, code: &'a [u8], is_vast: Vast) -> Result<Self, Refusal> {
         let code = if is_vast.is_code() {
             vast::code()
         } else {
@@ -87,11 +77,10 @@ impl<'a> Whole<'a> {
         let records: Vec<[u32; 7]> = (0..lent.room(Part::Pieces))
             .map(|piece| lent.words(Part::Pieces, piece))
             .collect();
-        let occurs =
-            |record: &[u32; 7]| (rules.is_arch)(record[0]) && (rules.is_alignment)(record[2]);
+        let occurs = |record: &[u32; 7]| is_arch(record[0]) && [32, 64].contains(&record[2]);
         let sum =
             |word: usize| -> u64 { records.iter().map(|record| u64::from(record[word])).sum() };
-        if !(rules.is_number)(records.len())
+        if !(1..=256).contains(&records.len())
             || !records.iter().all(occurs)
             || sum(1) > code.len() as u64
             || sum(4) > lent.room(Part::Labels) as u64
@@ -110,25 +99,20 @@ impl<'a> Whole<'a> {
             },
             labels_room: lent.room(Part::JoinedLabels),
             relocations_room: lent.room(Part::JoinedRelocations),
-            rules,
         };
         let mut counted = [0; 4];
-        let greatest = records.iter().map(|record| record[2]).max();
         for record in &records {
-            let greatest = greatest.unwrap_or_default();
-            whole.add(lent, code, record, greatest, &mut counted);
+            whole.add(lent, code, record, &mut counted);
         }
         Ok(whole)
     }
 
-    /// Adds a piece; `counted` is how much of code, labels, relocations and
-    /// definitions belongs to those before it.
+    /// Adds a piece; `counted` is how much of code, labels, relocations and definitions belongs to those before it.
     fn add(
         &mut self,
         lent: &Lent,
         code: &'a [u8],
-        [arch, length, alignment, layouts, counts @ ..]: &[u32; 7],
-        greatest: u32,
+        [arch, length, alignment, _, counts @ ..]: &[u32; 7],
         counted: &mut [usize; 4],
     ) {
         let mut next = |table: usize, count: u32| {
@@ -141,18 +125,9 @@ impl<'a> Whole<'a> {
         let labels = next(1, counts[0]);
         let relocations = next(2, counts[1]);
         let definitions = next(3, counts[2]);
-        let laying = Laying {
-            end: self.end,
-            arch: *arch,
-            alignment: *alignment,
-            length: *length,
-            alignment_before: self.pieces.last().map_or(*alignment, |last| last.alignment),
-            greatest,
-        };
         let piece = Piece {
             arch: *arch,
             alignment: *alignment,
-            layouts: *layouts,
             code,
             labels: labels
                 .map(|entry| lent.word(Part::Labels, entry, 0))
@@ -164,7 +139,7 @@ impl<'a> Whole<'a> {
                 .map(|entry| lent.words(Part::Definitions, entry))
                 .map(|[symbol, label]| (symbol, label))
                 .collect(),
-            base: (self.rules.base)(&laying),
+            base: base(self.end, *arch, *alignment),
             labels_before,
         };
         for (symbol, label) in &piece.definitions {
@@ -197,32 +172,28 @@ impl<'a> Whole<'a> {
 
     /// The relocations that are filled, in order of piece and relocation.
     pub fn filled(&self) -> impl Iterator<Item = (usize, &Relocation)> {
-        let is_filled = self.rules.is_filled;
         self.relocations()
             .filter(move |(piece, one)| is_filled(&self.pieces[*piece], one))
     }
 
     /// The relocations that remain.
     pub fn remaining(&self) -> impl Iterator<Item = (usize, &Relocation)> {
-        let is_filled = self.rules.is_filled;
         self.relocations()
             .filter(move |(piece, one)| !is_filled(&self.pieces[*piece], one))
     }
 
-    /// Where the symbol of a relocation stands.
-    pub fn symbol(&self, piece: usize, relocation: &Relocation) -> Option<u64> {
-        (self.rules.symbol)(self, piece, relocation)
+    /// Where the label that defines a relocation's symbol stands: "defined nowhere, or by an unknown or unbound label" is nowhere.
+    pub fn symbol(&self, relocation: &Relocation) -> Option<u64> {
+        let definition = self.definitions.get(&relocation.target)?.first()?;
+        self.address(definition.piece, definition.label)
     }
 
-    /// The value of a field, where its symbol is known.
+    /// The value of a field, where its symbol is known: "symbol plus addend minus its own place", in 64 bits.
     pub fn value(&self, piece: usize, relocation: &Relocation) -> Option<i64> {
-        let filling = Filling {
-            symbol: self.symbol(piece, relocation)?,
-            addend: relocation.addend,
-            base: self.pieces[piece].base,
-            offset: relocation.offset,
-        };
-        Some((self.rules.value)(&filling))
+        let symbol = self.symbol(relocation)?.cast_signed();
+        let place = self.pieces[piece].base + u64::from(relocation.offset);
+        let sum = symbol.wrapping_add(relocation.addend);
+        Some(sum.wrapping_sub(place.cast_signed()))
     }
 
     pub fn labels(&self) -> usize {

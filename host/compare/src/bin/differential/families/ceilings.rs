@@ -7,14 +7,12 @@ use super::draft::{Draft, any_condition};
 use super::mixed;
 use crate::scenario::{Scenario, Step};
 
-/// The words of an event that say how long it is, on which multiple it ends and
-/// what its ceiling is.
+/// The words of an event that say how long it is, on which multiple it ends and what its ceiling is.
 const LENGTH: usize = 2;
 const MULTIPLE: usize = 3;
 const MOST: usize = 4;
 
-/// A recording, lent all that it needs or nearly so; now and then its events or
-/// its counts are changed by hand.
+/// A recording, lent all that it needs or nearly so; now and then its events or its counts are changed by hand.
 pub fn scenario(random: &mut Random) -> Scenario {
     let draft = match random.below(10) {
         0 | 1 => one_jump(random),
@@ -43,8 +41,8 @@ pub fn scenario(random: &mut Random) -> Scenario {
     scenario
 }
 
-/// The smallest recordings in which an alignment gains padding or loses it: a
-/// jump that becomes short, a few bytes, an alignment, and the jump's label.
+/// The smallest recordings in which an alignment gains padding or loses it: a jump that becomes short, a few bytes, an alignment, and the jump's
+/// label.
 fn one_jump(random: &mut Random) -> Draft {
     let mut draft = Draft::new(random.pick(&[X64, X64, X64, X64, X64, X86, AARCH64]));
     let label = draft.label();
@@ -63,8 +61,7 @@ fn one_jump(random: &mut Random) -> Draft {
     draft
 }
 
-/// Jumps of which one grows because another did, or because an alignment
-/// between them spends again what it spent no longer.
+/// Jumps of which one grows because another did, or because an alignment between them spends again what it spent no longer.
 fn chain(random: &mut Random) -> Draft {
     let mut draft = Draft::new(X64);
     let jumps = random.between(2, 12);
@@ -122,7 +119,7 @@ fn align(draft: &mut Draft, random: &mut Random, multiples: &[u32]) {
     let unfit = random.pick(&[0, 3, 12, 8192, 1 << 31]);
     let fit = random.pick(multiples);
     let multiple = if draft.strays(random, 2) { unfit } else { fit };
-    let most = ceiling(random, draft.padding(multiple, 0).needed, multiple);
+    let most = ceiling(random, draft.needed(multiple), multiple);
     if random.chance(15) {
         draft.here();
     }
@@ -151,8 +148,7 @@ fn ceiling(random: &mut Random, needed: u32, multiple: u32) -> u32 {
     }
 }
 
-/// Before the finish, words of one of so many events are changed: most often a
-/// ceiling.
+/// Before the finish, words of one of so many events are changed: most often a ceiling.
 fn change_event(steps: &mut Vec<Step>, random: &mut Random, events: u32) {
     let event = random.below(events.max(1)) as usize;
     for _ in 0..random.pick(&[1, 1, 2]) {
@@ -171,8 +167,8 @@ fn change_event(steps: &mut Vec<Step>, random: &mut Random, events: u32) {
     }
 }
 
-/// Somewhere, a table is said to have more entries than most are lent, and an
-/// alignment is made by a direct call, which is lent only some of the tables.
+/// Somewhere, a table is said to have more entries than most are lent, and an alignment is made by a direct call, which is lent only some of the
+/// tables.
 fn change_count(steps: &mut Vec<Step>, random: &mut Random) {
     let table = random.below(Part::TABLES.len() as u32) as usize;
     let write = Step::Write {

@@ -2,7 +2,7 @@
 
 use std::borrow::Cow;
 
-use compare::ceilings::{CeilingRules, Padding, in_sheet};
+use compare::ceilings::{in_sheet, needed, spent};
 use compare::{AARCH64, LABEL_TARGET, Random, X64};
 use reference::Call;
 
@@ -136,13 +136,13 @@ impl Draft {
 
     fn spend(&mut self, multiple: u32, most: u32) {
         if multiple.is_power_of_two() && multiple <= 4096 {
-            self.offset += self.padding(multiple, most).spent;
+            self.offset += spent(self.offset, multiple, most);
         }
     }
 
-    /// What an alignment comes to here.
-    pub fn padding(&self, multiple: u32, most: u32) -> Padding {
-        CeilingRules::default().padding(self.offset, multiple, most)
+    /// The least padding that reaches a multiple here.
+    pub fn needed(&self, multiple: u32) -> u32 {
+        needed(self.offset, multiple)
     }
 
     /// Bytes, and the jump that they are.
@@ -242,8 +242,7 @@ impl Draft {
         }
     }
 
-    /// A label that was made, one of the last in half of the cases, or now and
-    /// then any number.
+    /// A label that was made, one of the last in half of the cases, or now and then any number.
     pub fn any_label(&mut self, random: &mut Random) -> u32 {
         if self.labels() == 0 {
             return self.label();
@@ -267,8 +266,7 @@ impl Draft {
         self.any_label(random).wrapping_add(LABEL_TARGET)
     }
 
-    /// Sheets that make the calls, direct calls between them for bytes, constants
-    /// and alignments that no sheet carries, and a finish.
+    /// Sheets that make the calls, direct calls between them for bytes, constants and alignments that no sheet carries, and a finish.
     pub fn into_steps(self) -> Vec<Step> {
         let mut steps = Vec::new();
         for (place, call) in self.calls.into_iter().enumerate() {

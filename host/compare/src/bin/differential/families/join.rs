@@ -12,11 +12,6 @@ pub use super::relas::words_of;
 use crate::scenario::Scenario;
 pub use handed::Handed;
 
-/// Joins with full tables alone, by number.
-pub fn table(number: u64) -> Scenario {
-    large::table(&mut Random::of(0, number)).into_scenario(number)
-}
-
 pub fn scenario(random: &mut Random) -> Scenario {
     let handed = match random.below(4_000) {
         0 => large::code(random),

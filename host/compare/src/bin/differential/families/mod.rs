@@ -24,7 +24,7 @@ mod types;
 use compare::{Lent, Random};
 
 use crate::scenario::Scenario;
-pub use join::{Handed, table as join_table};
+pub use join::Handed;
 pub use joins::alone as join_faults;
 
 /// A family of inputs.
@@ -89,8 +89,7 @@ impl Family {
         }
     }
 
-    /// The input of a number. Numbered ones are taken in leaps, so that a few
-    /// of them are of every kind; the leap is prime to the total.
+    /// The input of a number. Numbered ones are taken in leaps, so that a few of them are of every kind; the leap is prime to the total.
     pub fn scenario(&self, seed: u64, index: u64) -> Scenario {
         match &self.source {
             Source::Numbered { total, make } => {
@@ -101,8 +100,7 @@ impl Family {
         }
     }
 
-    /// The same input with lent memory that is just long enough, or nearly so,
-    /// if the family asks for it; `lent` is what the input came to.
+    /// The same input with lent memory that is just long enough, or nearly so, if the family asks for it; `lent` is what the input came to.
     pub fn tightened(
         &self,
         scenario: Scenario,
