@@ -17,8 +17,7 @@ impl Reply {
     }
 }
 
-/// The C functions of include/wargnifla.h, on memory that the implementor
-/// holds.
+/// The C functions of include/wargnifla.h, on memory that the implementor holds.
 pub trait Boundary {
     fn start(&mut self, arch: u32, symbols: u32) -> Reply;
     fn run_sheet(&mut self, sheet: &[u8]) -> Reply;

@@ -2,8 +2,7 @@
 
 use std::ops::{Index, IndexMut};
 
-/// One thing that is lent: the counts, a table, what finish writes to, ELF
-/// entries, or what join takes and writes beside these.
+/// One thing that is lent: the counts, a table, what finish writes to, ELF entries, or what join takes and writes beside these.
 #[derive(Clone, Copy, Debug, PartialEq, Eq)]
 pub enum Part {
     Counts,

@@ -63,9 +63,8 @@ impl Guarded {
 
 /// The C functions on guarded memory.
 ///
-/// Each `unsafe` below lends pointers to parts that live in `self`, are apart
-/// from one another, are as long as is said, and are read and written by no one
-/// else before the call ends: what include/wargnifla.h asks of a caller.
+/// Each `unsafe` below lends pointers to parts that live in `self`, are apart from one another, are as long as is said, and are read and written by
+/// no one else before the call ends: what include/wargnifla.h asks of a caller.
 #[derive(Default)]
 pub struct Ours {
     parts: [Guarded; Part::COUNT],
@@ -74,8 +73,7 @@ pub struct Ours {
 }
 
 impl Ours {
-    /// Takes a copy of what is lent. Byte tables start `shift` bytes past a
-    /// multiple of 16, segments on a multiple of 4.
+    /// Takes a copy of what is lent. Byte tables start `shift` bytes past a multiple of 16, segments on a multiple of 4.
     pub fn lend(&mut self, lent: &Lent, shift: usize) {
         for part in Part::ALL {
             let shift = match part {
@@ -210,8 +208,7 @@ impl Boundary for Ours {
     }
 }
 
-/// Pointers to all that [`Ours`] lends, which it does not move as long as this
-/// lives.
+/// Pointers to all that [`Ours`] lends, which it does not move as long as this lives.
 pub struct Lending<'a> {
     pointers: [(*mut u8, usize); Part::COUNT],
     lent: PhantomData<&'a mut Ours>,
@@ -220,8 +217,7 @@ pub struct Lending<'a> {
 impl Lending<'_> {
     pub fn content(&self, part: Part) -> &[u8] {
         let (bytes, len) = self.pointers[part as usize];
-        // SAFETY: the part has so many bytes and is written by the calls below
-        // alone, each of which borrows `self` mutably.
+        // SAFETY: the part has so many bytes and is written by the calls below alone, each of which borrows `self` mutably.
         unsafe { std::slice::from_raw_parts(bytes, len) }
     }
 
@@ -382,8 +378,7 @@ impl Lending<'_> {
         if let Some(start) = is_vast.output() {
             (output, output_len) = (start, VAST);
         }
-        // SAFETY: see `Ours`. What is vast stays for good; an output that can't be
-        // written is lent to joins that are to be refused.
+        // SAFETY: see `Ours`. What is vast stays for good; an output that can't be written is lent to joins that are to be refused.
         let refusal = unsafe {
             ffi::wargnifla_join(
                 pieces,

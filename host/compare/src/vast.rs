@@ -3,16 +3,14 @@
 use std::ptr;
 use std::sync::OnceLock;
 
-/// What of a join is vast: the code that it takes, its output too, or neither.
-/// Vast memory is mapped and no more, so that it costs nothing where it is not
-/// written; it is longer than 2^32, and all zeros.
+/// What of a join is vast: the code that it takes, its output too, or neither. Vast memory is mapped and no more, so that it costs nothing where it
+/// is not written; it is longer than 2^32, and all zeros.
 #[derive(Clone, Copy, Debug, Default, PartialEq, Eq)]
 pub enum Vast {
     #[default]
     Neither,
     Code,
-    /// Code, and an output that can't be written: a join that writes to it ends
-    /// the program.
+    /// Code, and an output that can't be written: a join that writes to it ends the program.
     Both,
     /// Code, and an output that can be written.
     Written,

@@ -1,5 +1,4 @@
-//! A rule editor's keystrokes: a call each, and how many entries are open after
-//! it, kept by the recording or counted afresh by a plain loop.
+//! A rule editor's keystrokes: a call each, and how many entries are open after it, kept by the recording or counted afresh by a plain loop.
 
 use std::borrow::Cow;
 use std::hint::black_box;

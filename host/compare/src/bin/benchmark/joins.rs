@@ -1,5 +1,4 @@
-//! Finished records joined: by the C function, and by the Rust's linker, which
-//! fills no field.
+//! Finished records joined: by the C function, and by the Rust's linker, which fills no field.
 
 use compare::{
     LABEL_TARGET, Lending, Lent, MOST_CODE, MOST_ENTRIES, Ours, Part, Piece, Random, Vast, X64,
@@ -35,8 +34,7 @@ fn plain(length: usize) -> Piece {
     Piece::new(X64, 32, vec![0x90; length])
 }
 
-/// A rule, finished, with four of its labels exported and calls of what the
-/// others export.
+/// A rule, finished, with four of its labels exported and calls of what the others export.
 fn rules(steps: &[Step], count: u32, calls: u32) -> Vec<Piece> {
     const EXPORTED: u32 = 4;
     let [Step::Sheet(sheet)] = steps else {
@@ -78,8 +76,7 @@ pub fn many() -> Vec<Piece> {
     spread(256, 4, 6, 100, |symbol| symbol)
 }
 
-/// Pieces with some definitions each, calls of any of them, and two relocations
-/// that remain.
+/// Pieces with some definitions each, calls of any of them, and two relocations that remain.
 fn spread(
     count: u32,
     definitions: u32,
@@ -182,8 +179,7 @@ impl Side for Joining<'_> {
     }
 }
 
-/// The linker. It takes the pieces, so they are handed to it anew before each
-/// run.
+/// The linker. It takes the pieces, so they are handed to it anew before each run.
 pub struct Linked {
     pieces: Vec<reference::Piece>,
     /// Whether join fills each relocation, by their numbers.

@@ -9,8 +9,7 @@ use compare::MOST_ENTRIES;
 
 use crate::inputs::{Draft, Step};
 
-/// A recording of the library's code, each jump in its long form, and what the
-/// file itself made of the jumps.
+/// A recording of the library's code, each jump in its long form, and what the file itself made of the jumps.
 pub struct Library {
     pub steps: Vec<Step>,
     /// Bytes of code in the file.
@@ -89,8 +88,7 @@ fn instructions(listing: &str) -> Result<Vec<Instruction>, String> {
     Ok(read)
 }
 
-/// A direct jump: the address that it goes to, its condition or 16, and whether
-/// it has its long form.
+/// A direct jump: the address that it goes to, its condition or 16, and whether it has its long form.
 struct Jump {
     target: u64,
     condition: u32,
@@ -102,8 +100,7 @@ impl Instruction {
         self.address + self.bytes.len() as u64
     }
 
-    /// A `jmp` or `jcc` in one of the two forms that finish writes; one with a
-    /// prefix is none.
+    /// A `jmp` or `jcc` in one of the two forms that finish writes; one with a prefix is none.
     fn jump(&self) -> Option<Jump> {
         let (condition, distance) = match self.bytes[..] {
             [0xEB, near] => (16, i64::from(near.cast_signed())),
@@ -122,8 +119,7 @@ impl Instruction {
     }
 }
 
-/// For each instruction, the jump that it is and the instruction that this goes
-/// to: none where it goes elsewhere, or past the limit of a table.
+/// For each instruction, the jump that it is and the instruction that this goes to: none where it goes elsewhere, or past the limit of a table.
 fn jumps(instructions: &[Instruction]) -> Vec<Option<(Jump, usize)>> {
     let addresses = instructions.iter().map(|instruction| instruction.address);
     let indices: HashMap<u64, usize> = addresses.zip(0..).collect();

@@ -1,5 +1,4 @@
-//! Ours against the Rust, in one process and on the same inputs. See
-//! host/compare/README.md for what is timed.
+//! Ours against the Rust, in one process and on the same inputs. See host/compare/README.md for what is timed.
 
 mod editor;
 mod inputs;

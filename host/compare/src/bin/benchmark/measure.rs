@@ -5,8 +5,7 @@ use std::time::{Duration, Instant};
 /// What a run is timed by.
 #[derive(Clone, Copy)]
 pub enum Clock {
-    /// The processor time that this thread has used: on a machine that does
-    /// other things too it tells more than a clock on the wall.
+    /// The processor time that this thread has used: on a machine that does other things too it tells more than a clock on the wall.
     Processor,
     /// The clock on the wall, which is read faster: for batches of short runs.
     Wall,
@@ -57,8 +56,7 @@ pub struct Effort {
     pub time: Duration,
     pub fewest: usize,
     pub most: usize,
-    /// So many runs of the first alone follow, where the second takes so long
-    /// that few turns are enough.
+    /// So many runs of the first alone follow, where the second takes so long that few turns are enough.
     pub alone: usize,
 }
 
@@ -67,16 +65,14 @@ pub struct Measured {
     /// The medians, in nanoseconds.
     pub first: f64,
     pub second: f64,
-    /// The quartiles of the first by the second, each run by the one beside
-    /// it, since a machine is faster at one time than at another.
+    /// The quartiles of the first by the second, each run by the one beside it, since a machine is faster at one time than at another.
     pub ratio: [f64; 3],
     pub runs: usize,
     /// Runs of the first that stand beside the last of the second.
     pub alone: usize,
 }
 
-/// Measures two things that take turns. One run of each is not counted, unless
-/// two are enough.
+/// Measures two things that take turns. One run of each is not counted, unless two are enough.
 pub fn take_turns(
     effort: Effort,
     mut first: impl FnMut() -> Duration,

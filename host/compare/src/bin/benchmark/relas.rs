@@ -1,5 +1,4 @@
-//! Relocations written as ELF entries, and entries read: by the C functions,
-//! and by plain loops in the Rust's place, which has nothing of the kind.
+//! Relocations written as ELF entries, and entries read: by the C functions, and by plain loops in the Rust's place, which has nothing of the kind.
 
 use std::hint::black_box;
 

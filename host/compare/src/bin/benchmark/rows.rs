@@ -24,15 +24,13 @@ pub enum Sides {
     Verified(HandOut),
     /// The host's wrapper, and the Rust.
     Wrapper(HandOut),
-    /// The C functions, and the Rust on another recording, which it finishes to
-    /// other code.
+    /// The C functions, and the Rust on another recording, which it finishes to other code.
     Instead(fn() -> Vec<Step>),
     /// The C functions, and a copy of as many bytes as may be recorded.
     Copy,
     /// The C functions for ELF entries, and plain loops.
     Relas(Task),
-    /// The C functions for the calls of an editor, which shows the number of
-    /// open entries that they keep, or counts afresh.
+    /// The C functions for the calls of an editor, which shows the number of open entries that they keep, or counts afresh.
     Editor,
     /// The C function for joins, and the Rust's linker.
     Join(fn() -> Vec<Piece>, Linking),
@@ -53,8 +51,7 @@ pub struct Row {
     pub sides: Sides,
     pub input: Input,
     pub arch: u32,
-    /// So many recordings are timed together; by the clock on the wall, if
-    /// there is more than one.
+    /// So many recordings are timed together; by the clock on the wall, if there is more than one.
     pub batch: usize,
     /// The fewest runs that are enough.
     pub fewest: usize,
@@ -92,8 +89,7 @@ const fn join(name: &'static str, about: &'static str, pieces: fn() -> Vec<Piece
 }
 
 impl Row {
-    /// How many recordings are held at a time: those of a batch, unless each
-    /// is forgotten before the next.
+    /// How many recordings are held at a time: those of a batch, unless each is forgotten before the next.
     pub fn recordings(&self) -> usize {
         match self.timed {
             Timed::Whole => 1,

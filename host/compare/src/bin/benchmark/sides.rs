@@ -16,16 +16,14 @@ pub trait Side {
     fn finish(&mut self);
     /// What the first recording finished to.
     fn code(&mut self) -> &[u8];
-    /// Records, finishes and forgets one recording, a local variable if it owns
-    /// memory.
+    /// Records, finishes and forgets one recording, a local variable if it owns memory.
     fn whole(&mut self, steps: &[Step]) {
         self.record(steps);
         self.finish();
     }
 }
 
-/// Memory for as many recordings, lent to the C functions before anything is
-/// timed: as large as the limits allow, where there is one recording.
+/// Memory for as many recordings, lent to the C functions before anything is timed: as large as the limits allow, where there is one recording.
 pub fn memory(recordings: usize) -> Vec<Ours> {
     let (most_code, most_entries) = match recordings {
         1 => (MOST_CODE, MOST_ENTRIES),

@@ -3,13 +3,11 @@
 use compare::model::relas::ELF_TYPES;
 use compare::{Lent, Part};
 
-/// What is written by hand: relocations, a record that counts them, and the ELF
-/// entries, which are spoilt.
+/// What is written by hand: relocations, a record that counts them, and the ELF entries, which are spoilt.
 pub const WRITTEN: [Part; 3] = [Part::Record, Part::Relocations, Part::Relas];
 
-/// Makes the entries that were read relocations against symbols, of kinds that
-/// have their types, up to the first that is of another architecture or has no
-/// room; and spoils the ELF entries that are to be written of them.
+/// Makes the entries that were read relocations against symbols, of kinds that have their types, up to the first that is of another architecture or
+/// has no room; and spoils the ELF entries that are to be written of them.
 pub fn take_back(lent: &mut Lent) {
     let rooms = [Part::Relas, Part::Entries, Part::Relocations].map(|part| lent.room(part));
     let room = rooms.into_iter().min().unwrap_or_default();

@@ -1,11 +1,8 @@
 //! Joins beside the Rust's linker and loader.
 //!
-//! The linker lays pieces out, moves labels and relocations, and fills nothing:
-//! layout, bytes outside fields, labels, the relocations that remain and the
-//! alignment are compared with its image; filled fields with what the image's
-//! labels and offsets come to, and with what the loader makes of it. What the
-//! linker refuses otherwise docs/DIFFERENCES.md lists, and [`why_unlinked`] says
-//! of any pieces: that is compared, too.
+//! The linker lays pieces out, moves labels and relocations, and fills nothing: layout, bytes outside fields, labels, the relocations that remain and
+//! the alignment are compared with its image; filled fields with what the image's labels and offsets come to, and with what the loader makes of it.
+//! What the linker refuses otherwise docs/DIFFERENCES.md lists, and [`why_unlinked`] says of any pieces: that is compared, too.
 
 mod image;
 mod refusals;
@@ -15,8 +12,7 @@ use reference::{Error, Image, Link, Piece, Relocation, is_filled, quietly};
 
 use refusals::{refused_by_both, why_unlinked};
 
-/// The linker looks through all definitions for each relocation, definition and
-/// symbol: no more than this are put to it.
+/// The linker looks through all definitions for each relocation, definition and symbol: no more than this are put to it.
 const MOST_LOOKS: usize = 400_000;
 
 /// What pieces on AArch64 start on; the linker takes it for a section.

@@ -1,5 +1,4 @@
-//! Differential runs: ours, a plain model of document 01 and the Rust, on the
-//! same inputs. See host/compare/README.md.
+//! Differential runs: ours, a plain model of document 01 and the Rust, on the same inputs. See host/compare/README.md.
 
 mod again;
 mod families;

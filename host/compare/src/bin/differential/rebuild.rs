@@ -1,5 +1,4 @@
-//! Calls that lead to given tables, so that the Rust can be brought to a
-//! recording that was made by hand.
+//! Calls that lead to given tables, so that the Rust can be brought to a recording that was made by hand.
 
 use std::borrow::Cow;
 
@@ -8,8 +7,7 @@ use reference::Call;
 
 use crate::scenario::alignment;
 
-/// The calls, if there are any: labels that constants share, or that do not
-/// rise in the order of asking, cannot be had by calls. Entries that no
+/// The calls, if there are any: labels that constants share, or that do not rise in the order of asking, cannot be had by calls. Entries that no
 /// recording writes give calls that are refused, or nothing.
 pub fn calls(lent: &Lent) -> Option<Vec<Call<'static>>> {
     let tables = Tables::new(lent)?;
@@ -27,8 +25,7 @@ struct Tables<'a> {
 }
 
 impl<'a> Tables<'a> {
-    /// Nothing if a count passes what is lent, or the recording was refused
-    /// or has finished.
+    /// Nothing if a count passes what is lent, or the recording was refused or has finished.
     fn new(lent: &'a Lent) -> Option<Self> {
         if lent.room(Part::Counts) == 0 {
             return None;

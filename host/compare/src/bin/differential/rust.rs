@@ -29,8 +29,7 @@ pub struct Rust<'a> {
 }
 
 impl<'a> Rust<'a> {
-    /// Finishes that meet one of the departures are compared only where the Rust
-    /// can be told of it.
+    /// Finishes that meet one of the departures are compared only where the Rust can be told of it.
     pub fn new(scenario: &Scenario, departures: &'static [Departure]) -> Self {
         let Scenario { arch, symbols, .. } = *scenario;
         let recording = can_start(arch, symbols).then(|| Recording::new(arch, symbols).ok());
@@ -53,8 +52,7 @@ impl<'a> Rust<'a> {
         met
     }
 
-    /// Before a finish of tables made by hand: brings the Rust to the same
-    /// recording, where calls lead to it.
+    /// Before a finish of tables made by hand: brings the Rust to the same recording, where calls lead to it.
     pub fn before(&mut self, step: &Step, lent: &Lent) {
         if !matches!(step, Step::Finish) || !std::mem::take(&mut self.by_hand) {
             return;
@@ -83,8 +81,7 @@ impl<'a> Rust<'a> {
             .filter(|recording| recording.code() == code);
     }
 
-    /// Makes a step that ours, and the model, answered so; says what the Rust
-    /// answers otherwise.
+    /// Makes a step that ours, and the model, answered so; says what the Rust answers otherwise.
     pub fn step(&mut self, step: &'a Step, reply: Reply, lent: &Lent) -> Result<(), String> {
         match step {
             Step::Finish => self.finish(reply, lent),
@@ -116,8 +113,7 @@ impl<'a> Rust<'a> {
         }
     }
 
-    /// Calls of which as many as the reply's value are accepted, and the next
-    /// is refused if the reply is a refusal.
+    /// Calls of which as many as the reply's value are accepted, and the next is refused if the reply is a refusal.
     fn calls(&mut self, calls: &[Call<'a>], reply: Reply) -> Result<(), String> {
         let Some(mut recording) = self.recording.take() else {
             return Ok(());

@@ -1,5 +1,4 @@
-//! Shows that the comparison can fail: every fault put into ours is found,
-//! against the model even where a departure leaves the Rust aside.
+//! Shows that the comparison can fail: every fault put into ours is found, against the model even where a departure leaves the Rust aside.
 
 mod join;
 mod links;
@@ -79,15 +78,16 @@ fn against_model(family: &Family, runner: &mut Runner, findings: &mut Findings) 
         let step = call_of(&scenario, index);
         for fault in Fault::all() {
             if has_effect(fault, &scenario, step) {
-                let found = runner.run_with(&scenario, Some((step, Put::Fault(fault)))).is_err();
+                let found = runner
+                    .run_with(&scenario, Some((step, Put::Fault(fault))))
+                    .is_err();
                 findings.add(found, || format!("{} {index}: {fault:?}", family.name));
             }
         }
     }
 }
 
-/// The step that a fault is put into: any for one input or another, but one
-/// that makes a call.
+/// The step that a fault is put into: any for one input or another, but one that makes a call.
 fn call_of(scenario: &Scenario, index: u64) -> usize {
     let steps = scenario.steps.iter().enumerate();
     let calls: Vec<_> = steps
@@ -106,8 +106,7 @@ fn has_effect(fault: Fault, scenario: &Scenario, step: usize) -> bool {
     }
 }
 
-/// Inputs of one sheet and a finish, all of it accepted and compared with the
-/// Rust, and what they leave in lent memory.
+/// Inputs of one sheet and a finish, all of it accepted and compared with the Rust, and what they leave in lent memory.
 fn finished_inputs(
     family: &Family,
     runner: &mut Runner,
@@ -149,8 +148,7 @@ fn finished_by_rust(scenario: &Scenario, calls: &[Call<'_>]) -> Finished {
     finished().unwrap_or_else(|error: Error| panic!("it agrees with ours: {error}"))
 }
 
-/// A recording that meets a departure is held against the model, not against
-/// the Rust, and counted under its name; any other is held against both.
+/// A recording that meets a departure is held against the model, not against the Rust, and counted under its name; any other is held against both.
 fn with_departures(family: &Family, runner: &mut Runner, findings: &mut Findings) {
     let mut departing = Runner::departing(DEPARTURES);
     let mut tally = Tally::new(family.name, family.subject);
@@ -180,8 +178,7 @@ fn with_departures(family: &Family, runner: &mut Runner, findings: &mut Findings
     });
 }
 
-/// Whether the Rust, beside accepted calls and a finish, differs from what is
-/// left in lent memory.
+/// Whether the Rust, beside accepted calls and a finish, differs from what is left in lent memory.
 fn is_held_against_rust(scenario: &Scenario, lent: &Lent) -> bool {
     let mut rust = Rust::new(scenario, DEPARTURES);
     scenario.steps.iter().any(|step| {
@@ -190,8 +187,7 @@ fn is_held_against_rust(scenario: &Scenario, lent: &Lent) -> bool {
     })
 }
 
-/// Places in what a finish left that are compared with the Rust: words of the
-/// record, labels, relocations, and some of the code.
+/// Places in what a finish left that are compared with the Rust: words of the record, labels, relocations, and some of the code.
 fn compared_bytes(lent: &Lent) -> Vec<(Part, usize)> {
     let [_, length, _, _, labels, relocations] = lent.words(Part::Record, 0);
     let relocation = Part::Relocations.entry_bytes();
@@ -206,8 +202,7 @@ fn compared_bytes(lent: &Lent) -> Vec<(Part, usize)> {
     bytes
 }
 
-/// Of the recordings that finish, those that meet a departure would differ
-/// from the Rust, and no others.
+/// Of the recordings that finish, those that meet a departure would differ from the Rust, and no others.
 fn as_wide_as_the_change(family: &Family, runner: &mut Runner, findings: &mut Findings) {
     let mut undeparted = Runner::departing(&[]);
     for index in 0..INPUTS {

@@ -6,18 +6,15 @@ use crate::families::Handed;
 use crate::runner::Runner;
 use crate::self_test::Findings;
 
-/// Where the last piece starts, and an offset in it that is moved to the last
-/// that there is.
+/// Where the last piece starts, and an offset in it that is moved to the last that there is.
 const LAST_BASE: u32 = 255 << 24;
 const LAST: u32 = 4_294_967_294 - LAST_BASE;
-/// The piece that calls the last one, the offset of its call and of the label
-/// that it calls.
+/// The piece that calls the last one, the offset of its call and of the label that it calls.
 const CALLING: usize = 200;
 const CALL: u32 = 16;
 const CALLED: u32 = 5;
 
-/// 256 pieces of 16 MiB, of which the last is so much shorter; the last offset
-/// of it is a label's and a relocation's, moved by as much.
+/// 256 pieces of 16 MiB, of which the last is so much shorter; the last offset of it is a label's and a relocation's, moved by as much.
 fn handed(shorter: u32, moved: u32) -> Handed {
     let mut pieces = vec![Piece::new(X64, 64, Vec::new()); 256];
     for piece in &mut pieces {

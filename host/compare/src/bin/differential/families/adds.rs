@@ -19,8 +19,7 @@ struct Use {
     target: u32,
 }
 
-/// Uses over the same bytes, or bytes that they share in part, up to the end
-/// of the pool. What stands there at first is drawn by the labels' bits.
+/// Uses over the same bytes, or bytes that they share in part, up to the end of the pool. What stands there at first is drawn by the labels' bits.
 pub fn scenario(random: &mut Random) -> Scenario {
     let mut draft = Draft::new(AARCH64);
     let mut code = code(random);
@@ -43,8 +42,7 @@ pub fn scenario(random: &mut Random) -> Scenario {
     Scenario::new(AARCH64, 0, random.number(), draft.into_steps())
 }
 
-/// Bytes of no pattern, or zeros: few, most often, and now and then enough for
-/// the label's higher bits, or for a page or two.
+/// Bytes of no pattern, or zeros: few, most often, and now and then enough for the label's higher bits, or for a page or two.
 fn code(random: &mut Random) -> Vec<u8> {
     let length = match random.below(40) {
         0 => PAGE * random.between(1, 2) - 8 + random.below(16),
@@ -57,8 +55,7 @@ fn code(random: &mut Random) -> Vec<u8> {
     random.bytes(length as usize)
 }
 
-/// The offset of a label: around the last page's start, if there is one, or
-/// anywhere.
+/// The offset of a label: around the last page's start, if there is one, or anywhere.
 fn target(random: &mut Random, length: u32) -> u32 {
     let page = length / PAGE * PAGE;
     if page > 0 && random.chance(70) {
@@ -139,8 +136,7 @@ fn hold(random: &mut Random, code: &mut [u8], each: &Use) {
     }
 }
 
-/// What a field holds before a label is written into it: nothing, everything,
-/// one bit, some or all or the others of the label's, or anything.
+/// What a field holds before a label is written into it: nothing, everything, one bit, some or all or the others of the label's, or anything.
 fn held(random: &mut Random, target: u32) -> u32 {
     match random.below(7) {
         0 => 0,

@@ -5,8 +5,7 @@ use compare::{Random, X64};
 use super::draft::{Draft, any_condition};
 use crate::scenario::{Scenario, Step};
 
-/// Jumps stand side by side, and the label of each so far behind them that it
-/// is in reach only while the jumps after its own are short.
+/// Jumps stand side by side, and the label of each so far behind them that it is in reach only while the jumps after its own are short.
 pub fn scenario(random: &mut Random) -> Scenario {
     let mut draft = Draft::new(X64);
     let jumps = random.between(2, 40);

@@ -1,6 +1,5 @@
-//! All small joins: the layout of one to three pieces, one relocation with every
-//! target, definitions everywhere, fields that overlap, every length lent; and
-//! one join with every fault, every two and every three of them.
+//! All small joins: the layout of one to three pieces, one relocation with every target, definitions everywhere, fields that overlap, every length
+//! lent; and one join with every fault, every two and every three of them.
 
 mod faults;
 
@@ -36,8 +35,7 @@ const LAYOUTS: u64 = (ARCHS.len() * (ALIGNMENTS.len() * LAID.len()).pow(3) * 9) 
 /// Two fields in ten bytes, against two labels.
 const OVERLAPS: u64 = 8 * 8 * 2 * 2 * 3;
 
-/// The parts that a join is lent, each of every length up to this many bytes
-/// more than is needed.
+/// The parts that a join is lent, each of every length up to this many bytes more than is needed.
 const LENT: [Part; 9] = [
     Part::Pieces,
     Part::Code,

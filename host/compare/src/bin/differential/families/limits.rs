@@ -142,8 +142,7 @@ fn full_table(random: &mut Random) -> Scenario {
     scenario
 }
 
-/// Four full tables whose entries are all open, or all but one or two: as many
-/// as can be. Then the bind of what most of them name, or one more.
+/// Four full tables whose entries are all open, or all but one or two: as many as can be. Then the bind of what most of them name, or one more.
 fn most_open(random: &mut Random) -> Scenario {
     let (label, code, kind) = (0, 0, 0);
     let mut calls = vec![Call::NewLabel, Call::NewLabel];
@@ -187,8 +186,7 @@ fn most_open(random: &mut Random) -> Scenario {
     Scenario::new(X64, 0, random.number(), steps)
 }
 
-/// As many uses as there may be, of labels that one sheet binds in any order,
-/// some of them before they are used.
+/// As many uses as there may be, of labels that one sheet binds in any order, some of them before they are used.
 fn many_binds(random: &mut Random) -> Scenario {
     const LABELS: u32 = 512;
     let mut calls = vec![Call::NewLabel; LABELS as usize];
@@ -227,8 +225,7 @@ fn many_binds(random: &mut Random) -> Scenario {
     Scenario::new(X64, 0, random.number(), steps)
 }
 
-/// As many events as the table of segments may have, with a pooled constant
-/// or without.
+/// As many events as the table of segments may have, with a pooled constant or without.
 fn many_events(random: &mut Random) -> Scenario {
     let mut calls = vec![
         Call::NewLabel,
@@ -253,8 +250,7 @@ fn many_events(random: &mut Random) -> Scenario {
     scenario
 }
 
-/// An alignment that would pass the limit of code, or end at it, if its ceiling
-/// let it.
+/// An alignment that would pass the limit of code, or end at it, if its ceiling let it.
 fn padded_to_the_limit(random: &mut Random) -> Scenario {
     let multiple = random.pick(&[8, 4096]);
     let short = random.pick(&[0, 1, 7, 8, 4095]);
@@ -275,9 +271,8 @@ fn padded_to_the_limit(random: &mut Random) -> Scenario {
     scenario
 }
 
-/// A jump, and as many alignments with one ceiling as the table takes beside it:
-/// all are skipped, or the first spends what the others then need not, and which
-/// it is may change when the jump becomes short.
+/// A jump, and as many alignments with one ceiling as the table takes beside it: all are skipped, or the first spends what the others then need not,
+/// and which it is may change when the jump becomes short.
 fn full_of_ceilings(random: &mut Random) -> Scenario {
     let mut calls = vec![
         Call::NewLabel,

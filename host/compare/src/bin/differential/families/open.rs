@@ -1,5 +1,4 @@
-//! Numbers of open entries that are handed in, most of them wrong, and tables
-//! made by hand that name labels as no recording does.
+//! Numbers of open entries that are handed in, most of them wrong, and tables made by hand that name labels as no recording does.
 
 use compare::open::MOST_OPEN;
 use compare::{AARCH64, LABEL_TARGET, MOST_ENTRIES, NONE, Part, Random, X64, X86};
@@ -47,8 +46,7 @@ fn any_arch(random: &mut Random) -> u32 {
     random.pick(&[X64, X64, X64, X86, AARCH64])
 }
 
-/// A recording in several sheets, with numbers, direct calls and finishes
-/// between them, and calls after the last.
+/// A recording in several sheets, with numbers, direct calls and finishes between them, and calls after the last.
 fn between_sheets(random: &mut Random) -> Scenario {
     let mut draft = Draft::new(any_arch(random));
     draft.careful = random.chance(70);
@@ -130,8 +128,7 @@ fn sheet(draft: &mut Draft) -> Step {
     Step::Sheet(std::mem::take(&mut draft.calls))
 }
 
-/// Several entries of few labels, a number that may be less than they are, and
-/// binds, few or many in a sheet; more of the same.
+/// Several entries of few labels, a number that may be less than they are, and binds, few or many in a sheet; more of the same.
 fn before_binds(random: &mut Random) -> Scenario {
     let mut draft = Draft::new(any_arch(random));
     draft.symbols = 0;
@@ -201,8 +198,7 @@ fn write(part: Part, entry: usize, word: usize, words: &[u32]) -> Step {
 /// The room for entries that are made by hand, of each table.
 const BY_HAND: usize = 4;
 
-/// Entries that name known labels and unknown ones, on every architecture, and
-/// labels bound and unbound by hand; new labels and binds on them.
+/// Entries that name known labels and unknown ones, on every architecture, and labels bound and unbound by hand; new labels and binds on them.
 fn made_by_hand(random: &mut Random) -> Scenario {
     let mut draft = Draft::new(any_arch(random));
     draft.symbols = 1;
@@ -289,8 +285,7 @@ fn labels_by_hand(random: &mut Random, labels: u32) -> Vec<Step> {
     steps
 }
 
-/// Relocations by direct calls, which are lent the labels: as many as counted,
-/// fewer, or more than the limit.
+/// Relocations by direct calls, which are lent the labels: as many as counted, fewer, or more than the limit.
 fn labels_lent(random: &mut Random) -> Scenario {
     let mut draft = Draft::new(any_arch(random));
     let labels = random.below(4);

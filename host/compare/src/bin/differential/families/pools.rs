@@ -1,5 +1,4 @@
-//! Constants on both sides of every size at which their alignment changes,
-//! asked for or not.
+//! Constants on both sides of every size at which their alignment changes, asked for or not.
 
 use compare::{AARCH64, Random, X64, X86};
 

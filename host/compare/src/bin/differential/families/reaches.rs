@@ -23,8 +23,7 @@ fn finished(draft: Draft, random: &mut Random) -> Scenario {
     Scenario::new(arch, symbols, random.number(), steps)
 }
 
-/// Jumps forwards and backwards over gaps of 128 bytes or so, with
-/// alignments and each other between.
+/// Jumps forwards and backwards over gaps of 128 bytes or so, with alignments and each other between.
 fn jumps(random: &mut Random) -> Scenario {
     let mut draft = Draft::new(X64);
     let back = draft.here();

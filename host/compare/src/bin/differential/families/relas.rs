@@ -23,8 +23,7 @@ pub fn scenario(random: &mut Random) -> Scenario {
     }
 }
 
-/// A recording, its finish, and its relocations written, read and written
-/// again.
+/// A recording, its finish, and its relocations written, read and written again.
 fn finished(random: &mut Random) -> Scenario {
     let mut draft = Draft::new(random.pick(&[X64, X64, X64, AARCH64, AARCH64, X86]));
     draft.careful = random.chance(90);

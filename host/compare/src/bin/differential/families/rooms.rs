@@ -5,8 +5,7 @@ use compare::{Lent, Part, Random};
 use super::{ceilings, chains, damaged, direct, mixed, parts, pools};
 use crate::scenario::Scenario;
 
-/// A scenario whose tables hold what `lent` shows that it comes to, less one
-/// or more one here and there.
+/// A scenario whose tables hold what `lent` shows that it comes to, less one or more one here and there.
 pub fn tightened(mut scenario: Scenario, lent: &Lent, random: &mut Random) -> Scenario {
     for (column, part) in Part::TABLES.into_iter().enumerate() {
         let entries = lent.word(Part::Counts, 0, 4 + column) as usize;
@@ -31,8 +30,7 @@ fn near(entries: usize, random: &mut Random) -> usize {
     }
 }
 
-/// Lengths that are no multiple of an entry's size, and counts and records
-/// that are too short.
+/// Lengths that are no multiple of an entry's size, and counts and records that are too short.
 pub fn odd(random: &mut Random) -> Scenario {
     let mut scenario = match random.below(7) {
         0 => mixed::scenario(random),

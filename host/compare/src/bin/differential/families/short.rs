@@ -9,8 +9,7 @@ use crate::scenario::Scenario;
 /// What adds a call or a few to a recording.
 type Letter = fn(&mut Draft);
 
-/// An architecture, the letters that its recordings are made of, and how many
-/// of them follow its first ones at most.
+/// An architecture, the letters that its recordings are made of, and how many of them follow its first ones at most.
 struct Alphabet {
     arch: u32,
     /// The letters that each of its recordings begins with.
@@ -29,8 +28,7 @@ impl Alphabet {
             .sum()
     }
 
-    /// The recording of a number, which is written in a system with as many
-    /// digits as there are letters; shorter recordings come first.
+    /// The recording of a number, which is written in a system with as many digits as there are letters; shorter recordings come first.
     fn recording(&self, mut number: u64) -> Draft {
         let digits = self.letters.len() as u64;
         let mut length = 0;
@@ -236,8 +234,7 @@ const ALPHABETS: [Alphabet; 11] = [
         most: 5,
         binds_rest: true,
     },
-    // Alignments with ceilings, by sheets and by direct calls, around jumps that
-    // become short.
+    // Alignments with ceilings, by sheets and by direct calls, around jumps that become short.
     Alphabet {
         arch: X64,
         first: &[new_label],

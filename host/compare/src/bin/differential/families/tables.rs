@@ -6,8 +6,7 @@ use reference::Call;
 use super::mixed;
 use crate::scenario::{Open, Room, Scenario, Step};
 
-/// A recording, words changed in its counts and tables, calls or none, and a
-/// finish.
+/// A recording, words changed in its counts and tables, calls or none, and a finish.
 pub fn scenario(random: &mut Random) -> Scenario {
     let draft = mixed::draft(random);
     let calls = Step::Sheet(draft.calls);

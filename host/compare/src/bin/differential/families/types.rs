@@ -1,5 +1,4 @@
-//! Relocations as ELF, all of a few forms: one of every kind on every
-//! architecture, and two of every fault; an entry of every type, two of every
+//! Relocations as ELF, all of a few forms: one of every kind on every architecture, and two of every fault; an entry of every type, two of every
 //! fault, and every small length.
 
 use compare::{AARCH64, LABEL_TARGET, MOST_ENTRIES, NONE, Part, X64, X86};
@@ -31,8 +30,7 @@ const WRITTEN: u64 = (KINDS + MORE_KINDS.len() as u64)
 
 /// Kinds with a type and without.
 const PAIR_KINDS: [u32; 2] = [1, 7];
-/// A symbol, the bound label with a sum that fits and with one that does not,
-/// the unbound label, an unknown one.
+/// A symbol, the bound label with a sum that fits and with one that does not, the unbound label, an unknown one.
 const PAIR_TARGETS: [(u32, i64); 5] = [
     (3, 0),
     (LABEL_TARGET, 0),
@@ -57,8 +55,7 @@ const READ_TYPES: u64 = (TYPES + MORE_TYPES.len() as u64) * TABLES.len() as u64;
 /// Bits of an offset's high word.
 const READ_OFFSETS: u64 = 32 * TABLES.len() as u64;
 
-/// An entry that is fit, one with a type in neither list, one with an offset
-/// past 32 bits.
+/// An entry that is fit, one with a type in neither list, one with an offset past 32 bits.
 const PAIR_RELAS: [[u32; 6]; 3] = [[1, 0, 1, 3, 0, 0], [1, 0, 3, 3, 0, 0], [1, 1, 1, 3, 0, 0]];
 /// Bytes of two entries, or one less.
 const PAIR_LENGTHS: [usize; 2] = [48, 47];
@@ -129,8 +126,7 @@ fn relocation(kind: u32, (target, addend): (u32, i64)) -> [u32; 6] {
     [1, kind, target, 0, low, high]
 }
 
-/// Relocations of which some are counted, written to so many bytes, read and
-/// written again.
+/// Relocations of which some are counted, written to so many bytes, read and written again.
 fn write_relocations(arch: u32, count: u32, relocations: &[[u32; 6]], output: usize) -> Scenario {
     let steps = vec![
         write(Part::Record, &[arch, 0, 0, 0, 2, count]),

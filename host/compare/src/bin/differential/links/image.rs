@@ -80,8 +80,7 @@ fn definitions(pieces: &[Piece]) -> Vec<(u32, u32)> {
     definitions.collect()
 }
 
-/// The code against the image's, fields filled: by the image's labels and
-/// offsets, and by the loader.
+/// The code against the image's, fields filled: by the image's labels and offsets, and by the loader.
 pub fn compare_code(
     filled: &[bool],
     image: &Image,

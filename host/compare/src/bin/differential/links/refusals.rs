@@ -11,8 +11,7 @@ use super::bases;
 const NO_SIZE: &str = "unsupported relocation kind";
 const PAST_END: &str = "patch range is outside the section";
 
-/// Why the linker refuses pieces, where their labels are known and their code
-/// comes to less than 32 bits.
+/// Why the linker refuses pieces, where their labels are known and their code comes to less than 32 bits.
 pub fn why_unlinked(pieces: &[Piece]) -> Option<Unlinked> {
     let too_large = |sum: u64| u32::try_from(sum).is_err().then_some(Error::TooLarge);
     let first = pieces.first()?;

@@ -10,8 +10,7 @@ use crate::runner::Runner;
 /// Longer code than this is lent as vast: pieces that have so much are refused.
 const LONG: usize = 1 << 20;
 
-/// Each fault is answered by its number where it is alone, and each line of
-/// reference/joins.txt by the number that is kept there.
+/// Each fault is answered by its number where it is alone, and each line of reference/joins.txt by the number that is kept there.
 pub fn numbers_are_answered(findings: &mut Findings) {
     let mut runner = Runner::default();
     let mut answers = |handed: Handed, number: u32| {

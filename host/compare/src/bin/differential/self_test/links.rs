@@ -1,5 +1,4 @@
-//! What of a join is held against the Rust's linker and loader: each change is
-//! found.
+//! What of a join is held against the Rust's linker and loader: each change is found.
 
 use compare::{Lent, Part};
 
@@ -51,8 +50,7 @@ fn told_from(refusal: u32, beside: Result<Beside, String>) -> &'static [u32] {
     }
 }
 
-/// Places in what a join left that are compared: words of the record, labels,
-/// relocations but for the word that says nothing, and the code.
+/// Places in what a join left that are compared: words of the record, labels, relocations but for the word that says nothing, and the code.
 fn compared_bytes(lent: &Lent) -> Vec<(Part, usize)> {
     let [_, length, _, _, labels, relocations] = lent.words(Part::Record, 0);
     let mut bytes: Vec<_> = (0..6).map(|word| (Part::Record, word * 4)).collect();

@@ -59,8 +59,7 @@ pub fn fill(handed: &mut Handed, random: &mut Random) {
     }
 }
 
-/// The symbols that are there to be named: dense, sparse, around 65,536, or the
-/// same by their low bits.
+/// The symbols that are there to be named: dense, sparse, around 65,536, or the same by their low bits.
 fn symbols(random: &mut Random) -> Vec<u32> {
     let from = match random.below(7) {
         0 => 0,
@@ -80,8 +79,7 @@ fn symbols(random: &mut Random) -> Vec<u32> {
     (from..from + 6).collect()
 }
 
-/// A label's offset: in its piece, at its end, past it, as far as it can be, or
-/// unbound.
+/// A label's offset: in its piece, at its end, past it, as far as it can be, or unbound.
 fn label(length: u32, base: u64, random: &mut Random) -> u32 {
     match random.below(24) {
         0..4 => NONE,
@@ -94,8 +92,7 @@ fn label(length: u32, base: u64, random: &mut Random) -> u32 {
     }
 }
 
-/// Each symbol is defined by at most one piece, but for a few; most by labels
-/// that are known and bound.
+/// Each symbol is defined by at most one piece, but for a few; most by labels that are known and bound.
 fn define(handed: &mut Handed, symbols: &[u32], random: &mut Random) {
     let count = handed.pieces.len() as u32;
     for symbol in symbols {
@@ -174,8 +171,7 @@ fn relocation(
     ]
 }
 
-/// Where a field stands: within its piece, at its end or past it, over another;
-/// as far as it can be, where it remains.
+/// Where a field stands: within its piece, at its end or past it, over another; as far as it can be, where it remains.
 fn offset(piece: &Piece, base: u64, is_filled: bool, random: &mut Random) -> u32 {
     let length = piece.length();
     let last = length.saturating_sub(4);

@@ -17,8 +17,7 @@ pub fn handed(random: &mut Random) -> Handed {
     });
     let mut handed = Handed::new(pieces.collect());
     let (bases, end) = handed.bases();
-    // Where the last piece ends at 32 bits' end or before it, nothing but what
-    // is lent refuses it: so much is not lent.
+    // Where the last piece ends at 32 bits' end or before it, nothing but what is lent refuses it: so much is not lent.
     handed.is_vast = match end {
         ..=4_294_967_294 => Vast::Code,
         _ => random.pick(&[Vast::Code, Vast::Both]),

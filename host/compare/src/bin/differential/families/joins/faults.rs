@@ -1,5 +1,4 @@
-//! A join that is fit, with faults: every two of them, and so each alone, and
-//! every three of those that are small.
+//! A join that is fit, with faults: every two of them, and so each alone, and every three of those that are small.
 
 use compare::{AARCH64, LABEL_TARGET, MOST_CODE, MOST_ENTRIES, NONE, Part, Vast, X86};
 
@@ -9,8 +8,8 @@ use crate::families::join::Handed;
 
 type Fault = fn(&mut Handed);
 
-/// The number that each fault is answered by where it is alone, and the fault.
-/// Those of 0 change something that is no fault, or nothing. The last are large.
+/// The number that each fault is answered by where it is alone, and the fault. Those of 0 change something that is no fault, or nothing. The last are
+/// large.
 const FAULTS: [(u32, Fault); SMALL + 2] = [
     (0, |_| {}),
     // 1: the record, what is lent, a label that is unknown.
@@ -93,8 +92,7 @@ const FAULTS: [(u32, Fault); SMALL + 2] = [
             .relocations
             .push(relocation(NONE - 64, 5, 1, 0));
     }),
-    // No faults: what nobody needs, what lies past the piece's end and remains,
-    // what is lent beyond what is needed.
+    // No faults: what nobody needs, what lies past the piece's end and remains, what is lent beyond what is needed.
     (0, |handed| handed.pieces[1].definitions.push([9, 77])),
     (0, |handed| handed.pieces[1].definitions.push([10, 0])),
     (0, |handed| handed.pieces[1].labels.push(NONE - 65)),

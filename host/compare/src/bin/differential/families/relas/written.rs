@@ -120,8 +120,7 @@ impl Handed {
         }
     }
 
-    /// The relocations written, and their entries, or damaged ones, read and
-    /// written again.
+    /// The relocations written, and their entries, or damaged ones, read and written again.
     fn into_scenario(self, random: &mut Random) -> Scenario {
         let mut record = [0; 6].map(|_: u32| random.word());
         record[0] = self.arch;
