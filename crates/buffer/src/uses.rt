@@ -157,23 +157,19 @@ impl CodeBuffer {
             label,
             code,
         );
-        if why != 0 {
-            return self.turn_down(why);
+        let mut more: u32 = 0;
+        let mut took: u32 = 0;
+        if both(why == 0, self.arch == fields::X64) {
+            more = opened(labels, label);
+            took = 1;
+            put_ref(refs, self.refs as usize, offset, label, code, addend);
         }
-        if self.arch != fields::X64 {
-            return Recorded {
-                buffer: self,
-                refusal: 0,
-            };
-        }
-        let n = self.refs;
-        let more = opened(labels, label);
-        put_ref(refs, n as usize, offset, label, code, addend);
-        self.refs = n + 1;
+        self.refs = self.refs + took;
         self.unresolved = self.unresolved + more;
+        self.refusal = crate::kept_refusal(self.refusal, why);
         Recorded {
             buffer: self,
-            refusal: 0,
+            refusal: why,
         }
     }
 }
