@@ -5,7 +5,7 @@ ghost use lib.ListN.{length};
 ghost use mathlib.Core.Bool.{true};
 ghost use Rattle.seqs.specs.Pick.{pick};
 ghost use Rattle.buffer.specs.State.{withOpen};
-ghost use Rattle.buffer.specs.Tables.{mostOpen, labelSize};
+ghost use Rattle.buffer.specs.Tables.{labelSize};
 ghost use Rattle.buffer.specs.steps.Count.{NamersFit, openCount};
 ghost use Rattle.recording.specs.steps.Righted.{Fitting};
 ghost use Rattle.checks.specs.Lent.{recordingOf};
