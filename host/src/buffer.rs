@@ -7,6 +7,7 @@ use crate::event::RelaxableJump;
 use crate::explain::{explain_call, explain_finish};
 use crate::ffi::Segment;
 use crate::finalized::CodeBufferFinalized;
+use crate::queue::Queue;
 use crate::recording::{
     AsmFixup, AsmReloc, Constant, Label, Recording, RelocTarget, Sym, constant_alignment,
 };
@@ -44,7 +45,7 @@ use crate::{
 /// # }
 /// ```
 pub struct CodeBuffer {
-    tables: Tables,
+    queue: Queue,
     /// What the recorded refusal said, if there is one.
     first_refusal: Option<Error>,
     /// The jumps and refs that were accepted unread, which no table keeps.
@@ -82,9 +83,10 @@ impl CodeBuffer {
         }
     }
 
+    #[inline(always)]
     fn empty(counts: Counts) -> Self {
         Self {
-            tables: Tables::new(counts),
+            queue: Queue::new(Tables::new(counts)),
             first_refusal: None,
             unread: Vec::new(),
             definitions: Vec::new(),
@@ -94,7 +96,7 @@ impl CodeBuffer {
     /// The architecture.
     #[must_use]
     pub fn arch(&self) -> Arch {
-        self.tables.arch
+        self.queue.arch()
     }
 
     /// The refusal that this recording answers every call with, if one was recorded.
@@ -115,31 +117,31 @@ impl CodeBuffer {
     /// Whether the recording has finished.
     #[must_use]
     pub fn is_finished(&self) -> bool {
-        self.tables.counts.is_finished()
+        self.tables().counts.is_finished()
     }
 
     /// The bytes recorded so far.
     #[must_use]
     pub fn data(&self) -> &[u8] {
-        self.tables.code()
+        self.tables().code()
     }
 
     /// Where the next byte goes.
     #[must_use]
     pub fn cur_offset(&self) -> CodeOffset {
-        self.data().len() as CodeOffset
+        self.queue.code_len()
     }
 
     /// The relocations recorded so far; after finish, with their final offsets.
     #[must_use]
     pub fn relocs(&self) -> Vec<AsmReloc> {
-        self.tables.relocs().collect()
+        self.tables().relocs().collect()
     }
 
     /// Everything recorded so far but the bytes, as typed entries. After finish, labels and relocations have their final offsets.
     #[must_use]
     pub fn recording(&self) -> Recording {
-        self.tables.recording()
+        self.tables().recording()
     }
 
     /// How many label uses, refs, jumps and relocations against labels name a label that is not bound. It is kept by the recording, call by call, and
@@ -168,7 +170,7 @@ impl CodeBuffer {
     /// ```
     #[must_use]
     pub fn open(&self) -> u32 {
-        self.tables.counts.open()
+        self.tables().counts.open()
     }
 
     /// Appends a byte.
@@ -213,8 +215,7 @@ impl CodeBuffer {
     ///
     /// Number 4 or 12.
     pub fn put_bytes(&mut self, bytes: &[u8]) -> Result<(), Error> {
-        let number = self.append(bytes);
-        self.answer(number, || Call::Bytes(bytes.into()))
+        self.make(Call::Bytes(bytes))
     }
 
     /// Makes a label, not yet bound.
@@ -224,7 +225,7 @@ impl CodeBuffer {
     /// Number 4 or 11.
     pub fn get_label(&mut self) -> Result<Label, Error> {
         let label = Label::from_id(self.label_count());
-        self.make(&Call::NewLabel)?;
+        self.make(Call::NewLabel)?;
         Ok(label)
     }
 
@@ -237,18 +238,18 @@ impl CodeBuffer {
     /// Number of labels made so far; label numbers below it are known.
     #[must_use]
     pub fn label_count(&self) -> u32 {
-        self.tables.label_count() as u32
+        self.queue.label_count()
     }
 
     /// The offset of a label, or [`UNBOUND`].
     #[must_use]
     pub fn label_offset(&self, label: Label) -> CodeOffset {
-        self.tables.label_offset(label).unwrap_or(UNBOUND)
+        self.queue.label_offset(label).unwrap_or(UNBOUND)
     }
 
     /// Gives a label a name, for refusals, listings, objects and [`join`](crate::join()); nothing else depends on it.
     pub fn name_label(&mut self, label: Label, name: &str) {
-        self.tables.names.insert(label, name);
+        self.queue.names_mut().insert(label, name);
     }
 
     /// Gives a symbol a name, likewise.
@@ -263,7 +264,7 @@ impl CodeBuffer {
     /// assert_eq!(error.sentence(), "symbol puts is unknown: the recording has 1 symbol");
     /// ```
     pub fn name_symbol(&mut self, symbol: Sym, name: &str) {
-        self.tables.names.insert(symbol, name);
+        self.queue.names_mut().insert(symbol, name);
     }
 
     /// Defines a symbol by a label, bound by now or later, for the buffers that this one is [joined](crate::join()) with and for objects. The symbol
@@ -294,7 +295,7 @@ impl CodeBuffer {
     ///
     /// Number 4, 8 or 9; none of them is recorded.
     pub fn try_bind_label(&mut self, label: Label) -> Result<(), Error> {
-        self.make(&Call::Bind(label.id()))
+        self.make(Call::Bind(label.id()))
     }
 
     /// Pads to a multiple, a power of two up to 4,096: with NOPs on x86, with zeros on AArch64.
@@ -315,7 +316,7 @@ impl CodeBuffer {
     ///
     /// Number 4, 5, 11 or 12.
     pub fn try_align_to(&mut self, align_to: CodeOffset) -> Result<(), Error> {
-        self.make(&Call::align(align_to))
+        self.make(Call::align(align_to))
     }
 
     /// Pads to a multiple as [`Self::try_align_to`] does, but not at all where that takes more than `most` bytes. Finish decides again, by where the
@@ -340,14 +341,20 @@ impl CodeBuffer {
     ///
     /// Number 4, 5, 11 or 12.
     pub fn try_align_to_within(&mut self, align_to: CodeOffset, most: u32) -> Result<(), Error> {
-        let tables = &mut self.tables;
-        tables.make_room(TableName::Events, usize::from(tables.arch.tracks_layout()));
-        tables.make_room(TableName::Code, most_padding(align_to, most));
-        let number = verified::align(tables, align_to, most);
-        self.answer(number, || Call::Align {
+        let call = Call::Align {
             multiple: align_to,
             most,
-        })
+        };
+        // In a sheet a `most` of 0 stands for the default.
+        if most != 0 {
+            return self.make(call);
+        }
+        let number = self.queue.make_alone(|tables| {
+            let event = usize::from(tables.arch.tracks_layout());
+            tables.make_room(TableName::Events, event);
+            verified::align(tables, align_to, most)
+        });
+        self.answer(number, call)
     }
 
     /// Records a field that a finish without a jump patches; one with a jump leaves it as it is. A field of [`LabelUse::X86JmpRel32`] adds the value
@@ -377,7 +384,7 @@ impl CodeBuffer {
         label: Label,
         kind: LabelUse,
     ) -> Result<(), Error> {
-        self.make(&Call::Use {
+        self.make(Call::Use {
             offset,
             label: label.id(),
             code: kind.code(),
@@ -416,7 +423,7 @@ impl CodeBuffer {
         kind: LabelUse,
         addend: i32,
     ) -> Result<(), Error> {
-        self.make(&Call::Ref {
+        self.make(Call::Ref {
             offset,
             label: label.id(),
             code: kind.code(),
@@ -431,7 +438,7 @@ impl CodeBuffer {
     ///
     /// Number 4, 8, 10 or 11.
     pub fn record_relaxable_jump(&mut self, jump: RelaxableJump) -> Result<(), Error> {
-        self.make(&Call::Jump {
+        self.make(Call::Jump {
             start: jump.start,
             length: jump.len.into(),
             label: jump.label.id(),
@@ -446,9 +453,9 @@ impl CodeBuffer {
     ///
     /// Number 4, 10 or 11.
     pub fn add_constant(&mut self, bytes: &[u8]) -> Result<Constant, Error> {
-        let (number, constant) = self.append_constant(bytes);
-        self.answer(number, || Call::Constant(bytes.into()))?;
-        Ok(Constant::from_id(constant))
+        let constant = Constant::from_id(self.queue.constant_count());
+        self.make(Call::Constant(bytes))?;
+        Ok(constant)
     }
 
     /// The label of a constant, made when it is first asked for and bound by finish.
@@ -470,8 +477,8 @@ impl CodeBuffer {
     ///
     /// Number 4, 8 or 11.
     pub fn get_label_for_constant(&mut self, constant: Constant) -> Result<Label, Error> {
-        self.make(&Call::ConstantLabel(constant.id()))?;
-        let label = self.tables.constant_label(constant.id());
+        self.make(Call::ConstantLabel(constant.id()))?;
+        let label = self.queue.constant_label(constant.id());
         Ok(label.expect("a constant that was asked for has a label"))
     }
 
@@ -514,7 +521,7 @@ impl CodeBuffer {
         target: RelocTarget,
         addend: i64,
     ) -> Result<(), Error> {
-        self.make(&Call::Relocation {
+        self.make(Call::Relocation {
             offset,
             kind: kind.number(),
             target: target.to_word(),
@@ -528,67 +535,47 @@ impl CodeBuffer {
     ///
     /// The call's, and number 1 for a code or kind that is none.
     pub fn call(&mut self, call: &Call) -> Result<(), Error> {
-        self.make(call)
+        self.make(match call {
+            Call::Bytes(bytes) => Call::Bytes(bytes),
+            Call::Constant(bytes) => Call::Constant(bytes),
+            // No other call has bytes.
+            other => other.clone().map_bytes(|_| &[][..]),
+        })
     }
 
     /// As [`Self::call`]. Inlined, so that a method whose kind of call is known does only what that kind needs.
     #[inline(always)]
-    fn make(&mut self, call: &Call) -> Result<(), Error> {
-        let number = match call {
-            Call::Bytes(bytes) => self.append(bytes),
-            Call::Constant(bytes) => self.append_constant(bytes).0,
-            Call::Relocation {
-                offset,
-                kind,
-                target,
-                addend,
-            } => {
-                self.tables.make_room(TableName::Relocs, 1);
-                verified::add_reloc(&mut self.tables, *offset, *kind, *target, *addend)
-            }
-            other => self.run_one(other),
-        };
-        if number == 0 {
-            self.note_unread(call);
+    fn make(&mut self, call: Call<&[u8]>) -> Result<(), Error> {
+        if self.queue.take(&call) {
+            self.note_unread(&call);
+            return Ok(());
         }
-        self.answer(number, || call.clone())
+        self.make_alone(call)
+    }
+
+    /// Lets the library answer a call.
+    fn make_alone(&mut self, call: Call<&[u8]>) -> Result<(), Error> {
+        let number = self.queue.make_alone(|tables| made_alone(tables, &call));
+        if number == 0 {
+            self.note_unread(&call);
+        }
+        self.answer(number, call)
     }
 
     /// Keeps an accepted call that the tables don't.
-    fn note_unread(&mut self, call: &Call) {
-        if !self.arch().tracks_layout() && matches!(call, Call::Jump { .. } | Call::Ref { .. }) {
-            self.unread.push(call.clone());
+    #[inline(always)]
+    fn note_unread(&mut self, call: &Call<&[u8]>) {
+        let is_unread = matches!(call, Call::Jump { .. } | Call::Ref { .. });
+        if is_unread && !self.arch().tracks_layout() {
+            self.unread.push(call.clone().map_bytes(Into::into));
         }
     }
 
-    /// Makes a call whose argument is four words, by a sheet of its own.
-    #[inline(always)]
-    fn run_one(&mut self, call: &Call) -> u32 {
-        let kind = call.kind();
-        let words = words_of(call).expect("its argument is four words");
-        let tables = &mut self.tables;
-        extended(tables.arch, kind, words, |table, more| {
-            tables.make_room(table, more);
-        });
-        verified::run_sheet(tables, &one_call_sheet(kind, words)).0
-    }
-
-    fn append(&mut self, bytes: &[u8]) -> u32 {
-        self.tables.make_room(TableName::Code, bytes.len());
-        verified::put_bytes(&mut self.tables, bytes)
-    }
-
-    fn append_constant(&mut self, bytes: &[u8]) -> (u32, u32) {
-        self.tables.make_room(TableName::Constants, 1);
-        verified::add_constant(&mut self.tables, bytes)
-    }
-
-    fn answer(&mut self, number: u32, call: impl FnOnce() -> Call) -> Result<(), Error> {
+    fn answer(&mut self, number: u32, call: Call<&[u8]>) -> Result<(), Error> {
         if number == 0 {
             return Ok(());
         }
-        let call = call();
-        Err(self.refused_call(number, &call, None))
+        Err(self.refused_call(number, &call.map_bytes(Into::into), None))
     }
 
     #[cold]
@@ -603,8 +590,9 @@ impl CodeBuffer {
         {
             return repeated(first, place);
         }
-        let error = Error::new(number, place, explain_call(&self.tables, call, number));
-        if self.tables.counts.refusal() == number {
+        let tables = self.tables();
+        let error = Error::new(number, place, explain_call(tables, call, number));
+        if tables.counts.refusal() == number {
             self.first_refusal = Some(error.clone());
         }
         error
@@ -626,16 +614,17 @@ impl CodeBuffer {
     /// The refused call's, with its index; number 1 for a broken form.
     pub fn run_sheet(&mut self, sheet: &[u8]) -> Result<(), Error> {
         let read = Sheet::read(sheet);
-        if let Ok(sheet) = &read {
-            let room = sheet.room(self.arch());
-            self.tables.make_all_room(&room);
-        }
-        let (number, index) = verified::run_sheet(&mut self.tables, sheet);
+        let (number, index) = self.queue.make_many(|tables| {
+            if let Ok(sheet) = &read {
+                tables.make_all_room(&sheet.room(tables.arch));
+            }
+            verified::run_sheet(tables, sheet)
+        });
         if let Ok(sheet) = &read {
             // A broken form, number 1, is found before any call is made. The other 1 of a sheet is of a wrong number of open entries, and here it is right.
             let made = if number == 1 { 0 } else { index as usize };
             for call in sheet.calls().take(made) {
-                self.note_unread(&call);
+                self.note_unread(&call.map_bytes(|_| &[][..]));
             }
         }
         match (number, read) {
@@ -694,62 +683,21 @@ impl CodeBuffer {
     ///
     /// A recorded refusal, number 4, or one of 13 to 23; the buffer is then as it was before.
     pub fn finish(&mut self) -> Result<CodeBufferFinalized, Error> {
-        let mut segments = vec![Segment::default(); self.most_segments()];
-        let most = self.most_finished();
-        match verified::finish(&mut self.tables, &mut segments, most) {
-            Ok((data, record)) => Ok(self.finalized(data, segments, record)),
-            Err(number) => Err(self.refused_finish(number, &segments)),
-        }
+        let (unread, definitions) = (&self.unread, &self.definitions);
+        let finished = self.queue.make_alone(|tables| {
+            let mut segments = vec![Segment::default(); most_segments(tables)];
+            let most = most_finished(tables);
+            match verified::finish(tables, &mut segments, most) {
+                Ok(finished) => Ok(finalized(tables, unread, definitions, finished, segments)),
+                Err(number) => Err((number, segments)),
+            }
+        });
+        finished.map_err(|(number, segments)| self.refused_finish(number, &segments))
     }
 
-    /// One for each event, those of the pool too; without a jump finish needs none.
-    fn most_segments(&self) -> usize {
-        if self.tables.has_jump() {
-            MOST_ENTRIES.min(self.tables.event_count() + self.tables.asked_count())
-        } else {
-            0
-        }
-    }
-
-    /// What the finished code cannot exceed, as `wargnifla_output_bound` of include/wargnifla.h has it: every jump long, every padding one less than
-    /// its multiple or as much as it may spend, and the pool.
-    fn most_finished(&self) -> usize {
-        let mut most = self.data().len();
-        for event in self.tables.events() {
-            most -= event.recorded_len() as usize;
-            most += event.most_len();
-        }
-        let pool = self.tables.asked_sizes();
-        most += pool
-            .map(|size| size + constant_alignment(size) as usize - 1)
-            .sum::<usize>();
-        MOST_CODE.min(most)
-    }
-
-    fn finalized(
-        &self,
-        data: Vec<u8>,
-        segments: Vec<Segment>,
-        record: Record,
-    ) -> CodeBufferFinalized {
-        CodeBufferFinalized {
-            arch: self.arch(),
-            data,
-            label_offsets: self.tables.labels().collect(),
-            relocs: self.relocs(),
-            record,
-            segments,
-            unpatched: unpatched(&self.tables, &self.unread),
-            names: self.tables.names.clone(),
-            definitions: self.definitions.clone(),
-            has_page_fields: self.has_page_fields(),
-        }
-    }
-
-    fn has_page_fields(&self) -> bool {
-        let is_page_field =
-            |field: AsmFixup| matches!(field.kind, LabelUse::A64Adrp21 | LabelUse::A64AddAbsLo12);
-        self.arch() == Arch::AArch64 && self.tables.uses().any(is_page_field)
+    /// The recording with all calls made.
+    fn tables(&self) -> &Tables {
+        self.queue.tables()
     }
 
     fn refused_finish(&self, number: u32, segments: &[Segment]) -> Error {
@@ -773,4 +721,89 @@ impl fmt::Debug for CodeBuffer {
 fn repeated(first: &Error, place: Place) -> Error {
     let sentence = format!("the recording answers everything with its first refusal, {first}");
     Error::new(first.number(), place, sentence)
+}
+
+/// Makes one call: the refusal, or 0.
+fn made_alone(tables: &mut Tables, call: &Call<&[u8]>) -> u32 {
+    match call {
+        Call::Bytes(bytes) => {
+            tables.make_room(TableName::Code, bytes.len());
+            verified::put_bytes(tables, bytes)
+        }
+        Call::Constant(bytes) => {
+            tables.make_room(TableName::Constants, 1);
+            verified::add_constant(tables, bytes).0
+        }
+        Call::Relocation {
+            offset,
+            kind,
+            target,
+            addend,
+        } => {
+            tables.make_room(TableName::Relocs, 1);
+            verified::add_reloc(tables, *offset, *kind, *target, *addend)
+        }
+        other => run_one(tables, other),
+    }
+}
+
+/// Makes a call whose argument is four words, by a sheet of its own.
+fn run_one(tables: &mut Tables, call: &Call<&[u8]>) -> u32 {
+    let kind = call.kind();
+    let words = words_of(call).expect("its argument is four words");
+    extended(tables.arch, kind, words, |table, more| {
+        tables.make_room(table, more);
+    });
+    verified::run_sheet(tables, &one_call_sheet(kind, words)).0
+}
+
+/// One for each event, those of the pool too; without a jump finish needs none.
+fn most_segments(tables: &Tables) -> usize {
+    if tables.has_jump() {
+        MOST_ENTRIES.min(tables.event_count() + tables.asked_count())
+    } else {
+        0
+    }
+}
+
+/// What the finished code cannot exceed, as `wargnifla_output_bound` of include/wargnifla.h has it: every jump long, every padding one less than
+/// its multiple or as much as it may spend, and the pool.
+fn most_finished(tables: &Tables) -> usize {
+    let mut most = tables.code().len();
+    for event in tables.events() {
+        most -= event.recorded_len() as usize;
+        most += event.most_len();
+    }
+    let pool = tables.asked_sizes();
+    most += pool
+        .map(|size| size + constant_alignment(size) as usize - 1)
+        .sum::<usize>();
+    MOST_CODE.min(most)
+}
+
+fn finalized(
+    tables: &Tables,
+    unread: &[Call],
+    definitions: &[(ExternalName, Label)],
+    (data, record): (Vec<u8>, Record),
+    segments: Vec<Segment>,
+) -> CodeBufferFinalized {
+    CodeBufferFinalized {
+        arch: tables.arch,
+        data,
+        label_offsets: tables.labels().collect(),
+        relocs: tables.relocs().collect(),
+        record,
+        segments,
+        unpatched: unpatched(tables, unread),
+        names: tables.names.clone(),
+        definitions: definitions.to_vec(),
+        has_page_fields: has_page_fields(tables),
+    }
+}
+
+fn has_page_fields(tables: &Tables) -> bool {
+    let is_page_field =
+        |field: AsmFixup| matches!(field.kind, LabelUse::A64Adrp21 | LabelUse::A64AddAbsLo12);
+    tables.arch == Arch::AArch64 && tables.uses().any(is_page_field)
 }

@@ -15,7 +15,7 @@ pub(crate) fn argument(call: &Call) -> Option<[u8; 16]> {
 
 /// The argument of a call that carries words; nothing if it carries bytes, or if one of its words does not fit.
 #[inline(always)]
-pub(crate) fn words_of(call: &Call) -> Option<[u32; 4]> {
+pub(crate) fn words_of<B>(call: &Call<B>) -> Option<[u32; 4]> {
     Some(match *call {
         Call::Bytes(_) | Call::Constant(_) => return None,
         Call::NewLabel => [0; 4],
@@ -82,7 +82,8 @@ pub(crate) fn words_argument(words: [u32; 4]) -> [u8; 16] {
     argument
 }
 
-fn put_words(bytes: &mut [u8], words: [u32; 4]) {
+#[inline(always)]
+pub(crate) fn put_words(bytes: &mut [u8], words: [u32; 4]) {
     for (bytes, word) in bytes.chunks_exact_mut(4).zip(words) {
         bytes.copy_from_slice(&word.to_le_bytes());
     }

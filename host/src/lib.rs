@@ -50,6 +50,7 @@ mod finalized;
 mod join;
 mod listing;
 mod picture;
+mod queue;
 mod recording;
 mod refusal;
 mod relax;

@@ -36,7 +36,7 @@ impl Counts {
     }
 
     /// How many entries of a table the recording counts as its own.
-    fn of(&self, table: TableName) -> usize {
+    pub fn of(&self, table: TableName) -> usize {
         self.word(4 + table as usize) as usize
     }
 
@@ -62,7 +62,7 @@ pub(crate) enum TableName {
 impl TableName {
     pub const COUNT: usize = 8;
 
-    const ALL: [Self; Self::COUNT] = [
+    pub const ALL: [Self; Self::COUNT] = [
         Self::Code,
         Self::Labels,
         Self::Events,
@@ -153,6 +153,7 @@ pub(crate) struct Tables {
 
 impl Tables {
     /// Empty tables, beside the counts that start wrote.
+    #[inline(always)]
     pub fn new(counts: Counts) -> Self {
         let arch = Arch::from_number(counts.arch());
         Self {
@@ -276,13 +277,6 @@ impl Tables {
 
     pub fn constants(&self) -> impl Iterator<Item = AsmConstant> {
         self.constants.entries(self.constant_count()).map(constant)
-    }
-
-    /// The label of a constant that is known and was asked for.
-    pub fn constant_label(&self, number: u32) -> Option<Label> {
-        let number = number as usize;
-        let entry = self.constants.entry(number)?;
-        (number < self.constant_count()).then(|| constant_label(entry))?
     }
 
     pub fn asked(&self) -> impl Iterator<Item = u32> {

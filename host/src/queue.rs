@@ -1,0 +1,162 @@
+//! The recording of a buffer, and the calls that wait to be made on it.
+//!
+//! Each function of the verified library checks all that it is lent, and a jump or a bind may look at every entry of a table: what costs little once for a
+//! sheet of many calls is dear for each of them. So a call whose acceptance is certain is queued, and handed over later with others as one sheet. A call that
+//! is not certain is made alone after them, so that every refusal is the library's, and what it finds is as if all calls had been made one by one.
+
+mod calls;
+mod mirror;
+
+use std::sync::{Mutex, OnceLock};
+
+use crate::recording::{Label, Names};
+use crate::tables::{TableName, Tables};
+use crate::{Arch, Call, verified};
+use calls::QueuedCalls;
+use mirror::Mirror;
+
+/// A recording with its queued calls. What is shown of it is shared, but handing over is not: so it stands in one of two places.
+pub(crate) struct Queue {
+    /// The recording before its queued calls are made. Locked only by who is about to show it; a caller that may change it has no need to.
+    waiting: Mutex<Option<Waiting>>,
+    /// The recording with no call waiting, once it was shown and until the next call.
+    shown: OnceLock<Box<Waiting>>,
+    mirror: Mirror,
+}
+
+struct Waiting {
+    tables: Tables,
+    calls: QueuedCalls,
+}
+
+impl Queue {
+    #[inline(always)]
+    pub fn new(tables: Tables) -> Self {
+        Self {
+            mirror: Mirror::new(tables.arch, tables.counts.symbols()),
+            waiting: Mutex::new(Some(Waiting {
+                tables,
+                calls: QueuedCalls::default(),
+            })),
+            shown: OnceLock::new(),
+        }
+    }
+
+    pub fn arch(&self) -> Arch {
+        self.mirror.arch
+    }
+
+    pub fn code_len(&self) -> u32 {
+        self.mirror.offset()
+    }
+
+    pub fn label_count(&self) -> u32 {
+        self.mirror.len(TableName::Labels) as u32
+    }
+
+    pub fn constant_count(&self) -> u32 {
+        self.mirror.len(TableName::Constants) as u32
+    }
+
+    /// The offset of a label that is known.
+    pub fn label_offset(&self, label: Label) -> Option<u32> {
+        if self.mirror.is_recording {
+            return self.mirror.label_offset(label.id());
+        }
+        // Finish moves labels.
+        self.tables().label_offset(label)
+    }
+
+    /// The label of a constant that is known and was asked for.
+    pub fn constant_label(&self, constant: u32) -> Option<Label> {
+        self.mirror.constant_label(constant).map(Label::from_id)
+    }
+
+    /// The recording with all calls made.
+    pub fn tables(&self) -> &Tables {
+        let shown = self.shown.get_or_init(|| {
+            let mut waiting = self.waiting.lock().expect(BROKEN);
+            let mut waiting = waiting.take().expect(BROKEN);
+            waiting.hand_over(&self.mirror);
+            Box::new(waiting)
+        });
+        &shown.tables
+    }
+
+    /// The names, whatever is queued.
+    pub fn names_mut(&mut self) -> &mut Names {
+        &mut self.parts().0.tables.names
+    }
+
+    /// Queues a call, if it is certain to be accepted.
+    #[inline(always)]
+    pub fn take(&mut self, call: &Call<&[u8]>) -> bool {
+        if !self.mirror.is_certain(call) || !QueuedCalls::can_hold(call) {
+            return false;
+        }
+        let (waiting, mirror) = self.parts();
+        if waiting.calls.is_full() {
+            waiting.make_room(mirror);
+        }
+        mirror.make(call);
+        waiting.calls.push(call);
+        true
+    }
+
+    /// Makes a call by a function of the library, after all that are queued.
+    pub fn make_alone<T>(&mut self, call: impl FnOnce(&mut Tables) -> T) -> T {
+        let (waiting, mirror) = self.parts();
+        waiting.hand_over(mirror);
+        let answer = call(&mut waiting.tables);
+        mirror.follow(&waiting.tables);
+        answer
+    }
+
+    /// The same of a sheet or a finish, which may make and bind labels.
+    pub fn make_many<T>(&mut self, calls: impl FnOnce(&mut Tables) -> T) -> T {
+        let (waiting, mirror) = self.parts();
+        waiting.hand_over(mirror);
+        let answer = calls(&mut waiting.tables);
+        mirror.read(&waiting.tables);
+        answer
+    }
+
+    /// The recording, taken back if it was shown, and its mirror.
+    #[inline(always)]
+    fn parts(&mut self) -> (&mut Waiting, &mut Mirror) {
+        let waiting = self.waiting.get_mut().expect(BROKEN);
+        if let Some(shown) = self.shown.take() {
+            *waiting = Some(*shown);
+        }
+        (waiting.as_mut().expect(BROKEN), &mut self.mirror)
+    }
+}
+
+/// After a panic while calls were handed over, which is the next function's.
+const BROKEN: &str = "queued calls were refused before";
+
+impl Waiting {
+    /// Hands over what is queued. The mirror says what the recording comes to.
+    fn hand_over(&mut self, mirror: &Mirror) {
+        if self.calls.is_empty() {
+            return;
+        }
+        mirror.make_room(&mut self.tables);
+        let (number, index) = verified::run_sheet(&mut self.tables, self.calls.sheet());
+        assert_eq!(
+            number, 0,
+            "a call that was certain to be accepted, number {index} of those queued, is refused"
+        );
+        assert!(
+            mirror.is_as_long_as(&self.tables),
+            "the calls that were queued come to another recording"
+        );
+        self.calls.clear();
+    }
+
+    #[cold]
+    fn make_room(&mut self, mirror: &Mirror) {
+        self.hand_over(mirror);
+        self.calls.grow();
+    }
+}
