@@ -64,7 +64,9 @@ impl CodeBuffer {
     /// Starts a recording whose relocations may name the symbols below a number.
     #[must_use]
     pub fn with_symbols(arch: Arch, symbols: u32) -> Self {
-        Self::empty(verified::start(arch.number(), symbols).expect("start takes every Arch"))
+        let (number, counts) = verified::start(arch.number(), symbols);
+        assert_eq!(number, 0, "start takes every Arch");
+        Self::empty(counts)
     }
 
     /// Starts a recording for an architecture given by number.
@@ -74,8 +76,8 @@ impl CodeBuffer {
     /// Number 2, where it is none of [`Arch`].
     pub fn start(arch: u32, symbols: u32) -> Result<Self, Error> {
         match verified::start(arch, symbols) {
-            Ok(counts) => Ok(Self::empty(counts)),
-            Err(number) => {
+            (0, counts) => Ok(Self::empty(counts)),
+            (number, _) => {
                 let sentence =
                     format!("architecture {arch} is none of 1 (X86), 2 (X64) and 6 (AArch64)");
                 Err(Error::new(number, Place::Start, sentence))

@@ -47,15 +47,14 @@ impl Record {
     }
 }
 
-/// Starts a recording; the number of a refusal otherwise.
-pub(crate) fn start(arch: u32, symbols: u32) -> Result<Counts, u32> {
-    let mut counts = [0; COUNTS_BYTES];
-    // SAFETY: `counts` is a live array of the length that is passed, borrowed for this call alone.
-    let number = unsafe { ffi::wargnifla_start(arch, symbols, counts.as_mut_ptr(), counts.len()) };
-    match number {
-        0 => Ok(Counts(counts)),
-        _ => Err(number),
-    }
+/// Starts a recording: the refusal, or 0, and its counts.
+#[inline(always)]
+pub(crate) fn start(arch: u32, symbols: u32) -> (u32, Counts) {
+    let mut counts = Counts([0; COUNTS_BYTES]);
+    let bytes = &mut counts.0;
+    // SAFETY: `bytes` is a live array of the length that is passed, borrowed for this call alone.
+    let number = unsafe { ffi::wargnifla_start(arch, symbols, bytes.as_mut_ptr(), bytes.len()) };
+    (number, counts)
 }
 
 /// Runs a sheet: its refusal, or 0, and the index that goes with it.

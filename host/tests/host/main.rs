@@ -15,6 +15,7 @@ mod limits;
 mod listings;
 mod open;
 mod pools;
+mod queue;
 mod random;
 mod refusals;
 mod relas;

@@ -1,9 +1,10 @@
 //! The functions hold no state, and a thread with the stack that is said to be enough can finish and join.
 
+use std::panic::{RefUnwindSafe, UnwindSafe};
 use std::thread;
 
 use wargnifla::{
-    Arch, CodeBuffer, CodeBufferFinalized, FINISH_STACK, JOIN_STACK, Label, Sym, join,
+    Arch, CodeBuffer, CodeBufferFinalized, FINISH_STACK, JOIN_STACK, Label, LabelUse, Sym, join,
 };
 
 use crate::finished;
@@ -57,6 +58,32 @@ fn a_small_stack_is_enough_to_join() {
 
 #[test]
 fn buffers_may_go_from_thread_to_thread() {
-    fn is_free<T: Send + Sync>() {}
+    fn is_free<T: Send + Sync + Unpin + UnwindSafe + RefUnwindSafe>() {}
     is_free::<CodeBuffer>();
+}
+
+/// What is queued is handed over by whichever thread asks first, and once.
+#[test]
+fn threads_see_the_same_recording() {
+    for count in 0..200 {
+        let mut buffer = CodeBuffer::new(Arch::X64);
+        let label = buffer.get_label().unwrap();
+        for _ in 0..count {
+            buffer
+                .use_label_at_offset(0, label, LabelUse::X86JmpRel32)
+                .unwrap();
+            buffer.put1(0x90).unwrap();
+        }
+        thread::scope(|scope| {
+            for _ in 0..4 {
+                scope.spawn(|| {
+                    assert_eq!(buffer.open(), count);
+                    assert_eq!(buffer.data(), vec![0x90; count as usize]);
+                    assert_eq!(buffer.recording().uses.len(), count as usize);
+                });
+            }
+        });
+        buffer.try_bind_label(label).unwrap();
+        assert_eq!(buffer.open(), 0);
+    }
 }
