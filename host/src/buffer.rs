@@ -56,17 +56,27 @@ pub struct CodeBuffer {
 
 impl CodeBuffer {
     /// Starts a recording without symbols.
+    #[inline]
     #[must_use]
     pub fn new(arch: Arch) -> Self {
         Self::with_symbols(arch, 0)
     }
 
     /// Starts a recording whose relocations may name the symbols below a number.
+    #[inline]
     #[must_use]
     pub fn with_symbols(arch: Arch, symbols: u32) -> Self {
-        let (number, counts) = verified::start(arch.number(), symbols);
+        let mut buffer = Self {
+            queue: Queue::new(arch, symbols),
+            first_refusal: None,
+            unread: Vec::new(),
+            definitions: Vec::new(),
+        };
+        // The counts are written where they stay: to move them as they were just written would cost more than to write them.
+        let counts = &mut buffer.queue.tables_mut().counts;
+        let number = verified::start(counts, arch.number(), symbols);
         assert_eq!(number, 0, "start takes every Arch");
-        Self::empty(counts)
+        buffer
     }
 
     /// Starts a recording for an architecture given by number.
@@ -75,24 +85,13 @@ impl CodeBuffer {
     ///
     /// Number 2, where it is none of [`Arch`].
     pub fn start(arch: u32, symbols: u32) -> Result<Self, Error> {
-        match verified::start(arch, symbols) {
-            (0, counts) => Ok(Self::empty(counts)),
-            (number, _) => {
-                let sentence =
-                    format!("architecture {arch} is none of 1 (X86), 2 (X64) and 6 (AArch64)");
-                Err(Error::new(number, Place::Start, sentence))
-            }
+        if let Some(arch) = Arch::from_number(arch) {
+            return Ok(Self::with_symbols(arch, symbols));
         }
-    }
-
-    #[inline(always)]
-    fn empty(counts: Counts) -> Self {
-        Self {
-            queue: Queue::new(Tables::new(counts)),
-            first_refusal: None,
-            unread: Vec::new(),
-            definitions: Vec::new(),
-        }
+        let mut counts = Counts::ZERO;
+        let number = verified::start(&mut counts, arch, symbols);
+        let sentence = format!("architecture {arch} is none of 1 (X86), 2 (X64) and 6 (AArch64)");
+        Err(Error::new(number, Place::Start, sentence))
     }
 
     /// The architecture.
@@ -685,16 +684,37 @@ impl CodeBuffer {
     ///
     /// A recorded refusal, number 4, or one of 13 to 23; the buffer is then as it was before.
     pub fn finish(&mut self) -> Result<CodeBufferFinalized, Error> {
-        let (unread, definitions) = (&self.unread, &self.definitions);
+        let mut segments = Vec::new();
         let finished = self.queue.make_alone(|tables| {
-            let mut segments = vec![Segment::default(); most_segments(tables)];
+            segments.resize(most_segments(tables), Segment::default());
             let most = most_finished(tables);
-            match verified::finish(tables, &mut segments, most) {
-                Ok(finished) => Ok(finalized(tables, unread, definitions, finished, segments)),
-                Err(number) => Err((number, segments)),
-            }
+            verified::finish(tables, &mut segments, most)
         });
-        finished.map_err(|(number, segments)| self.refused_finish(number, &segments))
+        match finished {
+            Ok((data, record)) => Ok(self.finalized(data, segments, record)),
+            Err(number) => Err(self.refused_finish(number, &segments)),
+        }
+    }
+
+    fn finalized(
+        &mut self,
+        data: Vec<u8>,
+        segments: Vec<Segment>,
+        record: Record,
+    ) -> CodeBufferFinalized {
+        let tables = self.queue.tables_mut();
+        CodeBufferFinalized {
+            arch: tables.arch,
+            data,
+            label_offsets: tables.labels().collect(),
+            relocs: tables.relocs().collect(),
+            record,
+            segments,
+            unpatched: unpatched(tables, &self.unread),
+            names: tables.names.clone(),
+            definitions: self.definitions.clone(),
+            has_page_fields: has_page_fields(tables),
+        }
     }
 
     /// The recording with all calls made.
@@ -781,27 +801,6 @@ fn most_finished(tables: &Tables) -> usize {
         .map(|size| size + constant_alignment(size) as usize - 1)
         .sum::<usize>();
     MOST_CODE.min(most)
-}
-
-fn finalized(
-    tables: &Tables,
-    unread: &[Call],
-    definitions: &[(ExternalName, Label)],
-    (data, record): (Vec<u8>, Record),
-    segments: Vec<Segment>,
-) -> CodeBufferFinalized {
-    CodeBufferFinalized {
-        arch: tables.arch,
-        data,
-        label_offsets: tables.labels().collect(),
-        relocs: tables.relocs().collect(),
-        record,
-        segments,
-        unpatched: unpatched(tables, unread),
-        names: tables.names.clone(),
-        definitions: definitions.to_vec(),
-        has_page_fields: has_page_fields(tables),
-    }
 }
 
 fn has_page_fields(tables: &Tables) -> bool {

@@ -30,16 +30,24 @@ struct Waiting {
 }
 
 impl Queue {
+    /// A recording that is to be started.
     #[inline(always)]
-    pub fn new(tables: Tables) -> Self {
+    pub fn new(arch: Arch, symbols: u32) -> Self {
         Self {
-            mirror: Mirror::new(tables.arch, tables.counts.symbols()),
+            mirror: Mirror::new(arch, symbols),
             waiting: Mutex::new(Some(Waiting {
-                tables,
+                tables: Tables::new(arch),
                 calls: QueuedCalls::default(),
             })),
             shown: OnceLock::new(),
         }
+    }
+
+    /// The recording, after all calls that are queued.
+    pub fn tables_mut(&mut self) -> &mut Tables {
+        let (waiting, mirror) = self.parts();
+        waiting.hand_over(mirror);
+        &mut waiting.tables
     }
 
     pub fn arch(&self) -> Arch {
@@ -103,20 +111,18 @@ impl Queue {
         true
     }
 
-    /// Makes a call by a function of the library, after all that are queued.
+    /// Makes a call by a function of the library, after all that are queued. A finish is such a call, too.
     pub fn make_alone<T>(&mut self, call: impl FnOnce(&mut Tables) -> T) -> T {
+        let answer = call(self.tables_mut());
         let (waiting, mirror) = self.parts();
-        waiting.hand_over(mirror);
-        let answer = call(&mut waiting.tables);
         mirror.follow(&waiting.tables);
         answer
     }
 
-    /// The same of a sheet or a finish, which may make and bind labels.
+    /// The same of the calls of a sheet, which may make and bind labels.
     pub fn make_many<T>(&mut self, calls: impl FnOnce(&mut Tables) -> T) -> T {
+        let answer = calls(self.tables_mut());
         let (waiting, mirror) = self.parts();
-        waiting.hand_over(mirror);
-        let answer = calls(&mut waiting.tables);
         mirror.read(&waiting.tables);
         answer
     }

@@ -7,19 +7,15 @@ use crate::recording::{
 };
 use crate::{Arch, LabelUse, MOST_CODE, MOST_ENTRIES, Reloc};
 
-/// The bytes of the counts: 13 words.
-pub(crate) const COUNTS_BYTES: usize = 52;
-
-/// The counts of a recording.
-pub(crate) struct Counts(pub [u8; COUNTS_BYTES]);
+/// The counts of a recording: 13 words.
+pub(crate) struct Counts(pub [u8; 52]);
 
 impl Counts {
+    /// Counts that are not started yet.
+    pub const ZERO: Self = Self([0; 52]);
+
     fn word(&self, index: usize) -> u32 {
         word(&self.0, index)
-    }
-
-    pub fn arch(&self) -> u32 {
-        self.word(0)
     }
 
     pub fn symbols(&self) -> u32 {
@@ -152,13 +148,12 @@ pub(crate) struct Tables {
 }
 
 impl Tables {
-    /// Empty tables, beside the counts that start wrote.
+    /// Empty tables, beside counts that start is to write.
     #[inline(always)]
-    pub fn new(counts: Counts) -> Self {
-        let arch = Arch::from_number(counts.arch());
+    pub fn new(arch: Arch) -> Self {
         Self {
-            arch: arch.expect("start knows the architectures of Arch only"),
-            counts,
+            arch,
+            counts: Counts::ZERO,
             code: Table::new(),
             labels: Table::new(),
             events: Table::new(),

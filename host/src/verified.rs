@@ -7,7 +7,7 @@
 
 use crate::MOST_ENTRIES;
 use crate::ffi::{self, Segment};
-use crate::tables::{COUNTS_BYTES, Counts, LABEL_BYTES, RELOC_BYTES, Tables};
+use crate::tables::{Counts, LABEL_BYTES, RELOC_BYTES, Tables};
 
 /// The bytes of an `Elf64_Rela` entry.
 pub(crate) const RELA_BYTES: usize = 24;
@@ -47,14 +47,11 @@ impl Record {
     }
 }
 
-/// Starts a recording: the refusal, or 0, and its counts.
-#[inline(always)]
-pub(crate) fn start(arch: u32, symbols: u32) -> (u32, Counts) {
-    let mut counts = Counts([0; COUNTS_BYTES]);
-    let bytes = &mut counts.0;
-    // SAFETY: `bytes` is a live array of the length that is passed, borrowed for this call alone.
-    let number = unsafe { ffi::wargnifla_start(arch, symbols, bytes.as_mut_ptr(), bytes.len()) };
-    (number, counts)
+/// Starts a recording: the refusal, or 0.
+pub(crate) fn start(counts: &mut Counts, arch: u32, symbols: u32) -> u32 {
+    let counts = &mut counts.0;
+    // SAFETY: `counts` is a live array of the length that is passed, borrowed for this call alone.
+    unsafe { ffi::wargnifla_start(arch, symbols, counts.as_mut_ptr(), counts.len()) }
 }
 
 /// Runs a sheet: its refusal, or 0, and the index that goes with it.

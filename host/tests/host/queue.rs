@@ -224,7 +224,7 @@ impl Pair {
             2 + self.random.below(5)
         };
         if !self.slips() {
-            self.make(&Call::Bytes(vec![0; length as usize].into()));
+            self.jump_bytes(length);
         }
         let start = self.single.cur_offset().wrapping_sub(length);
         Call::Jump {
@@ -233,6 +233,27 @@ impl Pair {
             label,
             condition: self.random.below(17) + u32::from(self.slips()),
         }
+    }
+
+    /// The bytes of a jump, with labels at their end and, by a slip, inside.
+    fn jump_bytes(&mut self, length: u32) {
+        let inside = match self.slips() {
+            true => self.random.below(length),
+            false => 0,
+        };
+        self.make(&Call::Bytes(vec![0; inside as usize].into()));
+        if inside > 0 {
+            self.bind_new();
+        }
+        self.make(&Call::Bytes(vec![0; (length - inside) as usize].into()));
+        if self.chance(20) {
+            self.bind_new();
+        }
+    }
+
+    fn bind_new(&mut self) {
+        self.make(&Call::NewLabel);
+        self.make(&Call::Bind(self.single.label_count().wrapping_sub(1)));
     }
 
     fn relocation(&mut self, label: u32) -> Call {
