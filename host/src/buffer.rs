@@ -25,6 +25,9 @@ use crate::{
 /// Labels are numbered from 0 in the order of making, and so are constants; a constant's label takes the next number among the labels when it is first
 /// asked for. Tables grow before a call could find one full, up to [`MOST_ENTRIES`] entries each and [`MOST_CODE`] bytes of code.
 ///
+/// Calls that are certain to be accepted are queued, and made together by one call of the verified library: when some thousands wait, when a call is not
+/// certain, and before anything is shown that depends on them. Nothing of this can be seen but the time that calls take.
+///
 /// A refused call changes nothing but, for some numbers, that the recording answers every later call with the same refusal. A refused finish changes
 /// nothing at all.
 ///
@@ -145,8 +148,8 @@ impl CodeBuffer {
         self.tables().recording()
     }
 
-    /// How many label uses, refs, jumps and relocations against labels name a label that is not bound. It is kept by the recording, call by call, and
-    /// costs nothing to ask for; after finish it is 0. What X86 and AArch64 accept unread is not kept and not counted.
+    /// How many label uses, refs, jumps and relocations against labels name a label that is not bound. It is kept by the recording, call by call;
+    /// after finish it is 0. What X86 and AArch64 accept unread is not kept and not counted.
     ///
     /// The label of a constant is bound by finish, so what names it is open until then:
     ///

@@ -76,6 +76,7 @@ pub(crate) fn bytes_argument(bytes: &[u8]) -> Option<[u8; 16]> {
     Some(argument)
 }
 
+#[inline(always)]
 pub(crate) fn words_argument(words: [u32; 4]) -> [u8; 16] {
     let mut argument = [0; 16];
     put_words(&mut argument, words);
@@ -83,7 +84,7 @@ pub(crate) fn words_argument(words: [u32; 4]) -> [u8; 16] {
 }
 
 #[inline(always)]
-pub(crate) fn put_words(bytes: &mut [u8], words: [u32; 4]) {
+fn put_words(bytes: &mut [u8], words: [u32; 4]) {
     for (bytes, word) in bytes.chunks_exact_mut(4).zip(words) {
         bytes.copy_from_slice(&word.to_le_bytes());
     }

@@ -11,7 +11,7 @@ use std::sync::{Mutex, OnceLock};
 
 use crate::recording::{Label, Names};
 use crate::tables::{TableName, Tables};
-use crate::{Arch, Call, verified};
+use crate::{Arch, Call, UNBOUND, verified};
 use calls::QueuedCalls;
 use mirror::Mirror;
 
@@ -68,10 +68,10 @@ impl Queue {
 
     /// The offset of a label that is known.
     pub fn label_offset(&self, label: Label) -> Option<u32> {
-        if self.mirror.is_recording {
-            return self.mirror.label_offset(label.id());
+        // Finish binds labels and moves them.
+        if self.mirror.is_recording && self.mirror.is_unbound(label.id()) {
+            return Some(UNBOUND);
         }
-        // Finish moves labels.
         self.tables().label_offset(label)
     }
 

@@ -1,7 +1,7 @@
 //! The calls that wait, as a sheet in the making.
 
 use crate::Call;
-use crate::call::{MOST_BYTES, put_words, words_of};
+use crate::call::{MOST_BYTES, words_argument, words_of};
 
 /// The bytes of a sheet's count, and of an argument.
 const COUNT_BYTES: usize = 4;
@@ -49,14 +49,17 @@ impl QueuedCalls {
     /// Makes room for more calls than before, if none waits.
     pub fn grow(&mut self) {
         self.most = (4 * self.most).clamp(FIRST_CALLS, MOST_CALLS);
-        let size = COUNT_BYTES + self.most * (1 + ARGUMENT_BYTES);
-        self.bytes.resize(size, 0);
+        let kinds_end = COUNT_BYTES + self.most;
+        self.bytes.clear();
+        self.bytes.reserve(kinds_end + self.most * ARGUMENT_BYTES);
+        self.bytes.resize(kinds_end, 0);
     }
 
     #[inline(always)]
     pub fn push(&mut self, call: &Call<&[u8]>) {
         let kind = call.kind();
         match call {
+            Call::Bytes(bytes) if bytes.len() <= MOST_BYTES => self.push_bytes(kind, bytes),
             Call::Bytes(bytes) => {
                 for part in bytes.chunks(MOST_BYTES) {
                     self.push_bytes(kind, part);
@@ -65,42 +68,38 @@ impl QueuedCalls {
             Call::Constant(bytes) => self.push_bytes(kind, bytes),
             other => {
                 let words = words_of(other).expect("a sheet can carry the call");
-                put_words(self.next(kind), words);
+                self.push_argument(kind, words_argument(words));
             }
         }
     }
 
     #[inline(always)]
     fn push_bytes(&mut self, kind: u8, bytes: &[u8]) {
-        let argument = self.next(kind);
-        *argument = [0; ARGUMENT_BYTES];
-        argument[0] = bytes.len() as u8;
-        argument[4..4 + bytes.len()].copy_from_slice(bytes);
+        let at = self.bytes.len() + 4;
+        self.push_argument(kind, words_argument([bytes.len() as u32, 0, 0, 0]));
+        // In their place: an argument that is moved as it was just written costs more than to write it.
+        self.bytes[at..at + bytes.len()].copy_from_slice(bytes);
     }
 
-    /// The argument of one more call.
     #[inline(always)]
-    fn next(&mut self, kind: u8) -> &mut [u8; ARGUMENT_BYTES] {
-        let (kinds, arguments) = self.bytes[COUNT_BYTES..].split_at_mut(self.most);
-        let (arguments, _) = arguments.as_chunks_mut();
-        kinds[self.count] = kind;
-        let argument = &mut arguments[self.count];
+    fn push_argument(&mut self, kind: u8, argument: [u8; ARGUMENT_BYTES]) {
+        self.bytes[COUNT_BYTES + self.count] = kind;
+        self.bytes.extend_from_slice(&argument);
         self.count += 1;
-        argument
     }
 
     /// The sheet of all calls.
     pub fn sheet(&mut self) -> &[u8] {
         let start = self.most - self.count;
-        let end = COUNT_BYTES + self.most + self.count * ARGUMENT_BYTES;
         let kinds = COUNT_BYTES..COUNT_BYTES + self.count;
         self.bytes.copy_within(kinds, start + COUNT_BYTES);
         let count = (self.count as u32).to_le_bytes();
         self.bytes[start..start + COUNT_BYTES].copy_from_slice(&count);
-        &self.bytes[start..end]
+        &self.bytes[start..]
     }
 
     pub fn clear(&mut self) {
         self.count = 0;
+        self.bytes.truncate(COUNT_BYTES + self.most);
     }
 }

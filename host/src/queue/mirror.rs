@@ -12,9 +12,6 @@ const NO_LABEL: u32 = u32::MAX;
 /// The greatest multiple of an alignment.
 const MOST_ALIGNMENT: u32 = 4096;
 
-/// Room for so many labels is made at once.
-const FIRST_LABELS: usize = 64;
-
 pub(super) struct Mirror {
     pub arch: Arch,
     /// It has not finished, and no refusal is recorded.
@@ -22,8 +19,7 @@ pub(super) struct Mirror {
     symbols: u32,
     /// The entries of each table, the bytes of code first.
     lengths: [usize; TableName::COUNT],
-    /// The offset of each label, or `UNBOUND`.
-    labels: Vec<u32>,
+    bound: BoundLabels,
     /// The label of each constant, or `NO_LABEL`.
     constants: Vec<u32>,
     /// The end of the last event.
@@ -42,7 +38,7 @@ impl Mirror {
             is_recording: true,
             symbols,
             lengths: [0; TableName::COUNT],
-            labels: Vec::with_capacity(FIRST_LABELS),
+            bound: BoundLabels::default(),
             constants: Vec::new(),
             last_end: 0,
             greatest: 0,
@@ -52,14 +48,18 @@ impl Mirror {
 
     /// Takes over what the library left after calls that may have made and bound labels.
     pub fn read(&mut self, tables: &Tables) {
-        self.labels.clear();
-        self.labels.extend(tables.labels());
+        self.bound = BoundLabels::default();
+        for (label, offset) in tables.labels().enumerate() {
+            if offset != UNBOUND {
+                self.bound.add(label);
+            }
+        }
+        self.greatest = greatest_below(tables, UNBOUND);
+        self.second = greatest_below(tables, self.greatest);
         let labels = tables.constants().map(|constant| constant.label);
         self.constants.clear();
         self.constants
             .extend(labels.map(|label| label.map_or(NO_LABEL, Label::id)));
-        self.greatest = greatest_below(&self.labels, UNBOUND);
-        self.second = greatest_below(&self.labels, self.greatest);
         self.follow(tables);
     }
 
@@ -70,7 +70,6 @@ impl Mirror {
         self.lengths = TableName::ALL.map(|table| tables.counts.of(table));
         self.constants.resize(tables.constant_count(), NO_LABEL);
         self.last_end = tables.events().next_back().map_or(0, |event| event.end());
-        assert_eq!(self.labels.len(), tables.label_count(), "a label was made");
     }
 
     /// Makes room for what the tables come to.
@@ -103,9 +102,10 @@ impl Mirror {
         self.len(TableName::Code) as u32
     }
 
+    /// Whether a label is known and waits to be bound.
     #[inline(always)]
-    pub fn label_offset(&self, label: u32) -> Option<u32> {
-        self.labels.get(label as usize).copied()
+    pub fn is_unbound(&self, label: u32) -> bool {
+        self.knows_label(label) && !self.bound.contains(label as usize)
     }
 
     /// The label of a constant that is known and was asked for.
@@ -123,7 +123,7 @@ impl Mirror {
             && match *call {
                 Call::Bytes(bytes) => self.has_code_room(bytes.len()),
                 Call::NewLabel => self.has_room(TableName::Labels),
-                Call::Bind(label) => self.label_offset(label) == Some(UNBOUND),
+                Call::Bind(label) => self.is_unbound(label),
                 Call::Align { multiple, most } => self.takes_alignment(multiple, most),
                 Call::Use { label, code, .. } => {
                     self.takes_field(label, code) && self.has_room(TableName::Uses)
@@ -172,7 +172,7 @@ impl Mirror {
 
     #[inline(always)]
     fn knows_label(&self, label: u32) -> bool {
-        (label as usize) < self.labels.len()
+        (label as usize) < self.len(TableName::Labels)
     }
 
     fn knows_target(&self, target: u32) -> bool {
@@ -236,7 +236,7 @@ impl Mirror {
         let keeps = self.arch.tracks_layout();
         match *call {
             Call::Bytes(bytes) => self.add(TableName::Code, bytes.len()),
-            Call::NewLabel => self.make_label(),
+            Call::NewLabel => self.add(TableName::Labels, 1),
             Call::Bind(label) => self.bind(label),
             Call::Align { multiple, most } => {
                 self.add(TableName::Code, self.padding(multiple, most));
@@ -254,17 +254,11 @@ impl Mirror {
         }
     }
 
-    #[inline(always)]
-    fn make_label(&mut self) {
-        self.add(TableName::Labels, 1);
-        self.labels.push(UNBOUND);
-    }
-
     /// Binds a label to the current offset, which no bound label is past.
     #[inline(always)]
     fn bind(&mut self, label: u32) {
         let offset = self.offset();
-        self.labels[label as usize] = offset;
+        self.bound.add(label as usize);
         if self.greatest < offset {
             (self.greatest, self.second) = (offset, self.greatest);
         }
@@ -281,17 +275,51 @@ impl Mirror {
 
     fn ask(&mut self, constant: usize) {
         if self.constants[constant] == NO_LABEL {
-            self.constants[constant] = self.labels.len() as u32;
-            self.make_label();
+            self.constants[constant] = self.len(TableName::Labels) as u32;
+            self.add(TableName::Labels, 1);
             self.add(TableName::Asked, 1);
         }
     }
 }
 
 /// The greatest offset below another at which a label is bound; 0 if there is none.
-fn greatest_below(labels: &[u32], offset: u32) -> u32 {
-    let below = labels.iter().copied().filter(|at| *at < offset);
+fn greatest_below(tables: &Tables, offset: u32) -> u32 {
+    let below = tables.labels().filter(|at| *at < offset);
     below.max().unwrap_or(0)
+}
+
+/// The labels that are bound, a bit for each: those of a small rule take no allocation.
+#[derive(Default)]
+struct BoundLabels {
+    first: u64,
+    more: Vec<u64>,
+}
+
+impl BoundLabels {
+    #[inline(always)]
+    fn contains(&self, label: usize) -> bool {
+        let word = match label / 64 {
+            0 => self.first,
+            number => self.more.get(number - 1).copied().unwrap_or(0),
+        };
+        word >> (label % 64) & 1 == 1
+    }
+
+    #[inline(always)]
+    fn add(&mut self, label: usize) {
+        let word = match label / 64 {
+            0 => &mut self.first,
+            number => self.word_mut(number - 1),
+        };
+        *word |= 1 << (label % 64);
+    }
+
+    fn word_mut(&mut self, number: usize) -> &mut u64 {
+        if self.more.len() <= number {
+            self.more.resize(number + 1, 0);
+        }
+        &mut self.more[number]
+    }
 }
 
 /// The last code of a field.

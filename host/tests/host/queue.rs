@@ -266,8 +266,9 @@ impl Pair {
             Arch::AArch64 => [0, 1, 8, 11, 19, 21][self.random.below(6) as usize],
             _ => [0, 1, 2, 4, 6, 9, 10][self.random.below(7) as usize],
         };
-        let offset = match self.random.below(40) {
+        let offset = match self.random.below(10) {
             0 => 16_777_215 + u32::from(self.slips()),
+            _ if self.slips() => 16_777_216,
             _ => self.random.below(100),
         };
         let addend = [0, -4, i64::from(i32::MAX), 1 << 31, i64::MIN];
@@ -468,4 +469,19 @@ fn queued_calls_answer_as_single_ones() {
     let expected = expected.filter(|number| ![14, 16].contains(number));
     let missing: Vec<u32> = expected.filter(|n| !refused.contains(n)).collect();
     assert_eq!(missing, [], "numbers that nothing was refused by");
+}
+
+/// Bytes that fit the code, and one more than fit, by one call of a sheet and by several.
+#[test]
+fn the_code_ends_where_it_ends_for_single_calls() {
+    for (left, more) in [(0, 0), (0, 1), (5, 5), (5, 6), (12, 13), (96, 96), (96, 97)] {
+        let mut pair = Pair::new(Arch::X64, 1);
+        let most = Call::Bytes(vec![0; MOST_CODE - left].into());
+        pair.queued.call(&most).unwrap();
+        pair.single.call(&most).unwrap();
+        pair.make(&Call::Bytes(vec![1; more].into()));
+        assert_eq!(pair.refused.contains(&12), more > left);
+        pair.make(&Call::align(4_096));
+        pair.ask_all();
+    }
 }
