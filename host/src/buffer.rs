@@ -69,17 +69,12 @@ impl CodeBuffer {
     #[inline]
     #[must_use]
     pub fn with_symbols(arch: Arch, symbols: u32) -> Self {
-        let mut buffer = Self {
+        Self {
             queue: Queue::new(arch, symbols),
             first_refusal: None,
             unread: Vec::new(),
             definitions: Vec::new(),
-        };
-        // The counts are written where they stay: to move them as they were just written would cost more than to write them.
-        let counts = &mut buffer.queue.tables_mut().counts;
-        let number = verified::start(counts, arch.number(), symbols);
-        assert_eq!(number, 0, "start takes every Arch");
-        buffer
+        }
     }
 
     /// Starts a recording for an architecture given by number.

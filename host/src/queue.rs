@@ -30,7 +30,8 @@ struct Waiting {
 }
 
 impl Queue {
-    /// A recording that is to be started.
+    /// A recording that is started before the first calls are handed over: counts that stand in their place are not moved as they were just written,
+    /// which would take longer than to write them.
     #[inline(always)]
     pub fn new(arch: Arch, symbols: u32) -> Self {
         Self {
@@ -144,6 +145,9 @@ const BROKEN: &str = "queued calls were refused before";
 impl Waiting {
     /// Hands over what is queued. The mirror says what the recording comes to.
     fn hand_over(&mut self, mirror: &Mirror) {
+        if !self.tables.counts.is_started() {
+            self.start(mirror);
+        }
         if self.calls.is_empty() {
             return;
         }
@@ -158,6 +162,12 @@ impl Waiting {
             "the calls that were queued come to another recording"
         );
         self.calls.clear();
+    }
+
+    fn start(&mut self, mirror: &Mirror) {
+        let counts = &mut self.tables.counts;
+        let number = verified::start(counts, mirror.arch.number(), mirror.symbols);
+        assert_eq!(number, 0, "start takes every Arch");
     }
 
     #[cold]

@@ -11,8 +11,12 @@ use crate::{Arch, LabelUse, MOST_CODE, MOST_ENTRIES, Reloc};
 pub(crate) struct Counts(pub [u8; 52]);
 
 impl Counts {
-    /// Counts that are not started yet.
+    /// Those of a recording that is to be started.
     pub const ZERO: Self = Self([0; 52]);
+
+    pub fn is_started(&self) -> bool {
+        self.word(0) != 0
+    }
 
     fn word(&self, index: usize) -> u32 {
         word(&self.0, index)

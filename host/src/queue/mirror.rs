@@ -16,7 +16,7 @@ pub(super) struct Mirror {
     pub arch: Arch,
     /// It has not finished, and no refusal is recorded.
     pub is_recording: bool,
-    symbols: u32,
+    pub symbols: u32,
     /// The entries of each table, the bytes of code first.
     lengths: [usize; TableName::COUNT],
     bound: BoundLabels,
