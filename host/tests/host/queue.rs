@@ -66,6 +66,15 @@ impl Pair {
         assert_eq!(answer(queued), answer(single), "{call:?}");
     }
 
+    /// An alignment that may spend nothing, which no sheet can say.
+    fn align_within_none(&mut self) {
+        let offset = self.single.cur_offset();
+        let answers = [&mut self.queued, &mut self.single]
+            .map(|buffer| answer(buffer.try_align_to_within(16, 0).map(|()| None)));
+        assert_eq!(answers[0], answers[1]);
+        assert_eq!(self.queued.cur_offset(), offset);
+    }
+
     /// The label or constant that an accepted call gave.
     fn number_of(&self, call: &Call) -> u32 {
         match call {
@@ -440,6 +449,9 @@ fn compare(seed: u64) -> BTreeSet<u32> {
     for _ in 0..pair.random.below(count) {
         let call = pair.call();
         pair.make(&call);
+        if pair.chance(3) {
+            pair.align_within_none();
+        }
         if pair.chance(asking) {
             pair.ask();
         }
