@@ -11,7 +11,7 @@ use crate::queue::Queue;
 use crate::recording::{
     AsmFixup, AsmReloc, Constant, Label, Recording, RelocTarget, Sym, constant_alignment,
 };
-use crate::sheet::{Sheet, extended, most_padding};
+use crate::sheet::{Sheet, extended};
 use crate::tables::{Counts, TableName, Tables};
 use crate::unpatched::unpatched;
 use crate::verified::{self, Record};
