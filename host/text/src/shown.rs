@@ -8,7 +8,10 @@ const KEPT: usize = 32;
 pub fn shown(word: &str) -> String {
     let cut = word.chars().nth(MOST_SHOWN).is_some();
     let kept = if cut { KEPT } else { MOST_SHOWN };
-    let mut shown: String = word.chars().take(kept).map(escaped).collect();
+    let mut shown = String::with_capacity(word.len());
+    for c in word.chars().take(kept) {
+        push_escaped(&mut shown, c);
+    }
     if cut {
         shown.push_str("..");
     }
@@ -17,9 +20,16 @@ pub fn shown(word: &str) -> String {
 
 /// A character as it is, or its escape where it has no shape of its own.
 pub fn escaped(c: char) -> String {
+    let mut escaped = String::new();
+    push_escaped(&mut escaped, c);
+    escaped
+}
+
+/// Without a string for each character: listings show a name in most lines.
+fn push_escaped(text: &mut String, c: char) {
     match c {
-        '\'' | '"' | '\\' => c.into(),
-        _ => c.escape_debug().collect(),
+        '\'' | '"' | '\\' => text.push(c),
+        _ => text.extend(c.escape_debug()),
     }
 }
 
