@@ -120,11 +120,11 @@ impl Queue {
         answer
     }
 
-    /// The same of the calls of a sheet, which may make and bind labels.
+    /// The same of the calls of a sheet.
     pub fn make_many<T>(&mut self, calls: impl FnOnce(&mut Tables) -> T) -> T {
         let answer = calls(self.tables_mut());
         let (waiting, mirror) = self.parts();
-        mirror.read(&waiting.tables);
+        mirror.pass_over(&waiting.tables);
         answer
     }
 
@@ -139,7 +139,7 @@ impl Queue {
     }
 }
 
-/// After a panic while calls were handed over, which is the next function's.
+/// What is said if the recording is used once more after handing over has panicked.
 const BROKEN: &str = "queued calls were refused before";
 
 impl Waiting {

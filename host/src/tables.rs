@@ -278,6 +278,12 @@ impl Tables {
         self.constants.entries(self.constant_count()).map(constant)
     }
 
+    /// The label of each constant, if it was asked for.
+    pub fn constant_labels(&self) -> impl Iterator<Item = Option<Label>> {
+        let entries = self.constants.entries(self.constant_count());
+        entries.map(constant_label)
+    }
+
     pub fn asked(&self) -> impl Iterator<Item = u32> {
         self.asked.entries(self.asked_count()).map(first_word)
     }

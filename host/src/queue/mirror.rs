@@ -14,8 +14,10 @@ const MOST_ALIGNMENT: u32 = 4096;
 
 pub(super) struct Mirror {
     pub arch: Arch,
-    /// It has not finished, and no refusal is recorded.
+    /// It has not finished, no refusal is recorded, and labels and constants are known here.
     pub is_recording: bool,
+    /// A sheet was run since labels and constants were read.
+    is_stale: bool,
     pub symbols: u32,
     /// The entries of each table, the bytes of code first.
     lengths: [usize; TableName::COUNT],
@@ -36,6 +38,7 @@ impl Mirror {
         Self {
             arch,
             is_recording: true,
+            is_stale: false,
             symbols,
             lengths: [0; TableName::COUNT],
             bound: BoundLabels::default(),
@@ -46,8 +49,32 @@ impl Mirror {
         }
     }
 
-    /// Takes over what the library left after calls that may have made and bound labels.
-    pub fn read(&mut self, tables: &Tables) {
+    /// Takes over the lengths that the calls of a sheet left. What they made of labels and constants is read after the next call, so that a sheet costs
+    /// no look at all of them.
+    pub fn pass_over(&mut self, tables: &Tables) {
+        self.is_stale = true;
+        self.is_recording = false;
+        self.read_lengths(tables);
+    }
+
+    /// Takes over what the library left after a call that was not certain. Such a call neither makes nor binds a label, unless a sheet was passed over; a
+    /// finish binds some, but then labels matter no more.
+    pub fn follow(&mut self, tables: &Tables) {
+        if self.is_stale {
+            self.read_labels(tables);
+            self.is_stale = false;
+        }
+        self.is_recording = !tables.counts.is_finished() && tables.counts.refusal() == 0;
+        self.read_lengths(tables);
+        self.constants.resize(tables.constant_count(), NO_LABEL);
+        self.last_end = tables.events().next_back().map_or(0, |event| event.end());
+    }
+
+    fn read_lengths(&mut self, tables: &Tables) {
+        self.lengths = TableName::ALL.map(|table| tables.counts.of(table));
+    }
+
+    fn read_labels(&mut self, tables: &Tables) {
         self.bound = BoundLabels::default();
         for (label, offset) in tables.labels().enumerate() {
             if offset != UNBOUND {
@@ -56,20 +83,9 @@ impl Mirror {
         }
         self.greatest = greatest_below(tables, UNBOUND);
         self.second = greatest_below(tables, self.greatest);
-        let labels = tables.constants().map(|constant| constant.label);
-        self.constants.clear();
-        self.constants
-            .extend(labels.map(|label| label.map_or(NO_LABEL, Label::id)));
-        self.follow(tables);
-    }
-
-    /// Takes over what the library left after a call that was not certain. Such a call neither makes nor binds a label; a finish binds some, but then labels
-    /// matter no more.
-    pub fn follow(&mut self, tables: &Tables) {
-        self.is_recording = !tables.counts.is_finished() && tables.counts.refusal() == 0;
-        self.lengths = TableName::ALL.map(|table| tables.counts.of(table));
-        self.constants.resize(tables.constant_count(), NO_LABEL);
-        self.last_end = tables.events().next_back().map_or(0, |event| event.end());
+        let labels = tables.constant_labels();
+        let labels = labels.map(|label| label.map_or(NO_LABEL, Label::id));
+        self.constants = labels.collect();
     }
 
     /// Makes room for what the tables come to.

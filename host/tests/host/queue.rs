@@ -66,6 +66,17 @@ impl Pair {
         assert_eq!(answer(queued), answer(single), "{call:?}");
     }
 
+    /// A sheet amid calls, which makes a label and may bind one.
+    fn run_sheet(&mut self) {
+        let labels = self.single.label_count();
+        let calls = [Call::NewLabel, Call::Bind(self.random.below(labels + 1))];
+        let count = 1 + self.random.below(2) as usize;
+        let sheet = write_sheet(&calls[..count]).unwrap();
+        let answers = [&mut self.queued, &mut self.single].map(|buffer| buffer.run_sheet(&sheet));
+        let [queued, single] = answers.map(|answer| answer.map_err(|error| plain(&error)));
+        assert_eq!(queued, single);
+    }
+
     /// An alignment that may spend nothing, which no sheet can say.
     fn align_within_none(&mut self) {
         let offset = self.single.cur_offset();
@@ -451,6 +462,9 @@ fn compare(seed: u64) -> BTreeSet<u32> {
         pair.make(&call);
         if pair.chance(3) {
             pair.align_within_none();
+        }
+        if pair.chance(3) {
+            pair.run_sheet();
         }
         if pair.chance(asking) {
             pair.ask();
