@@ -322,7 +322,8 @@ uint32_t wargnifla_finish(uint8_t *counts, size_t counts_len, const uint8_t *cod
                           uint8_t *record, size_t record_len);
 
 /* Bytes of stack that are enough for finish: c/finish_stack.c measures some 137,500, and 4,096 more are for a memcpy or memset that the dynamic
- * linker looks up at its first call. The second number is for wargnifla_join. Less than 8,192 are enough for each of the others. */
+ * linker looks up at its first call. The second number is for wargnifla_join. A small rule takes less than 16,384 for
+ * either. Less than 8,192 are enough for each of the others. */
 #define WARGNIFLA_FINISH_STACK 143360
 #define WARGNIFLA_JOIN_STACK 532480
 

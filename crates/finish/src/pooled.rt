@@ -194,7 +194,15 @@ pub(crate) fn relax_and_write(
         return refused(why);
     }
     emit::map_words(labels, segments, index, shift, 1, b.labels as usize, all);
-    emit::map_words(relocs, segments, index, shift, 6, b.relocs as usize, all);
+    emit::map_words(
+        relocs,
+        segments,
+        index,
+        shift,
+        buffer::RELOC_WORDS,
+        b.relocs as usize,
+        all,
+    );
     write_relaxed(
         b,
         output,

@@ -287,7 +287,7 @@ fn count_remaining_in(relocs: &[u8], piece: Piece, cursor: Cursor) -> usize
     count
 }
 
-// How many of the first `n` pieces do.
+// How many relocations of the first `n` pieces remain.
 pub fn count_remaining(pieces: &[u8], relocs: &[u8], n: usize) -> usize
     requires { ⌜ Relocations (now pieces) (now relocs) n ⌝ }
     ensures { λ r. ⌜ r ≡ countRemaining (now (pieces .entry)) (now (relocs .entry)) n ⌝ }
