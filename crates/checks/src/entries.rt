@@ -148,6 +148,9 @@ fn labels_fit_by(
     each_label_fits(labels, n, events, m, code, index, shift)
 }
 
+// With a large index, which is to stay out of the stack frame of those who have few labels. LLVM never takes a function that calls itself into its caller, and
+// the language has no other way to ask for that. So this one calls itself, in an arm that is never reached: `again` is a slice's length by 2^63, which is 0,
+// and which the compiler can't know. What the arm makes of the answer keeps the call from becoming a loop.
 fn many_labels_fit(
     labels: &[u8],
     n: usize,
@@ -415,6 +418,7 @@ fn small_order_fits(asked: &[u8], n: usize, constants: &[u8], known: u32) -> boo
     order_fits_by(asked, n, constants, known, &mut seen, &mut taken)
 }
 
+// With marks for as many as there can be, which are to stay out of small frames: it calls itself for the reason that `many_labels_fit` has.
 fn large_order_fits(asked: &[u8], n: usize, constants: &[u8], known: u32, again: usize) -> bool
     requires { ⌜ again ≡ 0 ⌝ ∗ ⌜ (n * askedSize ≤ length (now asked)) × (known ≤ mostEntries) ⌝ ∗ ⌜ Labelled (now constants) known mostEntries ⌝ }
     ensures { λ r. ⌜ r ≡ orderFits (now (asked .entry)) n (now (constants .entry)) known ⌝ }

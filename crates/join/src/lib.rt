@@ -154,7 +154,8 @@ fn join_by(
     }
 }
 
-// With a table that has room for many symbols.
+// With a table that has room for many symbols, which is to stay out of the stack frame of a small join: it calls itself, in an arm that is never reached, for
+// the reason that checks' `many_labels_fit` has.
 fn join_many(
     pieces: &[u8],
     code: &[u8],
