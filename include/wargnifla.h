@@ -2,7 +2,7 @@
  *
  * A recording is made call by call: bytes, labels, alignments, fields that name labels, jumps, constants, relocations. Finishing it pools its
  * constants, takes every jump for short and lengthens those that then can't reach, round by round, and writes the code. Its relocations can then be
- * written as ELF has them, for the system linker. Finished recordings can be joined into one, which fills the calls from one to another. The ten
+ * written as ELF has them, for the system linker. Finished recordings can be joined into one, which fills the calls from one to another. The eleven
  * functions are proved to do what crates/wargnifla/specs/ says; the inline functions at the end of this file are tested.
  *
  * Every function accepts every input and ends. It allocates nothing and keeps nothing: a recording is the counts and the tables that the caller lends
@@ -19,11 +19,12 @@
 #include <stddef.h>
 #include <stdint.h>
 
-/* The version of this header and of the archive beside it. */
+/* The version of this header and of the archive beside it; wargnifla_version says the archive's. */
 #define WARGNIFLA_VERSION_MAJOR 0
-#define WARGNIFLA_VERSION_MINOR 1
+#define WARGNIFLA_VERSION_MINOR 8
 #define WARGNIFLA_VERSION_PATCH 0
-#define WARGNIFLA_VERSION "0.1.0"
+#define WARGNIFLA_VERSION "0.8.0"
+#define WARGNIFLA_VERSION_NUMBER 8000 /* major * 1,000,000 + minor * 1,000 + patch */
 
 #ifdef __cplusplus
 extern "C" {
@@ -290,6 +291,9 @@ typedef struct {
 /* A sheet of calls: the number of calls (a word), a byte for each one's kind, then four words for each one's arguments. Unused words and bytes
  * are 0. */
 #define WARGNIFLA_SHEET_BYTES(calls) (4 + 17 * (size_t)(calls))
+
+/* The version of the library that is linked, as WARGNIFLA_VERSION_NUMBER is. */
+uint32_t wargnifla_version(void);
 
 /* Starts a recording: writes its counts. A refused start (2) writes zeros. symbols: how many symbol numbers relocations may name. */
 uint32_t wargnifla_start(uint32_t arch, uint32_t symbols, uint8_t *counts, size_t counts_len);

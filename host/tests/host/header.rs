@@ -230,4 +230,7 @@ fn version() {
     let parts =
         ["MAJOR", "MINOR", "PATCH"].map(|part| defined(&format!("WARGNIFLA_VERSION_{part}")));
     assert_eq!(parts.join("."), version);
+    let [major, minor, patch] = parts.map(|part| part.parse::<u32>().expect("a number"));
+    let number = major * 1_000_000 + minor * 1_000 + patch;
+    assert_eq!(defined("WARGNIFLA_VERSION_NUMBER"), number.to_string());
 }
