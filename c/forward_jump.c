@@ -3,20 +3,17 @@
 
 #include "small_tables.h"
 
-enum { LONGEST_JNE = 6 };
-
 static void jump_over(size_t run) {
     static const uint32_t not_equal = 5;
     wargnifla_tables tables = small_tables(WARGNIFLA_X64, 0);
     wargnifla_segment segments[ENTRY_ROOM];
     wargnifla_record record;
-    uint8_t jump[LONGEST_JNE] = {0}, nops[CODE_ROOM], output[CODE_ROOM];
+    uint8_t nops[CODE_ROOM], output[CODE_ROOM];
     uint32_t end;
 
     memset(nops, 0x90, sizeof nops);
     accept("new label", wargnifla_tables_new_label(&tables, &end));
-    accept("bytes", wargnifla_tables_put_bytes(&tables, jump, sizeof jump)); /* room for the jump; finish writes its bytes */
-    accept("jump", wargnifla_tables_jump(&tables, 0, sizeof jump, end, not_equal));
+    accept("jump", wargnifla_put_jump(&tables, end, not_equal)); /* in its long form; finish may shorten it */
     accept("bytes", wargnifla_tables_put_bytes(&tables, nops, run));
     accept("bind", wargnifla_tables_bind(&tables, end));
     accept("finish", wargnifla_tables_finish(&tables, segments, ENTRY_ROOM, output, sizeof output, &record));

@@ -1,4 +1,5 @@
-/* Refusals and their names: one that leaves the recording as it was, one that ends it, and one of finish, after which another finish may follow. */
+/* Refusals, their names and what they say: one that leaves the recording as it was, one that ends it, one of finish, after which another finish may
+ * follow, and then all. */
 #include "small_tables.h"
 
 static void print_answer(const char *call, uint32_t refusal) { printf("%s: %u %s\n", call, (unsigned)refusal, wargnifla_refusal_name(refusal)); }
@@ -25,8 +26,15 @@ static void finish_twice(void) {
     print_answer("finish again", wargnifla_tables_finish(&tables, NULL, 0, output, sizeof output, &record));
 }
 
+static void print_all(void) {
+    uint32_t refusal;
+    for (refusal = WARGNIFLA_ACCEPTED; refusal <= WARGNIFLA_SYMBOL_UNDEFINED + 1; refusal++)
+        printf("%u %s: %s\n", (unsigned)refusal, wargnifla_refusal_name(refusal), wargnifla_refusal_text(refusal));
+}
+
 int main(void) {
     end_a_recording();
     finish_twice();
+    print_all();
     return 0;
 }

@@ -496,6 +496,43 @@ static inline const char *wargnifla_refusal_name(uint32_t refusal) {
     return refusal < sizeof names / sizeof *names ? names[refusal] : "UNKNOWN";
 }
 
+/* What a refusal says, for a message: a sentence without capital and full stop. enum wargnifla_refusal has every condition. */
+static inline const char *wargnifla_refusal_text(uint32_t refusal) {
+    static const char *const texts[] = {
+        "accepted",
+        "the input breaks its form: a sheet, a code or kind, the counts, an entry of a table, a record or a piece",
+        "the architecture is none of X86, X64 and AArch64",
+        "the code, the output, a table or a piece exceeds its limit",
+        "the recording has finished",
+        "the alignment is no power of two, or exceeds 4,096",
+        "a use can't have code 15",
+        "the kind of field or relocation is foreign to the architecture",
+        "there is no label, constant or symbol of that number",
+        "the label is bound already",
+        "the place, length or condition of a jump, the offset of a relocation or the size of a constant is wrong",
+        "a table is too small for what it is to hold",
+        "the code has no room for the bytes or the padding",
+        "the label of a pooled constant was bound by the caller",
+        "the code with its pooled constants exceeds 16,777,216 bytes",
+        "a use, ref, jump or relocation names a label that is not bound",
+        "there are fewer segments than events and pooled constants",
+        "a field runs into a jump or an alignment, or passes the end of its code",
+        "a field can't reach its label or symbol plus addend",
+        "the field of a use passes the end of the code",
+        "a branch can't reach its label",
+        "a field can't reach its label, which is too far ahead",
+        "a field can't reach its label, which is too far back",
+        "the output is too small for the code",
+        "the architecture, or the kind of a relocation, has no ELF type",
+        "the addend of a relocation plus the offset of its label exceeds signed 64 bits",
+        "the output is too small for the ELF entries",
+        "recordings of different architectures can't be joined",
+        "a symbol is defined twice",
+        "a symbol that is to be filled in is not defined, or by a label that is not bound",
+    };
+    return refusal < sizeof texts / sizeof *texts ? texts[refusal] : "unknown";
+}
+
 /* One of the counts, named by enum wargnifla_count. */
 static inline uint32_t wargnifla_count_of(const wargnifla_tables *tables, int which) {
     return wargnifla_word(tables->counts + 4 * which);
@@ -674,6 +711,32 @@ static inline uint32_t wargnifla_tables_jump(wargnifla_tables *tables, uint32_t 
     return wargnifla_tables_call(tables, WARGNIFLA_CALL_JUMP, start, length, label, condition);
 }
 
+/* How many bytes the long form of a jump takes. */
+static inline uint32_t wargnifla_long_jump(uint32_t condition) { return condition == WARGNIFLA_ALWAYS ? 5 : 6; }
+
+/* Appends the long form of a jump to a label, and records the jump: finish makes it short where it reaches. X86 keeps no jumps, so there a use of
+ * X86JmpRel32 is recorded, and the jump stays long: code by wargnifla_long_jump, on X64 events and else uses by 1. On AArch64 that use is foreign
+ * (7). A condition above 16 answers 10 and changes nothing. Any other refusal changes nothing, or ends the recording. */
+static inline uint32_t wargnifla_put_jump(wargnifla_tables *tables, uint32_t label, uint32_t condition) {
+    uint8_t form[6] = {0xE9, 0, 0, 0, 0, 0}, sheet[WARGNIFLA_SHEET_BYTES(2)];
+    uint32_t start = wargnifla_count_of(tables, WARGNIFLA_COUNT_CODE), length = wargnifla_long_jump(condition), index;
+    int is_kept = wargnifla_count_of(tables, WARGNIFLA_COUNT_ARCH) == WARGNIFLA_X64;
+    if (condition > WARGNIFLA_ALWAYS)
+        return WARGNIFLA_BAD_ENTRY;
+    if (condition < WARGNIFLA_ALWAYS) {
+        form[0] = 0x0F;
+        form[1] = (uint8_t)(0x80 + condition);
+    }
+    wargnifla_sheet_start(sheet, 2);
+    /* A jump comes after its bytes; a use before them, so that a foreign one leaves none. */
+    wargnifla_sheet_bytes(sheet, is_kept ? 0 : 1, WARGNIFLA_CALL_BYTES, form, length);
+    if (is_kept)
+        wargnifla_sheet_call(sheet, 1, WARGNIFLA_CALL_JUMP, start, length, label, condition);
+    else
+        wargnifla_sheet_call(sheet, 0, WARGNIFLA_CALL_USE, start + length - 4, label, WARGNIFLA_FIELD_X86JmpRel32, 0);
+    return wargnifla_tables_run_sheet(tables, sheet, sizeof sheet, &index);
+}
+
 /* label becomes the label of a constant, made at the first asking, or WARGNIFLA_NONE where it is refused. */
 static inline uint32_t wargnifla_tables_constant_label(wargnifla_tables *tables, uint32_t constant, uint32_t *label) {
     uint32_t refusal = wargnifla_tables_call(tables, WARGNIFLA_CALL_CONSTANT_LABEL, constant, 0, 0, 0);
@@ -727,7 +790,7 @@ static inline uint32_t wargnifla_padding_within(uint32_t offset, uint32_t multip
 static inline uint64_t wargnifla_event_growth(const uint8_t *event) {
     uint32_t length = wargnifla_word(event + 8), last = wargnifla_word(event + 16), most = wargnifla_word(event + 12) - 1;
     if (wargnifla_word(event) == WARGNIFLA_EVENT_JUMP)
-        most = last == WARGNIFLA_ALWAYS ? 5 : 6;
+        most = wargnifla_long_jump(last);
     else if (last < most)
         most = last;
     return (uint64_t)most - length;

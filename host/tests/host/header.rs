@@ -1,5 +1,6 @@
 //! include/wargnifla.h has the names and numbers that this package has.
 
+use std::collections::BTreeSet;
 use std::fmt::Debug;
 
 use wargnifla::{Arch, AsmConstant, Call, CodeBuffer, ElfType, LabelUse, Refusal, Reloc};
@@ -68,6 +69,25 @@ fn refusals() {
             "{number}"
         );
     }
+}
+
+/// The strings that an inline function of the header has in its array.
+fn strings_of(function: &str) -> Vec<&'static str> {
+    let (_, after) = HEADER
+        .split_once(&format!("*{function}("))
+        .expect("the function stands in the header");
+    let (_, array) = after.split_once("[] = {").expect("it has an array");
+    let (array, _) = array.split_once("};").expect("the array ends");
+    array.split('"').skip(1).step_by(2).collect()
+}
+
+#[test]
+fn every_refusal_has_a_text_of_its_own() {
+    let texts = strings_of("wargnifla_refusal_text");
+    assert_eq!(texts.len(), 1 + Refusal::ALL.len());
+    let different: BTreeSet<&str> = texts.iter().copied().collect();
+    assert_eq!(different.len(), texts.len());
+    assert!(texts.iter().all(|text| !text.is_empty()));
 }
 
 #[test]
