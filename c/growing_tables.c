@@ -1,71 +1,97 @@
-/* Tables that grow: before each call there is made room for what its kind extends, since a full table would end the recording. Records 1,000 jumps
- * back to one label and finishes them into an output as long as the bound says. */
-#include <string.h>
-
+/* Tables that grow by themselves (wargnifla_grow.h): 1,000 jumps back to one label, a recording with an entry of every table, and one whose memory is
+ * rationed by the caller's own function in the place of realloc. */
 #include "small_tables.h"
+#include "wargnifla_grow.h"
 
-enum { JUMPS = 1000, JUMP_BYTES = 5 };
+enum { JUMPS = 1000 };
 
-/* Makes room for more entries than those counted, as far as the limit lets it; doubling keeps the cost of appending constant. */
-static void make_room(const wargnifla_tables *tables, wargnifla_table *table, int which, size_t entry_bytes, size_t more) {
-    size_t limit = which == WARGNIFLA_COUNT_CODE ? WARGNIFLA_MOST_CODE : WARGNIFLA_MOST_ENTRIES * entry_bytes;
-    size_t needed = (wargnifla_count_of(tables, which) + more) * entry_bytes, len = 2 * needed;
-    if (needed <= table->len || table->len == limit)
-        return;
-    table->len = len < limit ? len : limit;
-    table->bytes = (uint8_t *)realloc(table->bytes, table->len);
-    if (table->bytes == NULL)
-        exit(1);
-}
-
-static void put_bytes(wargnifla_tables *tables, const uint8_t *bytes, size_t len) {
-    make_room(tables, &tables->code, WARGNIFLA_COUNT_CODE, 1, len);
-    accept("bytes", wargnifla_tables_put_bytes(tables, bytes, len));
-}
-
-static uint32_t new_label(wargnifla_tables *tables) {
-    uint32_t label;
-    make_room(tables, &tables->labels, WARGNIFLA_COUNT_LABELS, WARGNIFLA_LABEL_BYTES, 1);
-    accept("new label", wargnifla_tables_new_label(tables, &label));
-    return label;
-}
-
-static void jump_to(wargnifla_tables *tables, uint32_t label) {
-    static const uint8_t room[JUMP_BYTES] = {0};
-    uint32_t start = wargnifla_count_of(tables, WARGNIFLA_COUNT_CODE);
-    put_bytes(tables, room, sizeof room);
-    make_room(tables, &tables->events, WARGNIFLA_COUNT_EVENTS, WARGNIFLA_EVENT_BYTES, 1);
-    accept("jump", wargnifla_tables_jump(tables, start, sizeof room, label, WARGNIFLA_ALWAYS));
-}
-
-static void finish(wargnifla_tables *tables) {
-    size_t segments_len = wargnifla_count_of(tables, WARGNIFLA_COUNT_EVENTS) + wargnifla_count_of(tables, WARGNIFLA_COUNT_ASKED);
-    size_t output_len = wargnifla_output_bound(tables);
-    wargnifla_segment *segments = (wargnifla_segment *)malloc(segments_len * sizeof *segments);
-    uint8_t *output = (uint8_t *)malloc(output_len);
+static void jump_back(void) {
+    wargnifla_growing growing = wargnifla_growing_new();
     wargnifla_record record;
-    if (segments == NULL || output == NULL)
-        exit(1);
-    accept("finish", wargnifla_tables_finish(tables, segments, segments_len, output, output_len, &record));
-    printf("%u recorded, at most %u, finished %u; the last jump:", (unsigned)wargnifla_count_of(tables, WARGNIFLA_COUNT_CODE), (unsigned)output_len,
-           (unsigned)record.length);
-    print_bytes(output + record.length - JUMP_BYTES, JUMP_BYTES);
-    free(segments);
-    free(output);
+    uint32_t label, i;
+    accept("start", wargnifla_tables_start(&growing.tables, WARGNIFLA_X64, 0));
+    accept("new label", wargnifla_growing_new_label(&growing, &label));
+    accept("bind", wargnifla_tables_bind(&growing.tables, label));
+    for (i = 0; i < JUMPS; i++)
+        accept("jump", wargnifla_growing_put_jump(&growing, label, WARGNIFLA_ALWAYS));
+    accept("finish", wargnifla_growing_finish(&growing, &record));
+    printf("%u recorded, at most %u, finished %u; the last jump:", (unsigned)wargnifla_count_of(&growing.tables, WARGNIFLA_COUNT_CODE),
+           (unsigned)growing.output.len, (unsigned)record.length);
+    print_bytes(growing.output.bytes + record.length - 5, 5);
+    wargnifla_growing_free(&growing);
+}
+
+/* lea rax, [rip + constant]; jne over a call of symbol 0. The jump stands, so of ref and use the ref is patched. */
+static void record_every_kind(void) {
+    static const uint8_t lea[] = {0x48, 0x8D, 0x05, 0, 0, 0, 0}, jne[6] = {0}, call[] = {0xE8, 0, 0, 0, 0}, data[] = {1, 2, 3};
+    wargnifla_growing growing = wargnifla_growing_new();
+    wargnifla_record record;
+    uint32_t constant, data_label, over;
+    accept("start", wargnifla_tables_start(&growing.tables, WARGNIFLA_X64, 1));
+    accept("constant", wargnifla_growing_add_constant(&growing, data, sizeof data, &constant));
+    accept("constant's label", wargnifla_growing_constant_label(&growing, constant, &data_label));
+    accept("new label", wargnifla_growing_new_label(&growing, &over));
+    accept("bytes", wargnifla_growing_put_bytes(&growing, lea, sizeof lea));
+    accept("use", wargnifla_growing_use(&growing, 3, data_label, WARGNIFLA_FIELD_X86JmpRel32));
+    accept("ref", wargnifla_growing_ref(&growing, 3, data_label, WARGNIFLA_FIELD_X86JmpRel32, 0));
+    accept("bytes", wargnifla_growing_put_bytes(&growing, jne, sizeof jne));
+    accept("jump", wargnifla_growing_jump(&growing, sizeof lea, sizeof jne, over, 5));
+    accept("bytes", wargnifla_growing_put_bytes(&growing, call, sizeof call));
+    accept("relocation", wargnifla_growing_add_reloc(&growing, sizeof lea + sizeof jne + 1, WARGNIFLA_RELOC_X86CallPLTRel4, 0, -4));
+    accept("align", wargnifla_growing_align(&growing, 16));
+    accept("align within", wargnifla_growing_align_within(&growing, 4096, 3));
+    accept("bind", wargnifla_tables_bind(&growing.tables, over));
+    accept("finish", wargnifla_growing_finish(&growing, &record));
+    printf("every kind:");
+    print_bytes(growing.output.bytes, record.length);
+    wargnifla_growing_free(&growing);
+}
+
+/* What may still be asked for, and how often memory was freed. */
+typedef struct {
+    size_t left;
+    int frees;
+} ration;
+
+static void *rationed(void *context, void *memory, size_t len) {
+    ration *own = (ration *)context;
+    if (len == 0) {
+        own->frees++;
+        free(memory);
+        return NULL;
+    }
+    if (len > own->left)
+        return NULL;
+    own->left -= len;
+    return realloc(memory, len);
+}
+
+static void print_answer(const char *call, uint32_t refusal) { printf("%s: %u, %s\n", call, (unsigned)refusal, wargnifla_refusal_text(refusal)); }
+
+static void ration_memory(void) {
+    static const uint8_t nop[] = {0x90};
+    wargnifla_growing growing = wargnifla_growing_new();
+    wargnifla_record record;
+    ration own = {16, 0};
+    uint32_t label;
+    growing.resize = rationed;
+    growing.context = &own;
+    accept("start", wargnifla_tables_start(&growing.tables, WARGNIFLA_X64, 0));
+    accept("bytes", wargnifla_growing_put_bytes(&growing, nop, sizeof nop));
+    print_answer("finish without memory", wargnifla_growing_finish(&growing, &record));
+    own.left = 1;
+    print_answer("finish with a byte more", wargnifla_growing_finish(&growing, &record));
+    accept("start again", wargnifla_tables_start(&growing.tables, WARGNIFLA_X64, 0));
+    accept("bytes", wargnifla_growing_put_bytes(&growing, nop, sizeof nop));
+    print_answer("label without memory", wargnifla_growing_new_label(&growing, &label));
+    print_answer("bytes after that", wargnifla_growing_put_bytes(&growing, nop, sizeof nop));
+    wargnifla_growing_free(&growing);
+    printf("frees: %d\n", own.frees);
 }
 
 int main(void) {
-    wargnifla_tables tables;
-    uint32_t label, i;
-    memset(&tables, 0, sizeof tables);
-    accept("start", wargnifla_tables_start(&tables, WARGNIFLA_X64, 0));
-    label = new_label(&tables);
-    accept("bind", wargnifla_tables_bind(&tables, label));
-    for (i = 0; i < JUMPS; i++)
-        jump_to(&tables, label);
-    finish(&tables);
-    free(tables.code.bytes);
-    free(tables.labels.bytes);
-    free(tables.events.bytes);
+    jump_back();
+    record_every_kind();
+    ration_memory();
     return 0;
 }

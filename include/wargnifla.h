@@ -258,6 +258,7 @@ enum wargnifla_count {
  *
  * A full table ends the recording: 11 and 12 are recorded, and no later call takes them back. So make room before a call, for all that its kind
  * extends (enum wargnifla_call): move the table to a longer place, entries and counts as they are. At a limit there is no more room to make.
+ * wargnifla_grow.h has a recording that does all this.
  */
 #define WARGNIFLA_LABEL_BYTES 4
 #define WARGNIFLA_EVENT_BYTES 20
