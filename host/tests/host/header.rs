@@ -243,6 +243,10 @@ fn counts() {
     assert_eq!(number("WARGNIFLA_MOST_OPEN"), 4 * wargnifla::MOST_ENTRIES);
 }
 
+unsafe extern "C" {
+    safe fn wargnifla_version() -> u32;
+}
+
 #[test]
 fn version() {
     let version = env!("CARGO_PKG_VERSION");
@@ -253,4 +257,5 @@ fn version() {
     let [major, minor, patch] = parts.map(|part| part.parse::<u32>().expect("a number"));
     let number = major * 1_000_000 + minor * 1_000 + patch;
     assert_eq!(defined("WARGNIFLA_VERSION_NUMBER"), number.to_string());
+    assert_eq!(wargnifla_version(), number);
 }
