@@ -35,10 +35,10 @@ fn main() -> Result<(), Error> {
         bases[1]
     );
     for field in whole.filled() {
+        let place = code.label_offset(field.label).expect("join needs it bound");
         println!(
-            "{} at {}, filled with {} at {}",
+            "{} at {place}, filled with {} at {}",
             code.names().text(field.symbol),
-            code.label_offset(field.label),
             field.value,
             field.offset
         );

@@ -20,11 +20,8 @@ fn main() -> Result<(), Error> {
     buffer.put1(0xC3)?;
 
     let code = buffer.finish()?;
-    println!(
-        "{} bytes, constant at {}",
-        code.total_size(),
-        code.label_offset(factor)
-    );
+    let place = code.label_offset(factor).expect("finish binds it");
+    println!("{} bytes, constant at {place}", code.total_size());
     for reloc in code.relocs() {
         println!("{} at {}: {}", reloc.kind, reloc.offset, reloc.target);
     }

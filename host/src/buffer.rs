@@ -17,7 +17,7 @@ use crate::unpatched::unpatched;
 use crate::verified::{self, Record};
 use crate::{
     Arch, Call, CodeOffset, Condition, Error, ExternalName, LabelUse, MOST_CODE, MOST_ENTRIES,
-    Place, Reloc, UNBOUND,
+    Place, Reloc,
 };
 
 /// A buffer of code to be produced: bytes, labels, fields, alignments, constants, relocations and jumps, recorded call by call and then finished.
@@ -231,7 +231,7 @@ impl CodeBuffer {
     /// Whether a label is known and bound.
     #[must_use]
     pub fn is_bound(&self, label: Label) -> bool {
-        self.label_offset(label) != UNBOUND
+        self.label_offset(label).is_some()
     }
 
     /// Number of labels made so far; label numbers below it are known.
@@ -240,10 +240,10 @@ impl CodeBuffer {
         self.queue.label_count()
     }
 
-    /// The offset of a label, or [`UNBOUND`].
+    /// The offset of a label, if it is known and bound.
     #[must_use]
-    pub fn label_offset(&self, label: Label) -> CodeOffset {
-        self.queue.label_offset(label).unwrap_or(UNBOUND)
+    pub fn label_offset(&self, label: Label) -> Option<CodeOffset> {
+        self.queue.label_offset(label)
     }
 
     /// Gives a label a name, for refusals, listings, objects and [`join`](crate::join()); nothing else depends on it.
@@ -467,7 +467,7 @@ impl CodeBuffer {
     /// let one = buffer.add_constant(&1f64.to_le_bytes())?;
     /// let one = buffer.get_label_for_constant(one)?;
     /// buffer.put1(0xC3)?;
-    /// assert_eq!(buffer.finish()?.label_offset(one), 8);
+    /// assert_eq!(buffer.finish()?.label_offset(one), Some(8));
     /// # Ok(())
     /// # }
     /// ```

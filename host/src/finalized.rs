@@ -2,8 +2,9 @@
 
 use crate::ffi::Segment;
 use crate::recording::{AsmReloc, Label, Names};
+use crate::tables::bound;
 use crate::verified::Record;
-use crate::{Arch, CodeOffset, ExternalName, UNBOUND, Unpatched};
+use crate::{Arch, CodeOffset, ExternalName, Unpatched};
 
 /// A [`crate::CodeBuffer`] once finish has accepted it, or several [joined](crate::join()): the code and what goes with it.
 #[derive(Clone, Debug, PartialEq, Eq)]
@@ -42,14 +43,20 @@ impl CodeBufferFinalized {
         &self.data
     }
 
-    /// The final offset of a label, or [`UNBOUND`].
+    /// The final offset of a label, if it is known and bound.
     #[must_use]
-    pub fn label_offset(&self, label: Label) -> CodeOffset {
+    pub fn label_offset(&self, label: Label) -> Option<CodeOffset> {
         let offset = self.label_offsets.get(label.id() as usize);
-        offset.copied().unwrap_or(UNBOUND)
+        offset.copied().and_then(bound)
     }
 
-    /// The final offset of every label, or [`UNBOUND`].
+    /// The final offset of a label that something in the code depends on, so that finish or join would have refused an unbound one.
+    pub(crate) fn bound_offset(&self, label: Label) -> CodeOffset {
+        self.label_offset(label)
+            .expect("what is written has its label bound")
+    }
+
+    /// The final offset of every label, by its number; [`UNBOUND`](crate::UNBOUND) where it is not bound.
     #[must_use]
     pub fn label_offsets(&self) -> &[CodeOffset] {
         &self.label_offsets
@@ -77,7 +84,7 @@ impl CodeBufferFinalized {
     /// let vector = buffer.get_label_for_constant(vector)?;
     /// buffer.put1(0xC3)?;
     /// let code = buffer.finish()?;
-    /// assert_eq!((code.label_offset(vector), code.alignment()), (64, 64));
+    /// assert_eq!((code.label_offset(vector), code.alignment()), (Some(64), 64));
     /// let memory = Layout::from_size_align(code.total_size(), code.alignment() as usize)?;
     /// # assert_eq!((memory.size(), memory.align()), (128, 64));
     /// # Ok(())
@@ -109,7 +116,7 @@ impl CodeBufferFinalized {
         let symbol = self.names.external(&symbol.into());
         let mut definitions = self.definitions.iter();
         let (_, label) = definitions.find(|(defined, _)| self.names.external(defined) == symbol)?;
-        Some(self.label_offset(*label)).filter(|offset| *offset != UNBOUND)
+        self.label_offset(*label)
     }
 
     /// How many layouts finish made: the rounds of relaxation, 0 without a jump and of joined code.

@@ -131,7 +131,7 @@ impl Joined {
 /// let whole = join([&caller.finish()?, &callee.finish()?])?;
 /// assert_eq!(whole.bases(), [0, 32]);
 /// assert_eq!(whole.code().data()[..5], [0xE8, 27, 0, 0, 0]);
-/// assert_eq!(whole.code().label_offset(whole.label(1, entry)), 32);
+/// assert_eq!(whole.code().label_offset(whole.label(1, entry)), Some(32));
 /// # Ok(())
 /// # }
 /// ```

@@ -148,7 +148,7 @@ fn written_rows(texts: &Texts<'_>) -> Vec<Row> {
     } = texts;
     let pooled = recording.pooled();
     let constants = pooled.constants.iter().map(|placed| {
-        let start = finished.label_offset(placed.label);
+        let start = finished.bound_offset(placed.label);
         let label = texts.label(placed.label);
         let what = format!("constant {}, {label}", placed.constant.id());
         Row::new(start, start + placed.size, what)
@@ -382,7 +382,7 @@ impl<'a> Texts<'a> {
 
     /// `label end at 16`.
     fn target(&self, label: Label) -> String {
-        let offset = self.offset(self.finished.label_offset(label));
+        let offset = self.offset(self.finished.bound_offset(label));
         format!("{} at {offset}", self.label(label))
     }
 
@@ -407,7 +407,7 @@ impl<'a> Texts<'a> {
             Form::Short => "short",
             _ => "near",
         };
-        let target = self.finished.label_offset(jump.label);
+        let target = self.finished.bound_offset(jump.label);
         let distance = i64::from(target) - i64::from(end);
         format!(
             "{} {form} to {}, distance {distance}",
@@ -429,7 +429,7 @@ impl<'a> Texts<'a> {
         if addend != 0 {
             let _ = write!(text, ", addend {addend}");
         }
-        let target = i64::from(self.finished.label_offset(label)) + i64::from(addend);
+        let target = i64::from(self.finished.bound_offset(label)) + i64::from(addend);
         let _ = write!(text, ", {}", self.distance(offset.into(), kind, target));
         let is_shifted = |word| word & ADD_SHIFT != 0;
         if kind == LabelUse::A64AddAbsLo12 && word.is_some_and(is_shifted) {

@@ -10,8 +10,8 @@ mod mirror;
 use std::sync::{Mutex, OnceLock};
 
 use crate::recording::{Label, Names};
-use crate::tables::{TableName, Tables};
-use crate::{Arch, Call, UNBOUND, verified};
+use crate::tables::{TableName, Tables, bound};
+use crate::{Arch, Call, verified};
 use calls::QueuedCalls;
 use mirror::Mirror;
 
@@ -67,13 +67,13 @@ impl Queue {
         self.mirror.len(TableName::Constants) as u32
     }
 
-    /// The offset of a label that is known.
+    /// The offset of a label that is known and bound.
     pub fn label_offset(&self, label: Label) -> Option<u32> {
         // Finish binds labels and moves them.
         if self.mirror.is_recording && self.mirror.is_unbound(label.id()) {
-            return Some(UNBOUND);
+            return None;
         }
-        self.tables().label_offset(label)
+        self.tables().label_offset(label).and_then(bound)
     }
 
     /// The label of a constant that is known and was asked for.

@@ -5,7 +5,7 @@ use crate::event::LayoutEvent;
 use crate::recording::{
     AsmConstant, AsmFixup, AsmReloc, Constant, Label, LabelRef, Names, Recording, RelocTarget,
 };
-use crate::{Arch, LabelUse, MOST_CODE, MOST_ENTRIES, Reloc};
+use crate::{Arch, LabelUse, MOST_CODE, MOST_ENTRIES, Reloc, UNBOUND};
 
 /// The counts of a recording: 13 words.
 pub(crate) struct Counts(pub [u8; 52]);
@@ -247,7 +247,7 @@ impl Tables {
         self.labels.entries(self.label_count()).map(first_word)
     }
 
-    /// The offset of a label that is known.
+    /// The offset of a label that is known, or [`UNBOUND`].
     pub fn label_offset(&self, label: Label) -> Option<u32> {
         let id = label.id() as usize;
         (id < self.label_count()).then(|| word(&self.labels.bytes, id))
@@ -310,6 +310,11 @@ pub(crate) fn offsets_of(labels: &[u8]) -> Vec<u32> {
 /// The entries of a table of relocations.
 pub(crate) fn relocs_of(relocs: &[u8]) -> Vec<AsmReloc> {
     relocs.chunks_exact(RELOC_BYTES).map(reloc).collect()
+}
+
+/// The offset of a label that is bound, out of one that may be [`UNBOUND`].
+pub(crate) fn bound(offset: u32) -> Option<u32> {
+    (offset != UNBOUND).then_some(offset)
 }
 
 /// A table of labels, from their offsets.

@@ -75,8 +75,8 @@ pub fn definitions(finished: &CodeBufferFinalized, style: Style) -> String {
         .iter()
         .map(|(symbol, label)| {
             let offset = match finished.label_offset(*label) {
-                UNBOUND => "unbound".into(),
-                offset => style.offsets.text(offset),
+                None => "unbound".into(),
+                Some(offset) => style.offsets.text(offset),
             };
             format!("{offset:>8}  {symbol}: {}", finished.names().text(*label))
         })

@@ -5,7 +5,7 @@ use std::borrow::Cow;
 use std::collections::{BTreeMap, HashMap, HashSet};
 
 use crate::recording::{AsmReloc, Label, Names, RelocTarget, Sym};
-use crate::{CodeBufferFinalized, ExternalName, Reloc, UNBOUND};
+use crate::{CodeBufferFinalized, ExternalName, Reloc};
 
 pub(super) const STB_LOCAL: u8 = 0;
 pub(super) const STB_GLOBAL: u8 = 1;
@@ -68,7 +68,7 @@ impl<'a> Symbol<'a> {
             binding,
             st_type: STT_NOTYPE,
             st_shndx: TEXT,
-            st_value: code.label_offset(label),
+            st_value: code.bound_offset(label),
         }
     }
 
@@ -92,7 +92,7 @@ fn name_of(external: &ExternalName) -> String {
 impl<'a> Symbols<'a> {
     pub fn new(code: &'a CodeBufferFinalized) -> Self {
         let named = named_symbols(&code.relocs);
-        let is_bound = |label| code.label_offset(label) != UNBOUND;
+        let is_bound = |label| code.label_offset(label).is_some();
         let definitions = code
             .definitions
             .iter()

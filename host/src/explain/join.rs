@@ -3,7 +3,7 @@
 use super::NO_REASON;
 use crate::join::{Defined, LAST_OFFSET, Origin, Piece, Pieces};
 use crate::recording::{AsmReloc, Label};
-use crate::{Entry, MOST_CODE, MOST_ENTRIES, MOST_PIECES, UNBOUND};
+use crate::{Entry, MOST_CODE, MOST_ENTRIES, MOST_PIECES};
 use sheet_text::counted;
 
 /// The piece that something is wrong with, and the entry of it, if it is one.
@@ -132,7 +132,7 @@ fn unfit_definition(piece: &Piece<'_>, definition: &Defined) -> Option<String> {
         let known = counted(known, "label");
         return Some(format!("{text}, but has {known}"));
     }
-    let is_unbound = piece.code.label_offset(label) == UNBOUND;
+    let is_unbound = piece.code.label_offset(label).is_none();
     is_unbound.then(|| format!("{text}, which is not bound"))
 }
 

@@ -83,7 +83,7 @@ fn addend_overflow(finished: &CodeBufferFinalized, reloc: &AsmReloc) -> Option<S
     let RelocTarget::Label(label) = reloc.target else {
         return None;
     };
-    let (offset, addend) = (finished.label_offset(label), reloc.addend);
+    let (offset, addend) = (finished.label_offset(label)?, reloc.addend);
     match addend.checked_add(offset.into()) {
         Some(_) => None,
         None => Some(format!(

@@ -7,7 +7,7 @@ use super::symbols::{Symbols, by_name, given, left_to_labels};
 use crate::recording::{AsmReloc, Label, Names, RelocTarget, Sym};
 use crate::tables::{label_entries, reloc_entries};
 use crate::verified::Lent;
-use crate::{Arch, CodeBufferFinalized, ExternalName, Reloc, UNBOUND};
+use crate::{Arch, CodeBufferFinalized, ExternalName, Reloc};
 
 /// The last offset that a whole may have.
 pub(crate) const LAST_OFFSET: u64 = 4_294_967_294;
@@ -57,10 +57,8 @@ impl Piece<'_> {
 
     /// Where a label comes to stand, if it is known and bound.
     pub fn place_of(&self, label: Label) -> Option<u64> {
-        match self.code.label_offset(label) {
-            UNBOUND => None,
-            offset => Some(self.base + u64::from(offset)),
-        }
+        let offset = self.code.label_offset(label)?;
+        Some(self.base + u64::from(offset))
     }
 }
 

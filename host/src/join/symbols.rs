@@ -3,7 +3,7 @@
 use std::collections::{BTreeSet, HashMap, HashSet};
 
 use crate::recording::{Label, Names, Sym};
-use crate::{CodeBufferFinalized, ExternalName, UNBOUND};
+use crate::{CodeBufferFinalized, ExternalName};
 
 /// The symbols that the relocations and definitions of pieces name.
 pub(crate) struct Symbols {
@@ -94,7 +94,7 @@ pub(crate) fn by_name(
     names: &HashSet<&str>,
 ) -> impl Iterator<Item = (ExternalName, Label)> {
     let labels = code.names.labels().filter(|(label, name)| {
-        let is_bound = code.label_offset(*label) != UNBOUND;
+        let is_bound = code.label_offset(*label).is_some();
         is_bound && !Names::is_local(name) && names.contains(name)
     });
     labels.map(|(label, name)| (name.into(), label))

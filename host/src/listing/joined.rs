@@ -99,7 +99,7 @@ fn rows(texts: &Texts<'_>, piece: usize, whole: &Joined) -> Vec<Row> {
 /// `relocation X86PCRel4: symbol sort at 64, addend -4, filled with 55`.
 fn filled_row(texts: &Texts<'_>, field: &Filled, whole: &Joined) -> Row {
     let reloc = &texts.finished.relocs()[field.origin.relocation];
-    let offset = whole.code().label_offset(field.label);
+    let offset = whole.code().bound_offset(field.label);
     let what = format!(
         "relocation {}: {} at {}{}, filled with {}",
         reloc.kind,

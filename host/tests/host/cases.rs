@@ -19,7 +19,7 @@ fn case_a_just_reaches() {
     assert_eq!(row(&code), [129, 1, 0]);
     assert_eq!(code.data()[..2], [0xEB, 0x7F]);
     assert!(code.data()[2..].iter().all(|byte| *byte == 0));
-    assert_eq!(code.label_offset(Label::from_id(0)), 129);
+    assert_eq!(code.label_offset(Label::from_id(0)), Some(129));
     assert_eq!(code.alignment(), 32);
 }
 

@@ -113,7 +113,7 @@ fn a_layout_decides_again() {
         let text = format!("n; z 5; j 0 5 0; z {bytes}; a 8 {most}; l 0");
         let recorded = last_recorded(&text);
         let code = finished(&text);
-        let label = code.label_offset(Label::from_id(0));
+        let label = code.label_offset(Label::from_id(0)).unwrap();
         (recorded, code.total_size(), label)
     };
     assert_eq!(settled(3, 5), (0, 8, 8), "gains 3");
@@ -137,7 +137,7 @@ fn a_constant_stands_on_its_multiple_whatever_ceilings_there_are() {
     let label = buffer.get_label_for_constant(constant).unwrap();
     buffer.try_align_to_within(8, 4).unwrap();
     let code = buffer.finish().unwrap();
-    assert_eq!((code.label_offset(label), code.alignment()), (64, 64));
+    assert_eq!((code.label_offset(label), code.alignment()), (Some(64), 64));
 }
 
 #[test]

@@ -370,6 +370,6 @@ fn defined_at(
     rules.iter().zip(whole.bases()).find_map(|(rule, base)| {
         let mut definitions = rule.definitions().iter();
         let (_, label) = definitions.find(|(defined, _)| *defined == name)?;
-        Some(base + rule.label_offset(*label))
+        Some(base + rule.label_offset(*label)?)
     })
 }

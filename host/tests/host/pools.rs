@@ -30,7 +30,8 @@ fn a_constant_stands_on_the_multiple_of_its_size() {
     for arch in Arch::ALL {
         for (size, multiple, alignment) in SIZES {
             let code = finished_on(arch, &format!("b 90; {}; k 0", constant(size)));
-            assert_eq!(code.label_offset(Label::from_id(0)) as usize, multiple);
+            let place = code.label_offset(Label::from_id(0)).unwrap();
+            assert_eq!(place as usize, multiple);
             assert_eq!(code.total_size(), multiple + size);
             assert_eq!(code.alignment(), alignment, "{arch}, {size} bytes");
             let padded = finished_on(arch, &format!("b 90; a {multiple}"));

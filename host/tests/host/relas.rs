@@ -172,7 +172,7 @@ fn any_addend(random: &mut Random) -> i64 {
 fn as_rela(code: &CodeBufferFinalized, reloc: &AsmReloc) -> Rela {
     let (symbol, place) = match reloc.target {
         RelocTarget::Sym(symbol) => (symbol.id(), 0),
-        RelocTarget::Label(label) => (SECTION, code.label_offset(label)),
+        RelocTarget::Label(label) => (SECTION, code.label_offset(label).unwrap()),
     };
     Rela {
         offset: reloc.offset,

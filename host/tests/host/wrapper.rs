@@ -25,10 +25,16 @@ fn labels_are_made_and_bound() {
     assert_eq!((first.id(), second.id(), buffer.label_count()), (0, 1, 2));
     buffer.put4(0).unwrap();
     buffer.try_bind_label(second).unwrap();
-    assert_eq!(buffer.label_offset(first), UNBOUND);
-    assert_eq!(buffer.label_offset(second), 4);
+    assert_eq!(buffer.label_offset(first), None);
+    assert_eq!(buffer.label_offset(second), Some(4));
     assert!(!buffer.is_bound(first) && buffer.is_bound(second));
-    assert!(!buffer.is_bound(Label::from_id(2)));
+    let unknown = Label::from_id(2);
+    assert_eq!(buffer.label_offset(unknown), None);
+    assert!(!buffer.is_bound(unknown));
+    let code = buffer.finish().unwrap();
+    let offsets = [first, second, unknown].map(|label| code.label_offset(label));
+    assert_eq!(offsets, [None, Some(4), None]);
+    assert_eq!(code.label_offsets(), [UNBOUND, 4]);
 }
 
 #[test]
@@ -41,7 +47,7 @@ fn a_constants_label_is_made_once() {
     assert_eq!(buffer.label_count(), 1);
     buffer.put1(0xC3).unwrap();
     let code = buffer.finish().unwrap();
-    assert_eq!((small.id(), code.label_offset(asked)), (0, 64));
+    assert_eq!((small.id(), code.label_offset(asked)), (0, Some(64)));
     assert_eq!(
         code.total_size(),
         128,

@@ -14,7 +14,7 @@ pub fn labels(rules: &[Rule], whole: &Joined, style: Style) -> String {
     });
     let lines: Vec<String> = all
         .map(|(piece, label, recorded)| {
-            let offsets = label_offsets(recorded, code.label_offset(label), style);
+            let offsets = label_offsets(recorded, code.label_offsets()[label.id() as usize], style);
             let name = name_column(code.names().get(label));
             format!("{:>8}  {piece:>8}  {offsets}{name}", label.id())
         })
