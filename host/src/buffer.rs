@@ -47,6 +47,22 @@ use crate::{
 /// # Ok(())
 /// # }
 /// ```
+///
+/// A clone is a recording of its own, and takes as long as its tables take to copy. So a state can be kept, or finished early:
+///
+/// ```
+/// use wargnifla::{Arch, CodeBuffer};
+///
+/// # fn main() -> Result<(), wargnifla::Error> {
+/// let mut buffer = CodeBuffer::new(Arch::X64);
+/// buffer.put1(0x90)?;
+/// assert_eq!(buffer.clone().finish()?.data(), [0x90]);
+/// buffer.put1(0xC3)?;
+/// assert_eq!(buffer.finish()?.data(), [0x90, 0xC3]);
+/// # Ok(())
+/// # }
+/// ```
+#[derive(Clone)]
 pub struct CodeBuffer {
     queue: Queue,
     /// What the recorded refusal said, if there is one.

@@ -139,6 +139,20 @@ impl Queue {
     }
 }
 
+/// A copy has no call waiting: they are handed over first, so that they are made once for both.
+impl Clone for Queue {
+    fn clone(&self) -> Self {
+        Self {
+            waiting: Mutex::new(Some(Waiting {
+                tables: self.tables().clone(),
+                calls: QueuedCalls::default(),
+            })),
+            shown: OnceLock::new(),
+            mirror: self.mirror.clone(),
+        }
+    }
+}
+
 /// What is said if the recording is used once more after handing over has panicked.
 const BROKEN: &str = "queued calls were refused before";
 

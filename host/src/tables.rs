@@ -8,6 +8,7 @@ use crate::recording::{
 use crate::{Arch, LabelUse, MOST_CODE, MOST_ENTRIES, Reloc, UNBOUND};
 
 /// The counts of a recording: 13 words.
+#[derive(Clone)]
 pub(crate) struct Counts(pub [u8; 52]);
 
 impl Counts {
@@ -84,6 +85,7 @@ pub(crate) const LABEL_BYTES: usize = 4;
 pub(crate) const RELOC_BYTES: usize = 24;
 
 /// A table: whole entries of a size, of which a recording counts the first ones as its own, up to a limit.
+#[derive(Clone)]
 pub(crate) struct Table<const SIZE: usize, const MOST: usize = MOST_ENTRIES> {
     pub bytes: Vec<u8>,
 }
@@ -135,6 +137,7 @@ impl Room {
 }
 
 /// A recording as the C functions see it.
+#[derive(Clone)]
 pub(crate) struct Tables {
     pub counts: Counts,
     /// That of the counts, which no call changes.

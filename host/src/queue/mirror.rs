@@ -12,6 +12,7 @@ const NO_LABEL: u32 = u32::MAX;
 /// The greatest multiple of an alignment.
 const MOST_ALIGNMENT: u32 = 4096;
 
+#[derive(Clone)]
 pub(super) struct Mirror {
     pub arch: Arch,
     /// It has not finished, no refusal is recorded, and labels and constants are known here.
@@ -305,7 +306,7 @@ fn greatest_below(tables: &Tables, offset: u32) -> u32 {
 }
 
 /// The labels that are bound, a bit for each: those of a small rule take no allocation.
-#[derive(Default)]
+#[derive(Clone, Default)]
 struct BoundLabels {
     first: u64,
     more: Vec<u64>,

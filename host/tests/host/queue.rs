@@ -86,6 +86,21 @@ impl Pair {
         assert_eq!(self.queued.cur_offset(), offset);
     }
 
+    /// Clones a buffer. One of the two goes its own way, which the other one is not to see.
+    fn clone_one(&mut self) {
+        let mut other = self.queued.clone();
+        if self.chance(50) {
+            std::mem::swap(&mut self.queued, &mut other);
+        }
+        let label = other.get_label();
+        let _ = other.put_bytes(&[0xCC; 7]);
+        if let Ok(label) = label {
+            let _ = other.try_bind_label(label);
+            other.name_label(label, "other");
+        }
+        let _ = other.finish();
+    }
+
     /// The label or constant that an accepted call gave.
     fn number_of(&self, call: &Call) -> u32 {
         match call {
@@ -468,6 +483,9 @@ fn compare(seed: u64) -> BTreeSet<u32> {
         }
         if pair.chance(asking) {
             pair.ask();
+        }
+        if pair.chance(2) {
+            pair.clone_one();
         }
         if pair.chance(1) && pair.chance(20) {
             pair.finish();

@@ -77,6 +77,7 @@ fn threads_see_the_same_recording() {
         thread::scope(|scope| {
             for _ in 0..4 {
                 scope.spawn(|| {
+                    assert_eq!(buffer.clone().open(), count);
                     assert_eq!(buffer.open(), count);
                     assert_eq!(buffer.data(), vec![0x90; count as usize]);
                     assert_eq!(buffer.recording().uses.len(), count as usize);

@@ -1,8 +1,8 @@
 //! The wrapper's methods, one by one.
 
 use wargnifla::{
-    Arch, AsmReloc, CodeBuffer, Condition, Constant, Label, LabelUse, LayoutEvent, RelaxableJump,
-    Reloc, RelocTarget, Sym, UNBOUND,
+    Arch, AsmReloc, CodeBuffer, Condition, Constant, Label, LabelUse, LayoutEvent, Refusal,
+    RelaxableJump, Reloc, RelocTarget, Sym, UNBOUND,
 };
 
 #[test]
@@ -35,6 +35,46 @@ fn labels_are_made_and_bound() {
     let offsets = [first, second, unknown].map(|label| code.label_offset(label));
     assert_eq!(offsets, [None, Some(4), None]);
     assert_eq!(code.label_offsets(), [UNBOUND, 4]);
+}
+
+#[test]
+fn a_clone_goes_its_own_way_and_finishes_alike() {
+    let mut first = CodeBuffer::with_symbols(Arch::X86, 1);
+    let end = first.get_label().unwrap();
+    first.name_label(end, "end");
+    first.bind_symbol("sort", end);
+    first.put_bytes(&[0xE9, 0, 0, 0, 0]).unwrap();
+    let field = LabelUse::X86JmpRel32;
+    first.use_label_at_offset(1, end, field).unwrap();
+    first.record_label_ref(1, end, field, 0).unwrap();
+    let mut second = first.clone();
+    assert_eq!(second.recording(), first.recording());
+    second.put1(0x90).unwrap();
+    assert_eq!((first.cur_offset(), second.cur_offset()), (5, 6));
+    let mut third = first.clone();
+    for buffer in [&mut first, &mut third] {
+        buffer.try_bind_label(end).unwrap();
+    }
+    assert_eq!(second.label_offset(end), None);
+    let [first, third] = [first, third].map(|mut buffer| buffer.finish().unwrap());
+    assert_eq!(first, third);
+    assert_eq!(first.defined_symbol_offset("sort"), Some(5));
+    assert_eq!(
+        first.unpatched().len(),
+        1,
+        "the ref, which X86 does not keep"
+    );
+    let error = second.finish().unwrap_err();
+    assert_eq!(error.refusal(), Refusal::UnboundLabel);
+    second.try_bind_label(end).unwrap();
+    assert_eq!(second.finish().unwrap().data()[1], 1);
+    let finished = second.clone();
+    assert!(finished.is_finished());
+    let mut refused = CodeBuffer::new(Arch::X64);
+    refused.try_bind_label(end).unwrap_err();
+    refused.add_constant(&[0; 65]).unwrap_err();
+    assert_eq!(refused.clone().error(), refused.error());
+    assert!(refused.clone().put1(0).is_err());
 }
 
 #[test]
