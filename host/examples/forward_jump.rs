@@ -1,19 +1,13 @@
 //! A forward jump over a run of bytes: short up to 127 bytes, long beyond.
 
-use wargnifla::{Arch, CodeBuffer, CodeBufferFinalized, Error, RelaxableJump};
+use wargnifla::{Arch, CodeBuffer, CodeBufferFinalized, Error};
 
 /// `jmp end`, a run of NOPs, and `end`.
 fn jump_over(run: usize) -> Result<CodeBufferFinalized, Error> {
     let mut buffer = CodeBuffer::new(Arch::X64);
     let end = buffer.get_label()?;
-    // Room for the longest form; finish writes the one that is needed.
-    buffer.put_bytes(&[0; 5])?;
-    buffer.record_relaxable_jump(RelaxableJump {
-        start: 0,
-        len: 5,
-        label: end,
-        cc: None,
-    })?;
+    // The long form; finish writes the one that is needed.
+    buffer.put_jump(end, None)?;
     buffer.put_bytes(&vec![0x90; run])?;
     buffer.try_bind_label(end)?;
     buffer.finish()

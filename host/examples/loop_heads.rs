@@ -1,6 +1,6 @@
 //! Loop heads like a multiple of 32, at the price of at most 10 bytes: what each alignment comes to where it is recorded, and where finish sets it.
 
-use wargnifla::{Arch, CodeBuffer, Condition, Error, RelaxableJump};
+use wargnifla::{Arch, CodeBuffer, Condition, Error};
 
 /// A loop of so many bytes, and the jump back to its head.
 fn put_loop(buffer: &mut CodeBuffer, bytes: usize) -> Result<(), Error> {
@@ -8,14 +8,7 @@ fn put_loop(buffer: &mut CodeBuffer, bytes: usize) -> Result<(), Error> {
     let head = buffer.get_label()?;
     buffer.try_bind_label(head)?;
     buffer.put_bytes(&vec![0x90; bytes])?;
-    let start = buffer.cur_offset();
-    buffer.put_bytes(&[0; 6])?;
-    buffer.record_relaxable_jump(RelaxableJump {
-        start,
-        len: 6,
-        label: head,
-        cc: Some(Condition::Ne),
-    })
+    buffer.put_jump(head, Some(Condition::Ne))
 }
 
 fn main() -> Result<(), Error> {

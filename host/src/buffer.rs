@@ -19,6 +19,7 @@ use crate::{
     Arch, Call, CodeOffset, Condition, Error, ExternalName, LabelUse, MOST_CODE, MOST_ENTRIES,
     Place, Reloc,
 };
+use sheet_text::long_jump;
 
 /// A buffer of code to be produced: bytes, labels, fields, alignments, constants, relocations and jumps, recorded call by call and then finished.
 ///
@@ -32,16 +33,14 @@ use crate::{
 /// nothing at all.
 ///
 /// ```
-/// use wargnifla::{Arch, CodeBuffer, Condition, RelaxableJump};
+/// use wargnifla::{Arch, CodeBuffer, Condition};
 ///
 /// # fn main() -> Result<(), wargnifla::Error> {
 /// let mut buffer = CodeBuffer::new(Arch::X64);
 /// let again = buffer.get_label()?;
 /// buffer.try_bind_label(again)?;
 /// buffer.put_bytes(&[0xFF, 0xC9])?; // dec ecx
-/// let start = buffer.cur_offset();
-/// buffer.put_bytes(&[0; 6])?; // room for the jump; finish writes its bytes
-/// buffer.record_relaxable_jump(RelaxableJump { start, len: 6, label: again, cc: Some(Condition::Ne) })?;
+/// buffer.put_jump(again, Some(Condition::Ne))?;
 /// let code = buffer.finish()?;
 /// assert_eq!(code.data(), [0xFF, 0xC9, 0x75, 0xFC]);
 /// # Ok(())
@@ -446,8 +445,23 @@ impl CodeBuffer {
         })
     }
 
-    /// Records the bytes just appended as a jump that finish may resize. Accepted unread unless the architecture is X64; what finish did not write can
-    /// be asked of its record, [`CodeBufferFinalized::unpatched`].
+    /// Records the bytes just appended as a jump that finish may resize; [`Self::put_jump`] appends them, too. Accepted unread unless the architecture is
+    /// X64; what finish did not write can be asked of its record, [`CodeBufferFinalized::unpatched`].
+    ///
+    /// ```
+    /// use wargnifla::{Arch, CodeBuffer, Condition, RelaxableJump};
+    ///
+    /// # fn main() -> Result<(), wargnifla::Error> {
+    /// let mut buffer = CodeBuffer::new(Arch::X64);
+    /// let here = buffer.get_label()?;
+    /// buffer.try_bind_label(here)?;
+    /// let start = buffer.cur_offset();
+    /// buffer.put_bytes(&[0; 6])?; // room for the jump, whatever stands there
+    /// buffer.record_relaxable_jump(RelaxableJump { start, len: 6, label: here, cc: Some(Condition::Ne) })?;
+    /// assert_eq!(buffer.finish()?.data(), [0x75, 0xFE]);
+    /// # Ok(())
+    /// # }
+    /// ```
     ///
     /// # Errors
     ///
@@ -459,6 +473,66 @@ impl CodeBuffer {
             label: jump.label.id(),
             condition: jump.cc.map_or(Condition::NONE, Condition::number),
         })
+    }
+
+    /// Appends a jump to a label that finish fills: `jmp` without a condition, else `jcc`. On X64 it is recorded as by [`Self::record_relaxable_jump`],
+    /// and finish makes it short where it can. On X86 it stays long, and its displacement is a use of [`LabelUse::X86JmpRel32`]. AArch64 has no such
+    /// jump and refuses it; [`Self::use_label_at_offset`] shows a branch there.
+    ///
+    /// A refused jump leaves nothing behind, neither bytes nor a use. As of other calls, the numbers 7, 8, 11 and 12 end the recording.
+    ///
+    /// ```
+    /// use wargnifla::{Arch, CodeBuffer, Condition};
+    ///
+    /// # fn main() -> Result<(), wargnifla::Error> {
+    /// let mut buffer = CodeBuffer::new(Arch::X64);
+    /// let (again, end) = (buffer.get_label()?, buffer.get_label()?);
+    /// buffer.try_bind_label(again)?;
+    /// buffer.put_bytes(&[0xFF, 0xC9])?; // dec ecx
+    /// buffer.put_jump(end, Some(Condition::E))?;
+    /// buffer.put_jump(again, None)?;
+    /// buffer.try_bind_label(end)?;
+    /// assert_eq!(buffer.finish()?.data(), [0xFF, 0xC9, 0x74, 2, 0xEB, 0xFA]);
+    /// # Ok(())
+    /// # }
+    /// ```
+    ///
+    /// # Errors
+    ///
+    /// Number 4, 8, 11 or 12; on AArch64 number 7 for every jump.
+    pub fn put_jump(&mut self, label: Label, cc: Option<Condition>) -> Result<(), Error> {
+        let (bytes, fill) = long_jump(self.arch(), self.cur_offset(), label.id(), cc);
+        if !self.queue.has_code_room(bytes.len()) {
+            return self.put_bytes(bytes);
+        }
+        if self.arch().tracks_layout() {
+            return self.put_relaxable_jump(label, bytes, fill);
+        }
+        // A use may be recorded before its bytes.
+        self.make(fill)?;
+        self.put_bytes(bytes)
+    }
+
+    /// Appends the bytes of a jump, for which the code has room, and records it. A jump that is to be refused is refused before its bytes stand.
+    fn put_relaxable_jump(
+        &mut self,
+        label: Label,
+        bytes: &[u8],
+        jump: Call<&[u8]>,
+    ) -> Result<(), Error> {
+        if label.id() >= self.label_count() {
+            // Number 8 comes before the test that the jump ends at the current offset.
+            return self.make(jump);
+        }
+        if !self.queue.has_event_room() {
+            // An alignment to 1 takes an event, too, and no bytes.
+            let number = self
+                .queue
+                .make_alone(|tables| verified::align(tables, 1, 0));
+            return self.answer(number, jump);
+        }
+        self.put_bytes(bytes)?;
+        self.make(jump)
     }
 
     /// Adds a constant of at most 64 bytes. It is pooled only if its label is asked for, on a multiple of 8 up to 8 bytes, of 16 up to 32 and of 64

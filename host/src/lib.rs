@@ -6,13 +6,12 @@
 //! buffers are joined into one by [`join`](join()), and written as objects for the system linker by [`CodeBufferFinalized::object`].
 //!
 //! ```
-//! use wargnifla::{Arch, CodeBuffer, RelaxableJump};
+//! use wargnifla::{Arch, CodeBuffer};
 //!
 //! # fn main() -> Result<(), wargnifla::Error> {
 //! let mut buffer = CodeBuffer::new(Arch::X64);
 //! let end = buffer.get_label()?;
-//! buffer.put_bytes(&[0; 5])?;
-//! buffer.record_relaxable_jump(RelaxableJump { start: 0, len: 5, label: end, cc: None })?;
+//! buffer.put_jump(end, None)?; // a jmp; finish chooses its size
 //! buffer.put_bytes(&[0x90; 100])?;
 //! buffer.try_bind_label(end)?;
 //! let code = buffer.finish()?;

@@ -67,6 +67,14 @@ impl Queue {
         self.mirror.len(TableName::Constants) as u32
     }
 
+    pub fn has_code_room(&self, more: usize) -> bool {
+        self.mirror.has_code_room(more)
+    }
+
+    pub fn has_event_room(&self) -> bool {
+        self.mirror.has_room(TableName::Events)
+    }
+
     /// The offset of a label that is known and bound.
     pub fn label_offset(&self, label: Label) -> Option<u32> {
         // Finish binds labels and moves them.

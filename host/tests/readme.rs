@@ -4,7 +4,7 @@ use std::fs;
 use std::path::{Path, PathBuf};
 use std::process::Command;
 
-use wargnifla::{Arch, CodeBuffer, Error, RelaxableJump, read_text};
+use wargnifla::{Arch, CodeBuffer, Error, read_text};
 
 const README: &str = include_str!("../README.md");
 
@@ -128,8 +128,7 @@ fn the_text_is_that_of_the_sheet() {
 fn forward_jump() -> Result<Vec<u8>, Error> {
     let mut buffer = CodeBuffer::new(Arch::X64);        // with_symbols, if relocations name some
     let end = buffer.get_label()?;
-    buffer.put_bytes(&[0; 5])?;                         // room for the jump; finish writes its bytes
-    buffer.record_relaxable_jump(RelaxableJump { start: 0, len: 5, label: end, cc: None })?;
+    buffer.put_jump(end, None)?;                        // jmp end, or Some(Condition) for a jcc
     buffer.put_bytes(&[0x90; 100])?;
     buffer.try_bind_label(end)?;
     Ok(buffer.finish()?.data().to_vec())                // EB 64, then 100 times 90

@@ -178,12 +178,12 @@ impl Mirror {
     }
 
     #[inline(always)]
-    fn has_room(&self, table: TableName) -> bool {
+    pub fn has_room(&self, table: TableName) -> bool {
         self.len(table) < MOST_ENTRIES
     }
 
     #[inline(always)]
-    fn has_code_room(&self, more: usize) -> bool {
+    pub fn has_code_room(&self, more: usize) -> bool {
         more <= MOST_CODE - self.len(TableName::Code)
     }
 

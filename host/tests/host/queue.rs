@@ -101,6 +101,50 @@ impl Pair {
         let _ = other.finish();
     }
 
+    /// A jump with its bytes, beside the calls that it is made of. Where one of these is refused, the other buffer is to be refused as a whole, too.
+    fn put_jump(&mut self) {
+        let labels = self.single.label_count();
+        let id = self.random.below(labels.max(1)) + u32::from(self.slips());
+        let (label, cc) = (
+            Label::from_id(id),
+            Condition::from_number(self.random.below(17)),
+        );
+        let put = self.queued.put_jump(label, cc);
+        let made = self.jump_by_calls(id, cc);
+        let number = |answer: &Result<(), Error>| answer.as_ref().err().map(Error::number);
+        assert_eq!(number(&put), number(&made));
+        if made.is_err() {
+            self.refused.extend(number(&made));
+            let single = self.single.put_jump(label, cc);
+            assert_eq!(answer(put.map(|()| None)), answer(single.map(|()| None)));
+        }
+    }
+
+    /// The calls that a jump is made of, on the other buffer: none, if one of them is refused.
+    fn jump_by_calls(&mut self, label: u32, cc: Option<Condition>) -> Result<(), Error> {
+        let start = self.single.cur_offset();
+        let opcode = cc.map_or(vec![0xE9], |cc| vec![0x0F, 0x80 + cc.number() as u8]);
+        let bytes = [&opcode[..], &[0; 4]].concat();
+        let fill = match self.single.arch() {
+            Arch::X64 => Call::Jump {
+                start,
+                length: bytes.len() as u32,
+                label,
+                condition: cc.map_or(Condition::NONE, Condition::number),
+            },
+            _ => Call::Use {
+                offset: start + opcode.len() as u32,
+                label,
+                code: LabelUse::X86JmpRel32.code(),
+            },
+        };
+        let mut made = self.single.clone();
+        made.put_bytes(&bytes)?;
+        made.call(&fill)?;
+        self.single = made;
+        Ok(())
+    }
+
     /// The label or constant that an accepted call gave.
     fn number_of(&self, call: &Call) -> u32 {
         match call {
@@ -486,6 +530,9 @@ fn compare(seed: u64) -> BTreeSet<u32> {
         }
         if pair.chance(2) {
             pair.clone_one();
+        }
+        if arch != Arch::AArch64 && pair.chance(2) {
+            pair.put_jump();
         }
         if pair.chance(1) && pair.chance(20) {
             pair.finish();

@@ -1,8 +1,8 @@
 //! The wrapper's methods, one by one.
 
 use wargnifla::{
-    Arch, AsmReloc, CodeBuffer, Condition, Constant, Label, LabelUse, LayoutEvent, Refusal,
-    RelaxableJump, Reloc, RelocTarget, Sym, UNBOUND,
+    Arch, AsmReloc, CodeBuffer, Condition, Constant, Label, LabelUse, LayoutEvent, MOST_CODE,
+    MOST_ENTRIES, Refusal, RelaxableJump, Reloc, RelocTarget, Sym, UNBOUND,
 };
 
 #[test]
@@ -35,6 +35,107 @@ fn labels_are_made_and_bound() {
     let offsets = [first, second, unknown].map(|label| code.label_offset(label));
     assert_eq!(offsets, [None, Some(4), None]);
     assert_eq!(code.label_offsets(), [UNBOUND, 4]);
+}
+
+#[test]
+fn a_jump_is_put_with_its_bytes() {
+    let put = |arch, cc| {
+        let mut buffer = CodeBuffer::new(arch);
+        let end = buffer.get_label().unwrap();
+        buffer.put1(0x90).unwrap();
+        buffer.put_jump(end, cc).unwrap();
+        buffer.put1(0x90).unwrap();
+        buffer.try_bind_label(end).unwrap();
+        buffer
+    };
+    for cc in Condition::ALL {
+        let opcode = 0x80 + cc.number() as u8;
+        let mut buffer = put(Arch::X64, Some(cc));
+        let long = [0x90, 0x0F, opcode, 0, 0, 0, 0, 0x90];
+        assert_eq!(buffer.data(), long);
+        assert_eq!(
+            buffer.finish().unwrap().data(),
+            [0x90, opcode - 0x10, 1, 0x90]
+        );
+        let code = put(Arch::X86, Some(cc)).finish().unwrap();
+        assert_eq!(code.data(), [0x90, 0x0F, opcode, 1, 0, 0, 0, 0x90]);
+        assert_eq!(code.unpatched(), []);
+    }
+    let mut buffer = put(Arch::X64, None);
+    assert_eq!(buffer.data(), [0x90, 0xE9, 0, 0, 0, 0, 0x90]);
+    assert_eq!(buffer.finish().unwrap().data(), [0x90, 0xEB, 1, 0x90]);
+    let code = put(Arch::X86, None).finish().unwrap();
+    assert_eq!(code.data(), [0x90, 0xE9, 1, 0, 0, 0, 0x90]);
+}
+
+/// A jump that is refused leaves the recording as it was, but for the refusal.
+#[test]
+fn a_refused_jump_leaves_no_bytes() {
+    let refused = |mut buffer: CodeBuffer, label: Label, number: u32, sentence: &str| {
+        let before = buffer.recording();
+        for cc in [None, Some(Condition::Ne)] {
+            let error = buffer.put_jump(label, cc).unwrap_err();
+            assert_eq!(error.number(), number, "{error}");
+            assert!(error.sentence().contains(sentence), "{error}");
+        }
+        assert_eq!(buffer.recording(), before);
+        assert_eq!(buffer.error().map_or(4, |error| error.number()), number);
+        assert!(buffer.finish().is_err());
+    };
+    let with_label = |arch| {
+        let mut buffer = CodeBuffer::new(arch);
+        let label = buffer.get_label().unwrap();
+        buffer.put1(0x90).unwrap();
+        (buffer, label)
+    };
+    for arch in [Arch::X86, Arch::X64] {
+        let unknown = Label::from_id(1);
+        refused(with_label(arch).0, unknown, 8, "label 1 is unknown");
+        let (mut buffer, label) = with_label(arch);
+        buffer.try_bind_label(label).unwrap();
+        buffer.finish().unwrap();
+        refused(buffer, label, 4, "finished");
+        for left in [0, 4] {
+            let (mut buffer, label) = with_label(arch);
+            buffer.put_bytes(&vec![0; MOST_CODE - 1 - left]).unwrap();
+            refused(buffer, label, 12, "more bytes at");
+        }
+        let (mut buffer, label) = with_label(arch);
+        buffer.add_constant(&[0; 65]).unwrap_err();
+        refused(buffer, label, 10, "a constant of 65 bytes");
+    }
+    let (buffer, label) = with_label(Arch::AArch64);
+    refused(buffer, label, 7, "X86JmpRel32) is foreign to AArch64");
+    let (mut buffer, label) = with_label(Arch::X64);
+    for _ in 0..MOST_ENTRIES {
+        buffer.try_align_to(1).unwrap();
+    }
+    refused(buffer, label, 11, "the table of events");
+    let (mut buffer, label) = with_label(Arch::X86);
+    for _ in 0..MOST_ENTRIES {
+        buffer
+            .use_label_at_offset(0, label, LabelUse::X86JmpRel32)
+            .unwrap();
+    }
+    refused(buffer, label, 11, "the table of uses");
+}
+
+#[test]
+fn jumps_that_are_put_fill_the_code_and_the_table() {
+    let (mut buffer, most) = (CodeBuffer::new(Arch::X64), MOST_CODE - 11);
+    let label = buffer.get_label().unwrap();
+    buffer.try_bind_label(label).unwrap();
+    buffer.put_bytes(&vec![0x90; most]).unwrap();
+    buffer.put_jump(label, None).unwrap();
+    buffer.put_jump(label, Some(Condition::G)).unwrap();
+    assert_eq!(buffer.finish().unwrap().total_size(), MOST_CODE);
+    let mut buffer = CodeBuffer::new(Arch::X64);
+    let label = buffer.get_label().unwrap();
+    for _ in 0..MOST_ENTRIES {
+        buffer.put_jump(label, None).unwrap();
+    }
+    buffer.put_jump(label, None).unwrap_err();
+    assert_eq!(buffer.data().len(), 5 * MOST_ENTRIES);
 }
 
 #[test]

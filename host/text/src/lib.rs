@@ -32,6 +32,7 @@ pub use kinds::{Arch, Condition, LabelUse, Reach, Reloc};
 pub use padding::{DEFAULT_MOST, Padding, most_of_word};
 pub use place::{Note, Span, TextError};
 use placing::Placing;
+pub use placing::long_jump;
 use reader::{check_count, read_steps};
 pub use shown::{counted, escaped, shown};
 pub use suggest::nearest;

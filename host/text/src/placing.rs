@@ -41,34 +41,57 @@ impl<C, A: Fn(TextCall, &mut Vec<C>) -> Result<(), String>> Placing<C, A> {
         (self.append)(call, &mut self.calls)
     }
 
-    /// The long form of a jump with its displacement open, and what fills it: on X64 a jump, which finish may shorten, on X86 a use.
     fn branch(&mut self, label: u32, condition: u32) -> Result<(), String> {
-        let opcode = match u8::try_from(condition) {
-            Ok(condition) if u32::from(condition) < Condition::NONE => vec![0x0F, 0x80 + condition],
-            _ => vec![0xE9],
-        };
-        let (start, field) = (self.offset, self.offset + opcode.len() as u64);
-        let room = [opcode, vec![0; 4]].concat();
-        let length = room.len() as u32;
+        if self.arch == Arch::AArch64 {
+            return Err("this is a jump of x86, and the sheet is for AArch64".into());
+        }
         // Past 32 bits the bytes before it are refused already.
-        let offset = |at| u32::try_from(at).unwrap_or(u32::MAX);
-        let call = match self.arch {
-            Arch::X64 => Call::Jump {
-                start: offset(start),
-                length,
-                label,
-                condition,
-            },
-            Arch::X86 => Call::Use {
-                offset: offset(field),
-                label,
-                code: LabelUse::X86JmpRel32.code(),
-            },
-            Arch::AArch64 => {
-                return Err("this is a jump of x86, and the sheet is for AArch64".into());
-            }
-        };
-        self.call(TextCall::Call(Call::Bytes(room.into())))?;
-        self.call(TextCall::Call(call))
+        let start = u32::try_from(self.offset).unwrap_or(u32::MAX);
+        let (bytes, fill) = long_jump(self.arch, start, label, Condition::from_number(condition));
+        self.call(TextCall::Call(Call::Bytes(bytes.into())))?;
+        self.call(TextCall::Call(fill))
     }
 }
+
+/// The long form of a jump that starts at an offset, its displacement open, and the call that has finish fill it: on X64 a jump, which finish may shorten,
+/// else a use, which AArch64 refuses.
+pub fn long_jump<B>(
+    arch: Arch,
+    start: u32,
+    label: u32,
+    condition: Option<Condition>,
+) -> (&'static [u8], Call<B>) {
+    let bytes: &[u8] = match condition {
+        Some(condition) => &JCC[condition as usize],
+        None => &JMP,
+    };
+    let length = bytes.len() as u32;
+    let fill = match arch {
+        Arch::X64 => Call::Jump {
+            start,
+            length,
+            label,
+            condition: condition.map_or(Condition::NONE, Condition::number),
+        },
+        Arch::X86 | Arch::AArch64 => Call::Use {
+            offset: start.saturating_add(length - LabelUse::X86JmpRel32.patch_size()),
+            label,
+            code: LabelUse::X86JmpRel32.code(),
+        },
+    };
+    (bytes, fill)
+}
+
+/// `jmp` with a displacement of zeros.
+static JMP: [u8; 5] = [0xE9, 0, 0, 0, 0];
+
+/// `jcc`, likewise, by condition.
+static JCC: [[u8; 6]; 16] = {
+    let mut all = [[0x0F, 0x80, 0, 0, 0, 0]; 16];
+    let mut condition = 0;
+    while condition < all.len() {
+        all[condition][1] += condition as u8;
+        condition += 1;
+    }
+    all
+};
