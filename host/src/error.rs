@@ -41,6 +41,7 @@ pub enum Place {
 
 /// The entry of a table that a finish, or what is made of one, was refused for.
 #[derive(Clone, Copy, Debug, PartialEq, Eq)]
+#[non_exhaustive]
 pub enum Entry {
     /// An event, by its index: on X64, jumps and alignments in the order of recording.
     Event(usize),
@@ -54,6 +55,21 @@ pub enum Entry {
     Asked(usize),
     /// A definition of a symbol, by its index.
     Definition(usize),
+}
+
+impl Entry {
+    /// Its index in its table, or its place in the order of asking.
+    #[must_use]
+    pub const fn index(self) -> usize {
+        match self {
+            Self::Event(index)
+            | Self::Use(index)
+            | Self::Ref(index)
+            | Self::Reloc(index)
+            | Self::Asked(index)
+            | Self::Definition(index) => index,
+        }
+    }
 }
 
 impl Error {

@@ -313,11 +313,7 @@ fn unpatched_row(texts: &Texts<'_>, entry: &Unpatched) -> Option<Row> {
 }
 
 fn unpatched_text(entry: &Unpatched, arch: Arch) -> String {
-    let why = match entry.why {
-        WhyUnpatched::NotKept => format!("not kept on {arch}"),
-        WhyUnpatched::NoJump => "not patched, since no jump stands".into(),
-        WhyUnpatched::BesideJump => "dropped, since a jump stands".into(),
-    };
+    let why = entry.why.text(arch);
     match (entry.filled, entry.why) {
         (true, WhyUnpatched::BesideJump) => format!("{why}; a ref or jump fills the field"),
         (true, _) => format!("{why}; a use fills the field"),

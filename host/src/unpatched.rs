@@ -3,10 +3,11 @@
 use std::collections::HashSet;
 
 use crate::tables::Tables;
-use crate::{Call, Label, LabelUse};
+use crate::{Arch, Call, Label, LabelUse};
 
 /// A jump, ref or use that was accepted and that finish did not write.
 #[derive(Clone, Debug, PartialEq, Eq)]
+#[non_exhaustive]
 pub struct Unpatched {
     /// The call that recorded it: [`Call::Jump`], [`Call::Ref`] or [`Call::Use`].
     pub call: Call,
@@ -19,6 +20,7 @@ pub struct Unpatched {
 
 /// Why finish did not write a jump or field.
 #[derive(Clone, Copy, Debug, PartialEq, Eq, Hash)]
+#[non_exhaustive]
 pub enum WhyUnpatched {
     /// A jump or ref is accepted unread on X86 and AArch64.
     NotKept,
@@ -26,6 +28,18 @@ pub enum WhyUnpatched {
     NoJump,
     /// A use is patched only where no jump stands.
     BesideJump,
+}
+
+impl WhyUnpatched {
+    /// The reason in words: `not kept on X86`.
+    #[must_use]
+    pub fn text(self, arch: Arch) -> String {
+        match self {
+            Self::NotKept => format!("not kept on {arch}"),
+            Self::NoJump => "not patched, since no jump stands".into(),
+            Self::BesideJump => "dropped, since a jump stands".into(),
+        }
+    }
 }
 
 /// What a finish of these tables does not write, in the order of recording; `unread` are the calls that the tables did not keep.

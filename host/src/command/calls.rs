@@ -15,14 +15,8 @@ pub fn call_of_entry(calls: &[Call], arch: Arch, entry: Entry) -> Option<usize> 
         (Entry::Asked(_), Call::ConstantLabel(constant)) => asked.insert(*constant),
         _ => false,
     };
-    let (Entry::Event(nth)
-    | Entry::Ref(nth)
-    | Entry::Use(nth)
-    | Entry::Reloc(nth)
-    | Entry::Asked(nth)
-    | Entry::Definition(nth)) = entry;
     let mut made = (0..).zip(calls).filter(|(_, call)| makes_entry(call));
-    made.nth(nth).map(|(index, _)| index)
+    made.nth(entry.index()).map(|(index, _)| index)
 }
 
 /// The call that binds a label first.

@@ -67,11 +67,7 @@ impl Group {
     fn text(&self, arch: Arch) -> String {
         let one = self.calls.len() == 1;
         let is = if one { "is" } else { "are" };
-        let why = match self.why {
-            WhyUnpatched::NotKept => format!("not kept on {arch}"),
-            WhyUnpatched::NoJump => "not patched, since no jump stands".into(),
-            WhyUnpatched::BesideJump => "dropped, since a jump stands".into(),
-        };
+        let why = self.why.text(arch);
         let filled = match (self.filled, self.why, one) {
             (false, ..) => "",
             (true, WhyUnpatched::BesideJump, true) => ", but a ref or jump fills its field",

@@ -11,6 +11,7 @@ use crate::{Arch, Reloc};
     non_camel_case_types,
     reason = "the names are the psABIs', which explain them"
 )]
+#[non_exhaustive]
 pub enum ElfType {
     R_X86_64_64 = 1,
     R_X86_64_PC32 = 2,

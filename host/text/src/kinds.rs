@@ -185,6 +185,7 @@ impl fmt::Display for Reach {
 
 /// How a field holds the offset of a label.
 #[derive(Clone, Copy, Debug, PartialEq, Eq, Hash)]
+#[non_exhaustive]
 pub enum LabelUse {
     /// 32-bit displacement, relative to the end of the field.
     X86JmpRel32,
@@ -300,6 +301,7 @@ impl fmt::Display for LabelUse {
     non_camel_case_types,
     reason = "the names are asmkit's, and its docs explain them"
 )]
+#[non_exhaustive]
 pub enum Reloc {
     Abs4,
     Abs8,
