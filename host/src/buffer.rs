@@ -98,13 +98,12 @@ impl CodeBuffer {
     ///
     /// Number 2, where it is none of [`Arch`].
     pub fn start(arch: u32, symbols: u32) -> Result<Self, Error> {
-        if let Some(arch) = Arch::from_number(arch) {
-            return Ok(Self::with_symbols(arch, symbols));
-        }
-        let mut counts = Counts::ZERO;
-        let number = verified::start(&mut counts, arch, symbols);
-        let sentence = format!("architecture {arch} is none of 1 (X86), 2 (X64) and 6 (AArch64)");
-        Err(Error::new(number, Place::Start, sentence))
+        let known = Arch::try_from(arch).map(|arch| Self::with_symbols(arch, symbols));
+        known.map_err(|unknown| {
+            let mut counts = Counts::ZERO;
+            let number = verified::start(&mut counts, arch, symbols);
+            Error::new(number, Place::Start, unknown.to_string())
+        })
     }
 
     /// The architecture.

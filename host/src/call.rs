@@ -92,16 +92,12 @@ fn put_words(bytes: &mut [u8], words: [u32; 4]) {
 
 /// A code, if there is such a kind of field.
 pub(crate) fn known_code(code: u32) -> Result<u32, String> {
-    match LabelUse::from_code(code) {
-        Some(_) => Ok(code),
-        None => Err(format!("code {code} is none of 0 to 16")),
-    }
+    let kind = LabelUse::try_from(code).map_err(|unknown| unknown.to_string())?;
+    Ok(kind.code())
 }
 
 /// A number, if there is such a kind of relocation.
 pub(crate) fn known_kind(kind: u32) -> Result<u32, String> {
-    match Reloc::from_number(kind) {
-        Some(_) => Ok(kind),
-        None => Err(format!("relocation kind {kind} is none of 0 to 27")),
-    }
+    let kind = Reloc::try_from(kind).map_err(|unknown| unknown.to_string())?;
+    Ok(kind.number())
 }

@@ -1,6 +1,9 @@
 //! The refusals of documents 01 and 02, named.
 
 use std::fmt;
+use std::str::FromStr;
+
+use crate::{NoSuchName, NoSuchNumber};
 
 /// Why something is refused: the numbers of documents 01 and 02, each with a name. include/wargnifla.h has the same ones.
 ///
@@ -127,6 +130,31 @@ impl Refusal {
             .into_iter()
             .find(|refusal| refusal.number() == number)
     }
+
+    /// The refusal of a name, in capitals or not.
+    #[must_use]
+    pub fn from_name(name: &str) -> Option<Self> {
+        Self::ALL
+            .into_iter()
+            .find(|refusal| refusal.to_string().eq_ignore_ascii_case(name))
+    }
+}
+
+impl TryFrom<u32> for Refusal {
+    type Error = NoSuchNumber;
+
+    fn try_from(number: u32) -> Result<Self, NoSuchNumber> {
+        Self::from_number(number).ok_or(NoSuchNumber::new("refusal", number, "1 to 29"))
+    }
+}
+
+/// By its name, in capitals or not.
+impl FromStr for Refusal {
+    type Err = NoSuchName;
+
+    fn from_str(name: &str) -> Result<Self, NoSuchName> {
+        Self::from_name(name).ok_or_else(|| NoSuchName::new("refusal", name, &Self::ALL))
+    }
 }
 
 impl fmt::Display for Refusal {
@@ -145,7 +173,21 @@ mod tests {
         assert!(numbers.into_iter().eq(1..=29));
         for refusal in Refusal::ALL {
             assert_eq!(Refusal::from_number(refusal.number()), Some(refusal));
+            assert_eq!(Refusal::try_from(refusal.number()), Ok(refusal));
         }
         assert_eq!(Refusal::from_number(0), None);
+        let error = Refusal::try_from(30).unwrap_err();
+        assert_eq!(error.to_string(), "refusal 30 is none of 1 to 29");
+    }
+
+    #[test]
+    fn names_are_read_in_any_case() {
+        for refusal in Refusal::ALL {
+            let name = refusal.to_string().to_lowercase();
+            assert_eq!(name.parse(), Ok(refusal));
+        }
+        let error = "UnbondLabel".parse::<Refusal>().unwrap_err();
+        let said = "'UnbondLabel' is no refusal; did you mean UnboundLabel?";
+        assert_eq!(error.to_string(), said);
     }
 }

@@ -22,6 +22,7 @@ mod suggest;
 mod symbols;
 mod text_call;
 mod tokens;
+mod unknown;
 mod words;
 
 use std::borrow::Cow;
@@ -38,6 +39,7 @@ pub use shown::{counted, escaped, shown};
 pub use suggest::nearest;
 pub use text_call::TextCall;
 pub use tokens::words_in;
+pub use unknown::{NoSuchName, NoSuchNumber};
 
 /// What a text says.
 #[derive(Clone, Debug, PartialEq, Eq)]
