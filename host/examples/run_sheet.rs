@@ -2,7 +2,7 @@
 
 use std::error::Error;
 
-use wargnifla::{Arch, CodeBuffer, Extent, listing, read_text, write_sheet};
+use wargnifla::{Arch, CodeBuffer, Extent, read_text, write_sheet};
 
 const TEXT: &str = "
     label
@@ -20,9 +20,8 @@ fn main() -> Result<(), Box<dyn Error>> {
 
     let mut buffer = CodeBuffer::new(Arch::X64);
     buffer.run_sheet(&sheet)?;
-    // Finish gives labels their final offsets, so what was recorded is kept for the listing.
-    let recording = buffer.recording();
-    let code = buffer.finish()?;
-    print!("{}", listing(&recording, &code, Extent::Full));
+    // A listing says what was recorded, too.
+    let finished = buffer.finish_with_recording()?;
+    print!("{}", finished.listing(Extent::Full));
     Ok(())
 }

@@ -2,11 +2,12 @@
 
 use std::fmt;
 
-use crate::call::{one_call_sheet, words_of};
-use crate::event::RelaxableJump;
+use crate::call::{appended, one_call_sheet, words_of};
+use crate::event::{Alignment, LayoutEvent, RelaxableJump};
 use crate::explain::{explain_call, explain_finish};
 use crate::ffi::Segment;
 use crate::finalized::CodeBufferFinalized;
+use crate::finished_recording::FinishedRecording;
 use crate::queue::Queue;
 use crate::recording::{
     AsmFixup, AsmReloc, Constant, Label, Recording, RelocTarget, Sym, constant_alignment,
@@ -19,7 +20,7 @@ use crate::{
     Arch, Call, CodeOffset, Condition, Error, ExternalName, LabelUse, MOST_CODE, MOST_ENTRIES,
     Place, Reloc,
 };
-use sheet_text::long_jump;
+use sheet_text::{long_jump, most_of_word};
 
 /// A buffer of code to be produced: bytes, labels, fields, alignments, constants, relocations and jumps, recorded call by call and then finished.
 ///
@@ -68,6 +69,8 @@ pub struct CodeBuffer {
     first_refusal: Option<Error>,
     /// The jumps and refs that were accepted unread, which no table keeps.
     unread: Vec<Call>,
+    /// The alignments, where the table of events keeps none.
+    alignments: Vec<Alignment>,
     /// The symbols that labels define.
     definitions: Vec<(ExternalName, Label)>,
 }
@@ -88,6 +91,7 @@ impl CodeBuffer {
             queue: Queue::new(arch, symbols),
             first_refusal: None,
             unread: Vec::new(),
+            alignments: Vec::new(),
             definitions: Vec::new(),
         }
     }
@@ -362,11 +366,15 @@ impl CodeBuffer {
         if most != 0 {
             return self.make(call);
         }
+        let start = self.cur_offset();
         let number = self.queue.make_alone(|tables| {
             let event = usize::from(tables.arch.tracks_layout());
             tables.make_room(TableName::Events, event);
             verified::align(tables, align_to, most)
         });
+        if number == 0 {
+            self.note_alignment(start, align_to, most);
+        }
         self.answer(number, call)
     }
 
@@ -634,8 +642,9 @@ impl CodeBuffer {
     /// As [`Self::call`]. Inlined, so that a method whose kind of call is known does only what that kind needs.
     #[inline(always)]
     fn make(&mut self, call: Call<&[u8]>) -> Result<(), Error> {
+        let start = self.cur_offset();
         if self.queue.take(&call) {
-            self.note_unread(&call);
+            self.note_unkept(&call, start);
             return Ok(());
         }
         self.make_alone(call)
@@ -643,19 +652,30 @@ impl CodeBuffer {
 
     /// Lets the library answer a call.
     fn make_alone(&mut self, call: Call<&[u8]>) -> Result<(), Error> {
+        let start = self.cur_offset();
         let number = self.queue.make_alone(|tables| made_alone(tables, &call));
         if number == 0 {
-            self.note_unread(&call);
+            self.note_unkept(&call, start);
         }
         self.answer(number, call)
     }
 
-    /// Keeps an accepted call that the tables don't.
+    /// Keeps of an accepted call what the tables don't; `start` is the offset that it was made at.
     #[inline(always)]
-    fn note_unread(&mut self, call: &Call<&[u8]>) {
+    fn note_unkept(&mut self, call: &Call<&[u8]>, start: CodeOffset) {
         let is_unread = matches!(call, Call::Jump { .. } | Call::Ref { .. });
         if is_unread && !self.arch().tracks_layout() {
             self.unread.push(call.clone().map_bytes(Into::into));
+        }
+        if let Call::Align { multiple, most } = *call {
+            self.note_alignment(start, multiple, most_of_word(most));
+        }
+    }
+
+    fn note_alignment(&mut self, start: CodeOffset, multiple: u32, most: u32) {
+        if !self.arch().tracks_layout() {
+            let alignment = Alignment::recorded(start, multiple, most);
+            self.alignments.push(alignment);
         }
     }
 
@@ -702,6 +722,7 @@ impl CodeBuffer {
     /// The refused call's, with its index; number 1 for a broken form.
     pub fn run_sheet(&mut self, sheet: &[u8]) -> Result<(), Error> {
         let read = Sheet::read(sheet);
+        let mut start = self.cur_offset();
         let (number, index) = self.queue.make_many(|tables| {
             if let Ok(sheet) = &read {
                 tables.make_all_room(&sheet.room(tables.arch));
@@ -712,7 +733,9 @@ impl CodeBuffer {
             // A broken form, number 1, is found before any call is made. The other 1 of a sheet is of a wrong number of open entries, and here it is right.
             let made = if number == 1 { 0 } else { index as usize };
             for call in sheet.calls().take(made) {
-                self.note_unread(&call.map_bytes(|_| &[][..]));
+                let more = appended(&call, start);
+                self.note_unkept(&call.map_bytes(|_| &[][..]), start);
+                start += more;
             }
         }
         match (number, read) {
@@ -781,6 +804,20 @@ impl CodeBuffer {
             Ok((data, record)) => Ok(self.finalized(data, segments, record)),
             Err(number) => Err(self.refused_finish(number, &segments)),
         }
+    }
+
+    /// As [`Self::finish`], with the recording as it was kept beside the code, for listings and pictures.
+    ///
+    /// # Errors
+    ///
+    /// As [`Self::finish`].
+    pub fn finish_with_recording(&mut self) -> Result<FinishedRecording, Error> {
+        let mut recording = self.recording();
+        let alignments = self.alignments.iter().copied();
+        recording.events.extend(alignments.map(LayoutEvent::Align));
+        let recorded = self.data().to_vec();
+        let code = self.finish()?;
+        Ok(FinishedRecording::new(recording, recorded, code))
     }
 
     fn finalized(

@@ -1,6 +1,8 @@
 //! Calls as entries of a sheet.
 
-use crate::{Call, LabelUse, Reloc};
+use sheet_text::most_of_word;
+
+use crate::{Call, CodeOffset, LabelUse, Padding, Reloc};
 
 /// The most bytes that one call of a sheet carries.
 pub(crate) const MOST_BYTES: usize = 12;
@@ -48,6 +50,18 @@ pub(crate) fn words_of<B>(call: &Call<B>) -> Option<[u32; 4]> {
             [offset, kind, target, addend.cast_unsigned()]
         }
     })
+}
+
+/// The bytes that a call appends where it is accepted at an offset.
+#[inline(always)]
+pub(crate) fn appended(call: &Call<impl AsRef<[u8]>>, offset: CodeOffset) -> u32 {
+    match call {
+        Call::Bytes(bytes) => bytes.as_ref().len() as u32,
+        Call::Align { multiple, most } => {
+            Padding::at(offset.into(), *multiple, most_of_word(*most)).spent()
+        }
+        _ => 0,
+    }
 }
 
 /// How a call breaks the form of sheets, if it does.

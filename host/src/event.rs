@@ -142,7 +142,7 @@ impl LayoutEvent {
         matches!(self, Self::Jump(_))
     }
 
-    /// Whether a call makes an event, one that [`Recording::note_alignments`](crate::Recording::note_alignments) adds too.
+    /// Whether a call makes an event of a [`FinishedRecording`](crate::FinishedRecording): an alignment on every architecture, a jump on X64.
     #[must_use]
     pub const fn is_made_by(call: &Call, arch: Arch) -> bool {
         match call {

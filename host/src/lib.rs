@@ -46,6 +46,7 @@ mod explain;
 #[allow(missing_docs, unsafe_code)]
 pub mod ffi;
 mod finalized;
+mod finished_recording;
 mod join;
 mod listing;
 mod picture;
@@ -66,10 +67,9 @@ pub use error::{Entry, Error, Place};
 pub use event::{Alignment, LayoutEvent, RelaxableJump};
 pub use ffi::Segment;
 pub use finalized::CodeBufferFinalized;
+pub use finished_recording::FinishedRecording;
 pub use join::{Filled, Joined, Origin, join};
-pub use listing::{
-    Extent, ListedPiece, Radix, Style, joined_listing, joined_record, listing, record,
-};
+pub use listing::{Extent, JoinedRecordings, ListedPiece, Radix, Style};
 pub use picture::Picture;
 pub use recording::{
     AsmConstant, AsmFixup, AsmReloc, Constant, Label, LabelRef, Names, Pooled, PooledConstant,

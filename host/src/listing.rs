@@ -2,7 +2,7 @@
 
 mod joined;
 
-pub use joined::{ListedPiece, joined_listing, joined_record};
+pub use joined::{JoinedRecordings, ListedPiece};
 
 use std::collections::HashSet;
 use std::fmt::Write;
@@ -77,7 +77,7 @@ impl From<Extent> for Style {
 }
 
 /// Lists finished code: offset, bytes, and what they are. `recording` is the recording as it was before finish.
-pub fn listing(
+pub(crate) fn listing(
     recording: &Recording,
     finished: &CodeBufferFinalized,
     style: impl Into<Style>,
@@ -100,7 +100,7 @@ pub fn listing(
 const HEAD: &str = "  offset  bytes                       what\n";
 
 /// What finish reports, in one line.
-pub fn record(recording: &Recording, finished: &CodeBufferFinalized) -> String {
+pub(crate) fn record(recording: &Recording, finished: &CodeBufferFinalized) -> String {
     let long = finished
         .segments()
         .iter()

@@ -11,7 +11,7 @@ use crate::event::LayoutEvent;
 use crate::ffi::Segment;
 use crate::listing::record;
 use crate::recording::{Pooled, Recording};
-use crate::{CodeBufferFinalized, Rounds, Style};
+use crate::{CodeBufferFinalized, FinishedRecording, Rounds, Style};
 use data::data;
 use markup::escaped;
 
@@ -28,54 +28,66 @@ const SCRIPTS: [&str; 4] = [
 /// What a page is made of.
 ///
 /// ```
-/// use wargnifla::{Arch, CodeBuffer, Picture, RelaxableJump, Rounds, Style};
+/// use wargnifla::{Arch, CodeBuffer, Picture};
 ///
 /// # fn main() -> Result<(), wargnifla::Error> {
 /// let mut buffer = CodeBuffer::new(Arch::X64);
 /// let end = buffer.get_label()?;
-/// buffer.put_bytes(&[0; 5])?;
-/// buffer.record_relaxable_jump(RelaxableJump { start: 0, len: 5, label: end, cc: None })?;
+/// buffer.put_jump(end, None)?;
 /// buffer.put_bytes(&[0x90; 128])?;
 /// buffer.try_bind_label(end)?;
-/// let recording = buffer.recording();
-/// let finished = buffer.finish()?;
-/// let picture = Picture {
-///     title: "a jump over 128 bytes",
-///     recording: &recording,
-///     recorded: buffer.data(),
-///     rounds: &Rounds::new(&recording),
-///     finished: &finished,
-///     places: &[],
-///     style: Style::default(),
-/// };
-/// assert!(picture.page().starts_with("<!DOCTYPE html>"));
+/// let finished = buffer.finish_with_recording()?;
+/// let page = Picture::new("a jump over 128 bytes", &finished).page();
+/// assert!(page.starts_with("<!DOCTYPE html>"));
 /// # Ok(())
 /// # }
 /// ```
 #[derive(Clone, Copy, Debug)]
 pub struct Picture<'a> {
-    /// What the page is called.
-    pub title: &'a str,
+    title: &'a str,
     /// The recording as it was before finish.
-    pub recording: &'a Recording,
-    /// The bytes that were recorded; finish leaves them as they are.
-    pub recorded: &'a [u8],
+    recording: &'a Recording,
+    /// The bytes that were recorded.
+    recorded: &'a [u8],
     /// The rounds of the recording.
-    pub rounds: &'a Rounds,
+    rounds: &'a Rounds,
     /// What finish made of it.
-    pub finished: &'a CodeBufferFinalized,
-    /// Where each event of the recording comes from, such as `line 6`; empty if nothing is to be said of that.
-    pub places: &'a [String],
-    /// How offsets are written, and whether the table of bytes is cut.
-    pub style: Style,
+    finished: &'a CodeBufferFinalized,
+    places: &'a [String],
+    style: Style,
 }
 
-impl Picture<'_> {
+impl<'a> Picture<'a> {
+    /// A picture of finished code, and what the page is called.
+    #[must_use]
+    pub fn new(title: &'a str, finished: &'a FinishedRecording) -> Self {
+        Self {
+            title,
+            recording: finished.recording(),
+            recorded: finished.recorded(),
+            rounds: finished.rounds(),
+            finished: finished.code(),
+            places: &[],
+            style: Style::default(),
+        }
+    }
+
+    /// Says where each event of the recording comes from, such as `line 6`.
+    #[must_use]
+    pub fn places(self, places: &'a [String]) -> Self {
+        Self { places, ..self }
+    }
+
+    /// Says how offsets are written, and whether the table of bytes is cut.
+    #[must_use]
+    pub fn style(self, style: impl Into<Style>) -> Self {
+        Self {
+            style: style.into(),
+            ..self
+        }
+    }
+
     /// The page, as the text of an HTML file.
-    ///
-    /// # Panics
-    ///
-    /// May panic if recording, rounds and finished code do not belong together.
     #[must_use]
     pub fn page(&self) -> String {
         let placed = Placed::new(self);

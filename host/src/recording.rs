@@ -2,10 +2,10 @@
 
 use std::collections::BTreeMap;
 
-use sheet_text::{most_of_word, shown};
+use sheet_text::shown;
 
 use crate::event::{Alignment, LayoutEvent};
-use crate::{Arch, Call, CodeOffset, DEFAULT_MOST, ExternalName, LabelUse, Reloc, UNBOUND};
+use crate::{Arch, CodeOffset, DEFAULT_MOST, ExternalName, LabelUse, Reloc, UNBOUND};
 
 /// What is added to a label's number where a relocation's target is one word.
 const LABEL_TARGET: u32 = 1 << 31;
@@ -292,30 +292,6 @@ impl Recording {
     pub fn jumps(&self) -> impl Iterator<Item = &LayoutEvent> {
         let events = self.events.iter();
         events.filter(|event| event.label().is_some())
-    }
-
-    /// Adds the alignments that some calls made, for a listing: off X64 a recording does not keep them.
-    ///
-    /// # Panics
-    ///
-    /// May panic if the calls are not those that made this recording, each of them accepted.
-    pub fn note_alignments(&mut self, calls: &[Call]) {
-        if self.arch.tracks_layout() {
-            return;
-        }
-        let mut offset = 0;
-        for call in calls {
-            match call {
-                Call::Bytes(bytes) => offset += bytes.len() as u32,
-                Call::Align { multiple, most } => {
-                    let most = most_of_word(*most);
-                    let align = Alignment::recorded(offset, *multiple, most);
-                    offset += align.len;
-                    self.events.push(LayoutEvent::Align(align));
-                }
-                _ => {}
-            }
-        }
     }
 
     /// The recording as finish lays it out: constants pooled after the code, in the order of asking.

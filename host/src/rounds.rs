@@ -100,12 +100,8 @@ pub struct Rounds {
 }
 
 impl Rounds {
-    /// Reckons the rounds of a recording; there are none without a jump.
-    ///
-    /// # Panics
-    ///
-    /// May panic if finish does not accept the recording.
-    pub fn new(recording: &Recording) -> Self {
+    /// Reckons the rounds of a recording that finish accepts; there are none without a jump.
+    pub(crate) fn new(recording: &Recording) -> Self {
         if !recording.has_jump() {
             return Self::default();
         }

@@ -3,7 +3,7 @@
 mod refused;
 mod tables;
 
-use wargnifla::{Joined, ListedPiece, Rounds, join, joined_listing, joined_record, record};
+use wargnifla::{Joined, JoinedRecordings, ListedPiece};
 
 use super::options::Options;
 use super::rounds::RoundsReport;
@@ -13,49 +13,44 @@ use super::{Failure, files, open, print_text, report, unpatched};
 pub fn run(options: &Options) -> Result<(), Failure> {
     let rules = options.files.iter().map(|file| Rule::new(options, file));
     let rules: Vec<Rule> = rules.collect::<Result<_, _>>()?;
-    let rounds = rules.iter().map(|rule| rule.rounds(options));
-    let rounds: Vec<Rounds> = rounds.collect::<Result<_, _>>()?;
-    let whole = join(rules.iter().map(|rule| &rule.finished))
-        .map_err(|error| refused::join(&rules, &error))?;
-    let text = shown(options, &rules, &rounds, &whole);
-    write_files(options, &rules, &whole)?;
+    rules
+        .iter()
+        .try_for_each(|rule| rule.check_rounds(options))?;
+    let pieces = rules.iter().map(|rule| ListedPiece {
+        title: &rule.input.file,
+        finished: &rule.finished,
+    });
+    let joined = JoinedRecordings::new(pieces).map_err(|error| refused::join(&rules, &error))?;
+    let text = shown(options, &rules, &joined);
+    write_files(options, &rules, joined.whole())?;
     if !options.writes_standard_output() {
         print_text(&text)?;
     }
     for rule in &rules {
         let whose = format!("{}: ", rule.input.file);
-        eprint!("{}", unpatched::notes(&whose, &rule.input, &rule.finished));
+        eprint!("{}", unpatched::notes(&whose, &rule.input, rule.code()));
     }
     Ok(())
 }
 
-fn shown(options: &Options, rules: &[Rule], rounds: &[Rounds], whole: &Joined) -> String {
-    let style = options.style();
-    let pieces: Vec<ListedPiece<'_>> = rules
-        .iter()
-        .map(|rule| ListedPiece {
-            title: &rule.input.file,
-            recording: &rule.recording,
-            finished: &rule.finished,
-        })
-        .collect();
-    let mut text = joined_listing(&pieces, whole, style);
+fn shown(options: &Options, rules: &[Rule], joined: &JoinedRecordings<'_>) -> String {
+    let (style, whole) = (options.style(), joined.whole());
+    let mut text = joined.listing(style);
     text += &tables::labels(rules, whole, style);
     text += &report::definitions(whole.code(), style);
     text += &tables::relocations(rules, whole, style);
-    for (piece, (rule, rounds)) in rules.iter().zip(rounds).enumerate() {
-        text += &of_piece(options, piece, rule, rounds);
+    for (piece, rule) in rules.iter().enumerate() {
+        text += &of_piece(options, piece, rule);
     }
     text.push('\n');
     for (piece, rule) in rules.iter().enumerate() {
-        let record = record(&rule.recording, &rule.finished);
-        text += &format!("piece {piece} {record}\n");
+        text += &format!("piece {piece} {}\n", rule.finished.record());
     }
-    text + &format!("{}\n", joined_record(whole))
+    text + &format!("{}\n", whole.record())
 }
 
 /// What is shown of a piece beside the listing, where it is asked for.
-fn of_piece(options: &Options, piece: usize, rule: &Rule, rounds: &Rounds) -> String {
+fn of_piece(options: &Options, piece: usize, rule: &Rule) -> String {
     let style = options.style();
     let mut text = String::new();
     if options.open {
@@ -64,8 +59,8 @@ fn of_piece(options: &Options, piece: usize, rule: &Rule, rounds: &Rounds) -> St
     }
     if options.rounds {
         let title = format!("rounds, piece {piece}");
-        let report = RoundsReport::new(&rule.input, &rule.recording, style);
-        text += &report.text(&title, rounds.rounds());
+        let report = RoundsReport::new(&rule.input, rule.recording(), style);
+        text += &report.text(&title, rule.finished.rounds().rounds());
     }
     text
 }

@@ -2,7 +2,7 @@
 
 use std::ffi::OsStr;
 
-use wargnifla::{Picture, Rounds, listing, record, write_sheet};
+use wargnifla::{Picture, write_sheet};
 
 use super::options::{Options, title};
 use super::rounds::RoundsReport;
@@ -11,58 +11,47 @@ use super::{Failure, files, open, print_text, report, unpatched};
 
 pub fn run(options: &Options, file: &OsStr) -> Result<(), Failure> {
     let rule = Rule::new(options, file)?;
-    let rounds = rule.rounds(options)?;
-    let text = shown(options, &rule, &rounds);
-    let picture = Picture {
-        title: &title(file),
-        recording: &rule.recording,
-        recorded: rule.buffer.data(),
-        rounds: &rounds,
-        finished: &rule.finished,
-        places: &rule.input.event_places(),
-        style: options.style(),
-    };
-    write_files(options, &rule, &picture)?;
+    rule.check_rounds(options)?;
+    let text = shown(options, &rule);
+    write_files(options, &rule, &title(file))?;
     if !options.writes_standard_output() {
         print_text(&text)?;
     }
-    eprint!("{}", unpatched::notes("", &rule.input, &rule.finished));
+    eprint!("{}", unpatched::notes("", &rule.input, rule.code()));
     Ok(())
 }
 
-fn shown(options: &Options, rule: &Rule, rounds: &Rounds) -> String {
+fn shown(options: &Options, rule: &Rule) -> String {
     let Rule {
         input,
         buffer,
-        recording,
         finished,
     } = rule;
+    let (recording, code) = (rule.recording(), rule.code());
     let style = options.style();
-    let mut text = listing(recording, finished, style);
-    text += &report::labels(recording, finished, style);
-    text += &report::definitions(finished, style);
-    text += &report::relocations(recording, finished, style);
+    let mut text = finished.listing(style);
+    text += &report::labels(recording, code, style);
+    text += &report::definitions(code, style);
+    text += &report::relocations(recording, code, style);
     if options.open {
         text += &open::after_each_call("open", input, Some(buffer.open()), style.extent);
     }
     if options.rounds {
         let report = RoundsReport::new(input, recording, style);
-        text += &report.text("rounds", rounds.rounds());
+        text += &report.text("rounds", finished.rounds().rounds());
     }
-    text + &format!("\n{}\n", record(recording, finished))
+    text + &format!("\n{}\n", finished.record())
 }
 
-fn write_files(options: &Options, rule: &Rule, picture: &Picture<'_>) -> Result<(), Failure> {
+fn write_files(options: &Options, rule: &Rule, title: &str) -> Result<(), Failure> {
     let Rule {
-        input,
-        recording,
-        finished,
-        ..
+        input, finished, ..
     } = rule;
     let object = match &options.object {
-        Some(_) => finished
+        Some(_) => rule
+            .code()
             .object()
-            .map_err(|error| input.no_object(&error, recording))?,
+            .map_err(|error| input.no_object(&error, rule.recording()))?,
         None => Vec::new(),
     };
     let sheet = match &options.write_sheet {
@@ -70,9 +59,12 @@ fn write_files(options: &Options, rule: &Rule, picture: &Picture<'_>) -> Result<
         None => Vec::new(),
     };
     let page = match &options.picture {
-        Some(_) => picture.page(),
+        Some(_) => Picture::new(title, finished)
+            .places(&input.event_places())
+            .style(options.style())
+            .page(),
         None => String::new(),
     };
-    let contents = [finished.data(), &object, &sheet, page.as_bytes()];
+    let contents = [rule.code().data(), &object, &sheet, page.as_bytes()];
     files::write(options, contents)
 }

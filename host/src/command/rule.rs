@@ -2,7 +2,7 @@
 
 use std::ffi::OsStr;
 
-use wargnifla::{CodeBuffer, CodeBufferFinalized, Label, Recording, Rounds, Sym};
+use wargnifla::{CodeBuffer, CodeBufferFinalized, FinishedRecording, Label, Recording, Sym};
 
 use super::Failure;
 use super::input::Input;
@@ -13,8 +13,7 @@ use super::options::Options;
 pub struct Rule {
     pub input: Input,
     pub buffer: CodeBuffer,
-    pub recording: Recording,
-    pub finished: CodeBufferFinalized,
+    pub finished: FinishedRecording,
 }
 
 impl Rule {
@@ -30,44 +29,42 @@ impl Rule {
         for definition in &input.definitions {
             buffer.bind_symbol(definition.symbol.clone(), Label::from_id(definition.label));
         }
-        let assembled = assembled(&input, &mut buffer);
-        let (recording, finished) = assembled.or_else(|failure| {
+        let finished = assembled(&input, &mut buffer).or_else(|failure| {
             show_open(options, &input)?;
             Err(failure)
         })?;
         Ok(Self {
             input,
             buffer,
-            recording,
             finished,
         })
     }
 
-    /// The rounds, where they are to be shown.
-    pub fn rounds(&self, options: &Options) -> Result<Rounds, Failure> {
+    /// The recording as it was before finish.
+    pub fn recording(&self) -> &Recording {
+        self.finished.recording()
+    }
+
+    /// The finished code.
+    pub fn code(&self) -> &CodeBufferFinalized {
+        self.finished.code()
+    }
+
+    /// Compares the rounds with what finish reports, where they are to be shown.
+    pub fn check_rounds(&self, options: &Options) -> Result<(), Failure> {
         if !options.rounds && options.picture.is_none() {
-            return Ok(Rounds::default());
+            return Ok(());
         }
-        let rounds = Rounds::new(&self.recording);
-        rounds
-            .check(&self.finished)
-            .map_err(|mismatch| Failure::internal(format!("internal error: {mismatch}")))?;
-        Ok(rounds)
+        let checked = self.finished.rounds().check(self.code());
+        checked.map_err(|mismatch| Failure::internal(format!("internal error: {mismatch}")))
     }
 }
 
 /// What was recorded, and what it finishes to.
-fn assembled(
-    input: &Input,
-    buffer: &mut CodeBuffer,
-) -> Result<(Recording, CodeBufferFinalized), Failure> {
+fn assembled(input: &Input, buffer: &mut CodeBuffer) -> Result<FinishedRecording, Failure> {
     input.record(buffer)?;
-    let mut recording = buffer.recording();
-    let finished = buffer
-        .finish()
-        .map_err(|error| input.refused_finish(&error, &recording))?;
-    recording.note_alignments(&input.calls);
-    Ok((recording, finished))
+    let finished = buffer.finish_with_recording();
+    finished.map_err(|error| input.refused_finish(&error, &buffer.recording()))
 }
 
 /// What was open after each call of a recording that is refused, where that is to be shown.

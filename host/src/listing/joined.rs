@@ -7,31 +7,85 @@ use super::{
     written_rows,
 };
 use crate::join::Filled;
-use crate::{CodeBufferFinalized, Joined, Recording};
+use crate::{Error, FinishedRecording, Joined, join};
 use sheet_text::counted;
 
-/// A piece of joined code, as its listing needs it.
+/// A piece that is to be joined and listed.
 #[derive(Clone, Copy, Debug)]
 pub struct ListedPiece<'a> {
     /// What it is called, such as the name of its file.
     pub title: &'a str,
-    /// The recording as it was before finish.
-    pub recording: &'a Recording,
-    /// What finish made of it.
-    pub finished: &'a CodeBufferFinalized,
+    /// Its code and its recording.
+    pub finished: &'a FinishedRecording,
 }
 
-/// Lists joined code: the pieces in order, with the offsets and the numbers of labels and symbols that they have in the whole.
+/// Finished buffers as one, with the recordings of the pieces, to be listed.
 ///
-/// # Panics
+/// ```
+/// use wargnifla::{Arch, CodeBuffer, Extent, JoinedRecordings, ListedPiece};
 ///
-/// May panic if these are not the pieces that were joined.
-pub fn joined_listing(
-    pieces: &[ListedPiece<'_>],
-    whole: &Joined,
-    style: impl Into<Style>,
-) -> String {
-    let style = style.into();
+/// # fn main() -> Result<(), wargnifla::Error> {
+/// let mut buffer = CodeBuffer::new(Arch::X64);
+/// buffer.put1(0xC3)?;
+/// let finished = &buffer.finish_with_recording()?;
+/// let pieces = ["first", "second"].map(|title| ListedPiece { title, finished });
+/// let joined = JoinedRecordings::new(pieces)?;
+/// assert_eq!(joined.whole().bases(), [0, 32]);
+/// let listing = joined.listing(Extent::Brief);
+/// assert!(listing.ends_with("\n      32                              piece 1: second\n      32  C3                          1 byte\n"));
+/// # Ok(())
+/// # }
+/// ```
+#[derive(Clone, Debug)]
+pub struct JoinedRecordings<'a> {
+    pieces: Vec<ListedPiece<'a>>,
+    whole: Joined,
+}
+
+impl<'a> JoinedRecordings<'a> {
+    /// Joins pieces as [`join`](crate::join()) does.
+    ///
+    /// # Errors
+    ///
+    /// As [`join`](crate::join()).
+    pub fn new(pieces: impl IntoIterator<Item = ListedPiece<'a>>) -> Result<Self, Error> {
+        let pieces: Vec<ListedPiece<'a>> = pieces.into_iter().collect();
+        let whole = join(pieces.iter().map(|piece| piece.finished.code()))?;
+        Ok(Self { pieces, whole })
+    }
+
+    /// What the pieces were joined to.
+    #[must_use]
+    pub fn whole(&self) -> &Joined {
+        &self.whole
+    }
+
+    /// The joined code as a listing: the pieces in order, with the offsets and the numbers of labels and symbols that they have in the whole.
+    #[must_use]
+    pub fn listing(&self, style: impl Into<Style>) -> String {
+        listing(&self.pieces, &self.whole, style.into())
+    }
+}
+
+impl Joined {
+    /// What join reports, in one line.
+    #[must_use]
+    pub fn record(&self) -> String {
+        let code = self.code();
+        format!(
+            "joined for {}: {}, alignment {}, pieces {}, relocations filled {}, remaining {}",
+            code.arch(),
+            counted(code.total_size(), "byte"),
+            code.alignment(),
+            self.bases().len(),
+            self.filled().len(),
+            code.relocs().len()
+        )
+    }
+}
+
+/// Lists pieces and the whole that they were joined to.
+fn listing(pieces: &[ListedPiece<'_>], whole: &Joined, style: Style) -> String {
     let code = whole.code();
     let mut out = String::from(HEAD);
     for (index, piece) in pieces.iter().enumerate() {
@@ -39,7 +93,11 @@ pub fn joined_listing(
             base: whole.bases()[index],
             first_label: whole.first_label(index),
             names: &code.names,
-            ..Texts::new(piece.recording, piece.finished, style.offsets)
+            ..Texts::new(
+                piece.finished.recording(),
+                piece.finished.code(),
+                style.offsets,
+            )
         };
         let mut writer = Writer::new(&texts, code.data(), style, &mut out);
         writer.line(
@@ -53,20 +111,6 @@ pub fn joined_listing(
         writer.gap(end);
     }
     out
-}
-
-/// What join reports, in one line.
-pub fn joined_record(whole: &Joined) -> String {
-    let code = whole.code();
-    format!(
-        "joined for {}: {}, alignment {}, pieces {}, relocations filled {}, remaining {}",
-        code.arch(),
-        counted(code.total_size(), "byte"),
-        code.alignment(),
-        whole.bases().len(),
-        whole.filled().len(),
-        code.relocs().len()
-    )
 }
 
 /// What finish wrote of a piece, what join filled of it, and what neither did.

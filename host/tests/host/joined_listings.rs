@@ -1,12 +1,12 @@
 //! Listings of joined code: the pieces at their offsets, with the numbers that labels and symbols have in the whole.
 
 use wargnifla::{
-    Arch, CodeBuffer, CodeBufferFinalized, Label, ListedPiece, Recording, Sym, join,
-    joined_listing, joined_record, read_text, symbols_named,
+    Arch, CodeBuffer, FinishedRecording, JoinedRecordings, Label, ListedPiece, Sym, read_text,
+    symbols_named,
 };
 
 /// A text as it was recorded, and what it finishes to.
-fn finished(arch: Arch, text: &str) -> (Recording, CodeBufferFinalized) {
+fn finished(arch: Arch, text: &str) -> FinishedRecording {
     let script = read_text(text).unwrap();
     let symbols = script.symbols.unwrap_or(symbols_named(&script.calls));
     let mut buffer = CodeBuffer::with_symbols(arch, symbols);
@@ -22,27 +22,20 @@ fn finished(arch: Arch, text: &str) -> (Recording, CodeBufferFinalized) {
     for call in &script.calls {
         buffer.call(call).unwrap();
     }
-    let mut recording = buffer.recording();
-    let finished = buffer.finish().unwrap();
-    recording.note_alignments(&script.calls);
-    (recording, finished)
+    buffer.finish_with_recording().unwrap()
 }
 
 /// The lines of a joined listing without its head, and its record.
 fn listed(arch: Arch, texts: &[&str]) -> (Vec<String>, String) {
     let rules: Vec<_> = texts.iter().map(|text| finished(arch, text)).collect();
-    let whole = join(rules.iter().map(|(_, finished)| finished)).unwrap();
-    let pieces: Vec<_> = rules
-        .iter()
-        .map(|(recording, finished)| ListedPiece {
-            title: "a rule",
-            recording,
-            finished,
-        })
-        .collect();
-    let lines = joined_listing(&pieces, &whole, wargnifla::Extent::Brief);
+    let pieces = rules.iter().map(|finished| ListedPiece {
+        title: "a rule",
+        finished,
+    });
+    let joined = JoinedRecordings::new(pieces).unwrap();
+    let lines = joined.listing(wargnifla::Extent::Brief);
     let lines = lines.lines().skip(1).map(String::from).collect();
-    (lines, joined_record(&whole))
+    (lines, joined.whole().record())
 }
 
 #[test]
@@ -111,4 +104,34 @@ fn pages_of_aarch64_stay_pages() {
         record.starts_with("joined for AArch64: 8483 bytes"),
         "{record}"
     );
+}
+
+/// Recordings that have nothing in common: a listing of one by the entries of another would not fit.
+const UNLIKE: [&str; 7] = [
+    "",
+    "z 300",
+    "n; n; n; z 40; l 2; a 64",
+    "n; z 5; j 0 5 0; z 200; l 0",
+    "n; l 0; z 6; j 0 6 0 ne; z 4; r 6 0 0; a 32; c 01; k 0",
+    "n; z 4; u 0 0 0; z 100; l 0; c 010203; c 04; k 1; k 0",
+    "z 9; o 1 Abs8 s0; o 100 Abs4 s1",
+];
+
+#[test]
+fn every_pair_of_recordings_is_listed_and_joined() {
+    let mut rows = 0;
+    for first in UNLIKE {
+        for second in UNLIKE {
+            let (lines, _) = listed(Arch::X64, &[first, second]);
+            let alone = finished(Arch::X64, second).listing(wargnifla::Extent::Brief);
+            let start = lines.iter().position(|line| line.contains("piece 1"));
+            let piece = lines.len() - start.unwrap() - 1;
+            assert_eq!(piece, alone.lines().count() - 1, "{first} and {second}");
+            rows += piece;
+            let (first, second) = (finished(Arch::X64, first), finished(Arch::X64, second));
+            let fits = first.rounds().check(second.code()).is_ok();
+            assert!(fits || first.rounds() != second.rounds());
+        }
+    }
+    assert!(rows > 200, "{rows}");
 }

@@ -1,6 +1,8 @@
 //! Listings: every byte once, and what it is.
 
-use wargnifla::{Arch, Extent, Label, Radix, Style, Sym, listing, read_text};
+use wargnifla::{
+    Arch, Call, CodeBuffer, Extent, Label, Radix, Refusal, Style, Sym, read_text, write_sheet,
+};
 
 fn listed(arch: Arch, text: &str, style: impl Into<Style>) -> Vec<String> {
     let mut buffer = crate::recorded(arch, text).unwrap();
@@ -11,10 +13,8 @@ fn listed(arch: Arch, text: &str, style: impl Into<Style>) -> Vec<String> {
     for (symbol, name) in (0..).zip(&script.symbol_names) {
         buffer.name_symbol(Sym::from_id(symbol), name);
     }
-    let mut recording = buffer.recording();
-    let finished = buffer.finish().unwrap();
-    recording.note_alignments(&script.calls);
-    let lines = listing(&recording, &finished, style);
+    let finished = buffer.finish_with_recording().unwrap();
+    let lines = finished.listing(style);
     lines.lines().skip(1).map(String::from).collect()
 }
 
@@ -125,6 +125,49 @@ fn alignments_off_x64_come_from_the_calls() {
         "       1  00 00 00 00 00 00 00        align 8: 7 bytes of padding"
     );
     assert_eq!(lines[2], "       8  02                          1 byte");
+}
+
+/// However an alignment is recorded, off X64 a finished recording has it.
+#[test]
+fn alignments_off_x64_are_noted_however_they_are_made() {
+    for arch in [Arch::X86, Arch::AArch64] {
+        let mut buffer = CodeBuffer::new(arch);
+        buffer.put1(1).unwrap();
+        buffer.try_align_to(4).unwrap();
+        let sheet = "b 02; a 4 2; a 8 3; b 03; a 16";
+        let sheet = write_sheet(&read_text(sheet).unwrap().calls).unwrap();
+        buffer.run_sheet(&sheet).unwrap();
+        buffer.put1(4).unwrap();
+        buffer.try_align_to_within(2, 0).unwrap();
+        buffer.call(&Call::align(2)).unwrap();
+        buffer.try_align_to(3).unwrap_err();
+        assert_eq!(buffer.recording().events, []);
+        let finished = buffer.clone().finish_with_recording().unwrap();
+        let events = finished.recording().events.iter();
+        let spent: Vec<_> = events.map(|event| (event.start(), event.end())).collect();
+        let expected = [(1, 4), (5, 5), (5, 8), (9, 16), (17, 17), (17, 18)];
+        assert_eq!(spent, expected, "{arch}");
+        assert_eq!(finished.recorded(), buffer.data());
+        assert_eq!(*finished.code(), buffer.finish().unwrap());
+        let rows = finished.listing(Extent::Full);
+        let skipped = "align 4 skipped: 3 needed, at most 2";
+        assert!(rows.contains(skipped), "{rows}");
+        assert!(rows.contains("align 2 skipped: 1 needed, at most 0"));
+    }
+}
+
+#[test]
+fn a_refused_finish_keeps_its_recording() {
+    let mut buffer = crate::recorded(Arch::X64, "n; z 5; j 0 5 0").unwrap();
+    let before = buffer.recording();
+    let error = buffer.finish_with_recording().unwrap_err();
+    assert_eq!(error.refusal(), Refusal::UnboundLabel);
+    assert_eq!(buffer.recording(), before);
+    buffer.try_bind_label(Label::from_id(0)).unwrap();
+    let finished = buffer.finish_with_recording().unwrap();
+    assert_eq!(finished.recording().labels, [5]);
+    assert_eq!(finished.code().label_offsets(), [2]);
+    assert_eq!(buffer.finish_with_recording().unwrap_err().number(), 4);
 }
 
 #[test]

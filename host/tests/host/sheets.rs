@@ -1,6 +1,6 @@
 //! Binary sheets, run whole, against the same calls one by one.
 
-use wargnifla::{Arch, Call, CodeBuffer, DEFAULT_MOST, Padding, Rounds, Sheet, write_sheet};
+use wargnifla::{Arch, Call, CodeBuffer, DEFAULT_MOST, Padding, Sheet, write_sheet};
 
 use crate::random::Random;
 
@@ -75,11 +75,10 @@ fn a_sheet_does_what_its_calls_do() {
         }
         assert_eq!(whole.recording(), single.recording());
         assert_eq!(whole.data(), single.data());
-        let recording = whole.recording();
-        let finished = whole.finish().unwrap();
-        assert_eq!(finished, single.finish().unwrap());
-        let rounds = Rounds::new(&recording);
-        rounds.check(&finished).unwrap();
+        let whole = whole.finish_with_recording().unwrap();
+        let (rounds, finished) = (whole.rounds(), whole.code());
+        assert_eq!(*finished, single.finish().unwrap());
+        rounds.check(finished).unwrap();
         for step in rounds.rounds().iter().flat_map(|round| &round.lengthened) {
             assert_eq!(step.unexplained(), 0, "{step:?}");
         }
@@ -95,9 +94,12 @@ fn a_sheet_does_what_its_calls_do() {
 #[test]
 fn rounds_that_do_not_fit_are_not_taken_silently() {
     let mismatch = |reckoned: &str, finished: &str| {
-        let recording = crate::recorded(Arch::X64, reckoned).unwrap().recording();
-        let finished = crate::finished(finished);
-        let mismatch = Rounds::new(&recording).check(&finished).unwrap_err();
+        let mut reckoned = crate::recorded(Arch::X64, reckoned).unwrap();
+        let reckoned = reckoned.finish_with_recording().unwrap();
+        let mismatch = reckoned
+            .rounds()
+            .check(&crate::finished(finished))
+            .unwrap_err();
         mismatch.to_string()
     };
     let text = |zeros| format!("n; z 5; j 0 5 0; z {zeros}; l 0");

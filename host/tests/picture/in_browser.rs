@@ -69,15 +69,12 @@ impl Expected {
         for (label, name) in &script.names {
             buffer.name_label(wargnifla::Label::from_id(*label), name);
         }
-        let mut recording = buffer.recording();
-        let finished = buffer.finish().unwrap();
-        recording.note_alignments(&script.calls);
-        let rounds = Rounds::new(&recording);
-        rounds.check(&finished).unwrap();
+        let finished = buffer.finish_with_recording().unwrap();
+        finished.rounds().check(finished.code()).unwrap();
         Self {
-            recording,
-            rounds,
-            finished: finished.total_size(),
+            recording: finished.recording().clone(),
+            rounds: finished.rounds().clone(),
+            finished: finished.code().total_size(),
         }
     }
 

@@ -2,7 +2,7 @@
 
 use std::fs;
 
-use wargnifla::{Arch, CodeBuffer, Picture, RelaxableJump, Rounds, Style};
+use wargnifla::{Arch, CodeBuffer, Picture};
 
 use crate::{MIXED, chain, page, path, printed, run, sheet, sheets};
 
@@ -117,27 +117,12 @@ fn names_can_do_no_harm() {
     let mut buffer = CodeBuffer::new(Arch::X64);
     let end = buffer.get_label().unwrap();
     buffer.name_label(end, "</script><i>\"'&\\\u{2028}");
-    buffer.put_bytes(&[0; 5]).unwrap();
-    let jump = RelaxableJump {
-        start: 0,
-        len: 5,
-        label: end,
-        cc: None,
-    };
-    buffer.record_relaxable_jump(jump).unwrap();
+    buffer.put_jump(end, None).unwrap();
     buffer.try_bind_label(end).unwrap();
-    let recording = buffer.recording();
-    let finished = buffer.finish().unwrap();
-    let page = Picture {
-        title: "</title><script>",
-        recording: &recording,
-        recorded: buffer.data(),
-        rounds: &Rounds::new(&recording),
-        finished: &finished,
-        places: &["</script>".into()],
-        style: Style::default(),
-    }
-    .page();
+    let finished = buffer.finish_with_recording().unwrap();
+    let page = Picture::new("</title><script>", &finished)
+        .places(&["</script>".into()])
+        .page();
     assert_eq!(page.matches("<script").count(), 2);
     assert_eq!(page.matches("</script>").count(), 2);
     assert!(!page.contains("<i>") && !page.contains('\u{2028}'));

@@ -49,11 +49,11 @@ fn defined_here(rules: &[Rule], symbol: &ExternalName) -> Option<String> {
 
 /// What is wrong with the definition of a relocation's symbol, or that there is none.
 fn undefined(rules: &[Rule], piece: usize, relocation: usize) -> Vec<String> {
-    let finished = &rules[piece].finished;
-    let RelocTarget::Sym(symbol) = finished.relocs()[relocation].target else {
+    let code = rules[piece].code();
+    let RelocTarget::Sym(symbol) = code.relocs()[relocation].target else {
         return Vec::new();
     };
-    let symbol = finished.names().external_name(symbol);
+    let symbol = code.names().external_name(symbol);
     if let Some(note) = defined_here(rules, &symbol) {
         return vec![note];
     }

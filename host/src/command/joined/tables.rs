@@ -9,7 +9,7 @@ use crate::command::rule::Rule;
 pub fn labels(rules: &[Rule], whole: &Joined, style: Style) -> String {
     let code = whole.code();
     let all = rules.iter().enumerate().flat_map(|(piece, rule)| {
-        let recorded = (0..).map(Label::from_id).zip(&rule.recording.labels);
+        let recorded = (0..).map(Label::from_id).zip(&rule.recording().labels);
         recorded.map(move |(label, recorded)| (piece, whole.label(piece, label), *recorded))
     });
     let lines: Vec<String> = all
@@ -19,7 +19,7 @@ pub fn labels(rules: &[Rule], whole: &Joined, style: Style) -> String {
             format!("{:>8}  {piece:>8}  {offsets}{name}", label.id())
         })
         .collect();
-    let name = name_head(rules.iter().map(|rule| &rule.recording));
+    let name = name_head(rules.iter().map(Rule::recording));
     let head = format!("   label     piece  recorded     final{name}");
     table("labels", &head, &lines, style.extent)
 }
@@ -32,7 +32,7 @@ pub fn relocations(rules: &[Rule], whole: &Joined, style: Style) -> String {
         .iter()
         .zip(code.relocs())
         .map(|(origin, settled)| {
-            let recorded = rules[origin.piece].recording.relocs[origin.relocation].offset;
+            let recorded = rules[origin.piece].recording().relocs[origin.relocation].offset;
             let what = relocation(recorded, settled, code, style);
             format!("{:>8}  {what}", origin.piece)
         })
