@@ -146,13 +146,20 @@ mod tests {
         let arch = number(Arch::try_from(3).unwrap_err());
         let known = "architecture 3 is none of 1 (X86), 2 (X64) and 6 (AArch64)";
         assert_eq!(arch, (3, known.into()));
-        let condition = Condition::try_from(Condition::NONE).unwrap_err();
-        assert_eq!(condition.to_string(), "condition 16 is none of 0 to 15");
-        let code = LabelUse::try_from(17).unwrap_err();
-        assert_eq!(code.to_string(), "code 17 is none of 0 to 16");
-        let kind = Reloc::try_from(u32::MAX).unwrap_err();
-        let said = "relocation kind 4294967295 is none of 0 to 27";
-        assert_eq!(kind.to_string(), said);
+        let said = |noun, count: usize| {
+            let known = format!("{noun} {count} is none of 0 to {}", count - 1);
+            (count as u32, known)
+        };
+        let first_unknown = Condition::ALL.len();
+        let condition = Condition::try_from(first_unknown as u32).unwrap_err();
+        assert_eq!(number(condition), said("condition", first_unknown));
+        let first_unknown = LabelUse::ALL.len();
+        let code = LabelUse::try_from(first_unknown as u32).unwrap_err();
+        assert_eq!(number(code), said("code", first_unknown));
+        let first_unknown = Reloc::ALL.len();
+        let kind = Reloc::try_from(first_unknown as u32).unwrap_err();
+        assert_eq!(number(kind), said("relocation kind", first_unknown));
+        assert!(Reloc::try_from(u32::MAX).is_err());
     }
 
     #[test]
