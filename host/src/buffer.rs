@@ -1,8 +1,10 @@
 //! The buffer: a recording that owns its tables. After asmkit's core/buffer.rs (see NOTICE).
 
 use std::fmt;
+use std::ops::Range;
 
 use crate::call::{appended, one_call_sheet, words_of};
+use crate::contents::Contents;
 use crate::event::{Alignment, LayoutEvent, RelaxableJump};
 use crate::explain::{explain_call, explain_finish};
 use crate::ffi::Segment;
@@ -729,7 +731,9 @@ impl CodeBuffer {
             }
             verified::run_sheet(tables, sheet)
         });
-        if let Ok(sheet) = &read {
+        if let Ok(sheet) = &read
+            && !self.arch().tracks_layout()
+        {
             // A broken form, number 1, is found before any call is made. The other 1 of a sheet is of a wrong number of open entries, and here it is right.
             let made = if number == 1 { 0 } else { index as usize };
             for call in sheet.calls().take(made) {
@@ -826,8 +830,11 @@ impl CodeBuffer {
         segments: Vec<Segment>,
         record: Record,
     ) -> CodeBufferFinalized {
+        let zeros = self.zero_padding();
         let tables = self.queue.tables_mut();
+        let pool = pool(tables, &segments, data.len() as CodeOffset);
         CodeBufferFinalized {
+            contents: Contents::finished(&zeros, pool),
             arch: tables.arch,
             data,
             label_offsets: tables.labels().collect(),
@@ -838,6 +845,16 @@ impl CodeBuffer {
             names: tables.names.clone(),
             definitions: self.definitions.clone(),
             has_page_fields: has_page_fields(tables),
+        }
+    }
+
+    /// Where alignments spent zeros: on AArch64 alone.
+    fn zero_padding(&self) -> Vec<Range<CodeOffset>> {
+        let alignments = self.alignments.iter();
+        let padding = alignments.map(|padding| padding.start..padding.start + padding.len);
+        match self.arch() {
+            Arch::AArch64 => padding.collect(),
+            _ => Vec::new(),
         }
     }
 
@@ -925,6 +942,17 @@ fn most_finished(tables: &Tables) -> usize {
         .map(|size| size + constant_alignment(size) as usize - 1)
         .sum::<usize>();
     MOST_CODE.min(most)
+}
+
+/// Where the pool stands in finished code, its padding included: behind the recorded code, or where the segment of its first alignment says.
+fn pool(tables: &Tables, segments: &[Segment], end: CodeOffset) -> Range<CodeOffset> {
+    let first = segments.get(tables.event_count());
+    let start = match (tables.asked_count(), first) {
+        (0, _) => end,
+        (_, Some(segment)) => segment.new_start,
+        (_, None) => tables.code().len() as CodeOffset,
+    };
+    start..end
 }
 
 fn has_page_fields(tables: &Tables) -> bool {

@@ -1,5 +1,6 @@
 //! What finish makes of a recording. After asmkit's core/buffer.rs (see NOTICE).
 
+use crate::contents::Contents;
 use crate::ffi::Segment;
 use crate::recording::{AsmReloc, Label, Names};
 use crate::tables::bound;
@@ -22,6 +23,7 @@ pub struct CodeBufferFinalized {
     pub(crate) definitions: Vec<(ExternalName, Label)>,
     /// Whether a field holds pages of its label: that of an ADRP, or of the ADD after one.
     pub(crate) has_page_fields: bool,
+    pub(crate) contents: Contents,
 }
 
 impl CodeBufferFinalized {

@@ -5,6 +5,7 @@ mod symbols;
 
 pub(crate) use pieces::{Defined, LAST_OFFSET, Piece, Pieces};
 
+use crate::contents::Contents;
 use crate::explain::explain_join;
 use crate::recording::{Label, Sym};
 use crate::tables::{offsets_of, relocs_of};
@@ -177,6 +178,7 @@ fn joined(pieces: &Pieces<'_>, whole: Whole) -> Joined {
             names: pieces.names(),
             definitions: pieces.definitions(),
             has_page_fields: pieces.all.iter().any(|piece| piece.code.has_page_fields),
+            contents: Contents::joined(pieces),
         },
     }
 }

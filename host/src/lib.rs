@@ -39,6 +39,7 @@ macro_rules! join_stack {
 
 mod buffer;
 mod call;
+mod contents;
 mod elf;
 mod error;
 mod event;

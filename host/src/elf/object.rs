@@ -133,6 +133,9 @@ impl CodeBufferFinalized {
     /// ([`bind_symbol`](crate::CodeBuffer::bind_symbol)). Other symbols that relocations name are undefined ones, for the linker to find. A symbol is
     /// called `s0`, `s1` and so on where it has no name. Names and definitions are those that were given before finish.
     ///
+    /// On AArch64 the mapping symbols `$x` and `$d` stand in front of instructions and of data. Data are the zeros of alignments and those between
+    /// joined pieces, pools with their padding, and the fields of absolute addresses. All other bytes count as instructions.
+    ///
     /// ```
     /// use wargnifla::{Arch, CodeBuffer, Reloc, RelocTarget, Sym};
     ///
@@ -232,8 +235,12 @@ fn machine(arch: Arch) -> u16 {
 fn symbol_tables(symbols: &Symbols<'_>) -> Result<(Vec<u8>, Vec<u8>), ObjectError> {
     let mut strings = Strings::new();
     let mut table = Bytes::default();
-    table.symbol(0, STB_LOCAL, STT_NOTYPE, SHN_UNDEF, 0);
-    table.symbol(0, STB_LOCAL, STT_SECTION, TEXT, 0);
+    table.symbol(0, [STB_LOCAL, STT_NOTYPE], SHN_UNDEF, [0, 0]);
+    table.symbol(0, [STB_LOCAL, STT_SECTION], TEXT, [0, 0]);
+    for (name, offset) in &symbols.mapping {
+        let st_name = strings.add(name);
+        table.symbol(st_name, [STB_LOCAL, STT_NOTYPE], TEXT, [*offset, 0]);
+    }
     let mut named = HashMap::new();
     for symbol in &symbols.all {
         let (name, target) = (&*symbol.name, symbol.target);
@@ -251,10 +258,9 @@ fn symbol_tables(symbols: &Symbols<'_>) -> Result<(Vec<u8>, Vec<u8>), ObjectErro
         }
         table.symbol(
             strings.add(name),
-            symbol.binding,
-            symbol.st_type,
+            [symbol.binding, symbol.st_type],
             symbol.st_shndx,
-            symbol.st_value,
+            [symbol.st_value, 0],
         );
     }
     Ok((table.0, strings.0))
@@ -383,11 +389,17 @@ impl Bytes {
     }
 
     /// An `Elf64_Sym`.
-    fn symbol(&mut self, st_name: u32, binding: u8, st_type: u8, st_shndx: u16, st_value: u32) {
+    fn symbol(
+        &mut self,
+        st_name: u32,
+        [binding, st_type]: [u8; 2],
+        st_shndx: u16,
+        [st_value, st_size]: [u32; 2],
+    ) {
         self.word(st_name);
         self.0.extend([binding << 4 | st_type, 0]);
         self.half(st_shndx);
         self.xword(st_value.into());
-        self.xword(0); // st_size
+        self.xword(st_size.into());
     }
 }

@@ -4,6 +4,7 @@
 use std::borrow::Cow;
 use std::collections::{BTreeMap, HashMap, HashSet};
 
+use super::mapping::{MappingSymbol, mapping_symbols};
 use crate::recording::{AsmReloc, Label, Names, RelocTarget, Sym};
 use crate::{CodeBufferFinalized, ExternalName, Reloc};
 
@@ -16,12 +17,13 @@ pub(super) const SHN_UNDEF: u16 = 0;
 /// The section of code.
 pub(super) const TEXT: u16 = 1;
 
-/// The symbols in front of those that stand for a label or symbol of the code.
+/// The symbols in front of the mapping symbols: none, and the section's.
 const FIRST_SYMBOL: u32 = 2;
 
 pub(super) struct Symbols<'a> {
-    /// By number from [`FIRST_SYMBOL`] on: first the local ones, then the others; of each, symbols that nothing defines, labels, and symbols that labels
-    /// define.
+    /// By number from [`FIRST_SYMBOL`] on; each is local.
+    pub mapping: Vec<MappingSymbol>,
+    /// By number behind these: first the local ones, then the others; of each, symbols that nothing defines, labels, and symbols that labels define.
     pub all: Vec<Symbol<'a>>,
     pub first_global: u32,
     /// The object's numbers of the symbols that relocations name.
@@ -119,9 +121,12 @@ impl<'a> Symbols<'a> {
         all.extend(definitions.map(|(external, label)| Symbol::defined(code, external, label)));
         all.sort_by_key(|symbol| symbol.binding);
         let local = all.iter().filter(|symbol| symbol.binding == STB_LOCAL);
+        let mapping = mapping_symbols(code);
+        let first = FIRST_SYMBOL + mapping.len() as u32;
         Self {
-            first_global: FIRST_SYMBOL + local.count() as u32,
-            numbers: numbers(code, named.into_keys(), &all),
+            first_global: first + local.count() as u32,
+            numbers: numbers(code, named.into_keys(), first, &all),
+            mapping,
             all,
         }
     }
@@ -138,13 +143,14 @@ impl<'a> Symbols<'a> {
     }
 }
 
-/// The object's number of each symbol that relocations name.
+/// The object's number of each symbol that relocations name; all are numbered from `first` on.
 fn numbers(
     code: &CodeBufferFinalized,
     named: impl Iterator<Item = Sym>,
+    first: u32,
     all: &[Symbol<'_>],
 ) -> HashMap<Sym, u32> {
-    let places: HashMap<&ExternalName, u32> = (FIRST_SYMBOL..)
+    let places: HashMap<&ExternalName, u32> = (first..)
         .zip(all)
         .filter_map(|(number, symbol)| Some((symbol.external.as_ref()?, number)))
         .collect();

@@ -31,7 +31,8 @@ fn small_rule(arch: Arch) -> Rule {
 
 #[test]
 fn an_object_has_its_sections() {
-    for (arch, machine) in [(Arch::X64, 62), (Arch::AArch64, 183)] {
+    // AArch64 has two mapping symbols.
+    for (arch, machine, first_global) in [(Arch::X64, 62, 2), (Arch::AArch64, 183, 2 + 2)] {
         let object = Object::read(&small_rule(arch).object());
         assert_eq!(object.e_machine, machine);
         let headers: Vec<_> = object
@@ -50,7 +51,7 @@ fn an_object_has_its_sections() {
         let expected = [
             (".text", 1, 6, [0, 0], [32, 0]),
             (".rela.text", 4, 0x40, [3, 1], [8, 24]),
-            (".symtab", 2, 0, [4, 2], [8, 24]),
+            (".symtab", 2, 0, [4, first_global], [8, 24]),
             (".strtab", 3, 0, [0, 0], [1, 0]),
             (".shstrtab", 3, 0, [0, 0], [1, 0]),
             (".note.GNU-stack", 1, 0, [0, 0], [1, 0]),
@@ -69,7 +70,8 @@ fn an_object_has_its_sections() {
             addend,
         };
         let relas = read_relas(&object.section(".rela.text").bytes).unwrap();
-        assert_eq!(relas, [rela(0, call, 2, -4), rela(4, address, 1, 12 + 3)]);
+        let expected = [rela(0, call, first_global, -4), rela(4, address, 1, 12 + 3)];
+        assert_eq!(relas, expected);
     }
 }
 

@@ -8,6 +8,7 @@ mod contents;
 #[path = "../host/elf_types.rs"]
 mod elf_types;
 mod joined;
+mod mapping;
 #[cfg(all(target_arch = "x86_64", target_os = "linux"))]
 #[path = "../host/random.rs"]
 mod random;
@@ -15,6 +16,8 @@ mod reader;
 mod shown;
 #[cfg(all(target_arch = "x86_64", target_os = "linux"))]
 mod x64;
+
+use std::process::Command;
 
 use wargnifla::{Arch, CodeBuffer, CodeBufferFinalized, Label, Reloc, RelocTarget, Sym};
 
@@ -67,4 +70,18 @@ impl Rule {
     fn object(self) -> Vec<u8> {
         self.finish().object().unwrap()
     }
+}
+
+/// The object that the command writes of sheets for users.
+fn object_of(sheets: &[&str]) -> Vec<u8> {
+    let sheets = sheets
+        .iter()
+        .map(|sheet| format!("{}/../sheets/{sheet}.txt", env!("CARGO_MANIFEST_DIR")));
+    let written = Command::new(env!("CARGO_BIN_EXE_wargnifla"))
+        .args(["--object", "-"])
+        .args(sheets)
+        .output()
+        .unwrap();
+    assert_eq!(String::from_utf8_lossy(&written.stderr), "");
+    written.stdout
 }

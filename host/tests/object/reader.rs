@@ -62,7 +62,6 @@ impl Object {
         let table = self.section(".symtab").bytes.chunks_exact(24);
         let symbols = table.map(|entry| {
             assert_eq!(entry[5], 0, "st_other");
-            assert_eq!(number(entry, 16..24), 0, "st_size");
             (
                 string(names, number(entry, 0..4) as usize),
                 entry[4] >> 4,
@@ -76,6 +75,15 @@ impl Object {
         let empty = String::new;
         assert_eq!(own, [(empty(), 0, 0, 0, 0), (empty(), 0, 3, 1, 0)]);
         symbols
+    }
+
+    /// The sizes of the same.
+    pub fn sizes(&self) -> Vec<u64> {
+        let table = self.section(".symtab").bytes.chunks_exact(24);
+        let mut sizes: Vec<u64> = table.map(|entry| number(entry, 16..24)).collect();
+        let own: Vec<u64> = sizes.drain(..2).collect();
+        assert_eq!(own, [0, 0]);
+        sizes
     }
 }
 

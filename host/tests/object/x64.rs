@@ -1,11 +1,9 @@
 //! X64 objects linked by GNU's linker with a file that its assembler made, and run.
 
-use std::process::Command;
-
 use wargnifla::{Arch, Label, RelaxableJump, Reloc, Sym};
 
-use crate::Rule;
 use crate::binutils::{Folder, are_at_hand};
+use crate::{Rule, object_of};
 
 /// A program that ends with the rule's answer.
 const PROGRAM: &str = "
@@ -147,20 +145,6 @@ fn the_sheet_for_the_linker_says_hello() {
     folder.write("hello.o", object_of(&["hello"]));
     folder.printed("cc -o hello hello.o");
     assert_eq!(folder.printed("./hello"), "Hello, linker\n");
-}
-
-/// The object that the command writes of sheets for users.
-fn object_of(sheets: &[&str]) -> Vec<u8> {
-    let sheets = sheets
-        .iter()
-        .map(|sheet| format!("{}/../sheets/{sheet}.txt", env!("CARGO_MANIFEST_DIR")));
-    let written = Command::new(env!("CARGO_BIN_EXE_wargnifla"))
-        .args(["--object", "-"])
-        .args(sheets)
-        .output()
-        .unwrap();
-    assert_eq!(String::from_utf8_lossy(&written.stderr), "");
-    written.stdout
 }
 
 #[test]
