@@ -834,7 +834,7 @@ impl CodeBuffer {
         let tables = self.queue.tables_mut();
         let pool = pool(tables, &segments, data.len() as CodeOffset);
         CodeBufferFinalized {
-            contents: Contents::finished(&zeros, pool),
+            contents: Contents::finished(tables, &self.definitions, &zeros, pool),
             arch: tables.arch,
             data,
             label_offsets: tables.labels().collect(),

@@ -133,6 +133,9 @@ impl CodeBufferFinalized {
     /// ([`bind_symbol`](crate::CodeBuffer::bind_symbol)). Other symbols that relocations name are undefined ones, for the linker to find. A symbol is
     /// called `s0`, `s1` and so on where it has no name. Names and definitions are those that were given before finish.
     ///
+    /// A label that was given a symbol to define is a function, `STT_FUNC`, if code stands behind it: up to the next such label, or to the pool. The
+    /// label of a constant is an object, `STT_OBJECT`, of the constant's size. Other labels have neither type nor size.
+    ///
     /// On AArch64 the mapping symbols `$x` and `$d` stand in front of instructions and of data. Data are the zeros of alignments and those between
     /// joined pieces, pools with their padding, and the fields of absolute addresses. All other bytes count as instructions.
     ///
@@ -260,7 +263,7 @@ fn symbol_tables(symbols: &Symbols<'_>) -> Result<(Vec<u8>, Vec<u8>), ObjectErro
             strings.add(name),
             [symbol.binding, symbol.st_type],
             symbol.st_shndx,
-            [symbol.st_value, 0],
+            [symbol.st_value, symbol.st_size],
         );
     }
     Ok((table.0, strings.0))

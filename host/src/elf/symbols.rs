@@ -11,6 +11,8 @@ use crate::{CodeBufferFinalized, ExternalName, Reloc};
 pub(super) const STB_LOCAL: u8 = 0;
 pub(super) const STB_GLOBAL: u8 = 1;
 pub(super) const STT_NOTYPE: u8 = 0;
+const STT_OBJECT: u8 = 1;
+const STT_FUNC: u8 = 2;
 const STT_TLS: u8 = 6;
 pub(super) const SHN_UNDEF: u16 = 0;
 
@@ -40,6 +42,7 @@ pub(super) struct Symbol<'a> {
     pub st_type: u8,
     pub st_shndx: u16,
     pub st_value: u32,
+    pub st_size: u32,
 }
 
 impl<'a> Symbol<'a> {
@@ -54,11 +57,18 @@ impl<'a> Symbol<'a> {
             st_type,
             st_shndx: SHN_UNDEF,
             st_value: 0,
+            st_size: 0,
         }
     }
 
     /// One that stands where a label does.
-    fn at_label(code: &CodeBufferFinalized, label: Label, name: Cow<'a, str>) -> Self {
+    fn at_label(
+        code: &CodeBufferFinalized,
+        types: &LabelTypes,
+        label: Label,
+        name: Cow<'a, str>,
+    ) -> Self {
+        let (st_type, st_size) = types.get(&label).copied().unwrap_or((STT_NOTYPE, 0));
         let binding = match Names::is_local(&name) {
             true => STB_LOCAL,
             false => STB_GLOBAL,
@@ -68,19 +78,36 @@ impl<'a> Symbol<'a> {
             external: None,
             name,
             binding,
-            st_type: STT_NOTYPE,
+            st_type,
             st_shndx: TEXT,
             st_value: code.bound_offset(label),
+            st_size,
         }
     }
 
     /// One that a label defines.
-    fn defined(code: &CodeBufferFinalized, external: ExternalName, label: Label) -> Self {
+    fn defined(
+        code: &CodeBufferFinalized,
+        types: &LabelTypes,
+        external: ExternalName,
+        label: Label,
+    ) -> Self {
         Self {
             external: Some(external.clone()),
-            ..Self::at_label(code, label, name_of(&external).into())
+            ..Self::at_label(code, types, label, name_of(&external).into())
         }
     }
+}
+
+/// The type and size of the symbols at labels that have more than an offset.
+type LabelTypes = HashMap<Label, (u8, u32)>;
+
+fn label_types(code: &CodeBufferFinalized) -> LabelTypes {
+    let contents = &code.contents;
+    let of_type = |st_type| move |&(label, size): &(Label, u32)| (label, (st_type, size));
+    let functions = contents.functions.iter().map(of_type(STT_FUNC));
+    let constants = contents.constants.iter().map(of_type(STT_OBJECT));
+    functions.chain(constants).collect()
 }
 
 /// A symbol's name, or one after its number.
@@ -94,6 +121,7 @@ fn name_of(external: &ExternalName) -> String {
 impl<'a> Symbols<'a> {
     pub fn new(code: &'a CodeBufferFinalized) -> Self {
         let named = named_symbols(&code.relocs);
+        let types = label_types(code);
         let is_bound = |label| code.label_offset(label).is_some();
         let definitions = code
             .definitions
@@ -115,10 +143,12 @@ impl<'a> Symbols<'a> {
             .names
             .labels()
             .filter(|(label, name)| is_bound(*label) && !itself.contains(&(*label, (*name).into())))
-            .map(|(label, name)| Symbol::at_label(code, label, name.into()));
+            .map(|(label, name)| Symbol::at_label(code, &types, label, name.into()));
         let mut all: Vec<Symbol<'a>> = undefined.chain(labels).collect();
         let definitions = definitions.into_iter();
-        all.extend(definitions.map(|(external, label)| Symbol::defined(code, external, label)));
+        all.extend(
+            definitions.map(|(external, label)| Symbol::defined(code, &types, external, label)),
+        );
         all.sort_by_key(|symbol| symbol.binding);
         let local = all.iter().filter(|symbol| symbol.binding == STB_LOCAL);
         let mapping = mapping_symbols(code);

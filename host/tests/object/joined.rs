@@ -14,10 +14,7 @@ const TEXT: u16 = 1;
 fn symbols(object: &Object) -> Vec<(String, u8, u16, u64)> {
     let symbols = object.symbols().into_iter();
     symbols
-        .map(|(name, binding, st_type, section, value)| {
-            assert_eq!(st_type, 0, "NOTYPE");
-            (name, binding, section, value)
-        })
+        .map(|(name, binding, _, section, value)| (name, binding, section, value))
         .collect()
 }
 

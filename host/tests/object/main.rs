@@ -14,6 +14,7 @@ mod mapping;
 mod random;
 mod reader;
 mod shown;
+mod types;
 #[cfg(all(target_arch = "x86_64", target_os = "linux"))]
 mod x64;
 
