@@ -112,6 +112,26 @@ impl CodeBufferFinalized {
         &self.definitions
     }
 
+    /// The definitions by labels that are bound nowhere: [`Self::object`] leaves them out.
+    ///
+    /// ```
+    /// use wargnifla::{Arch, CodeBuffer};
+    ///
+    /// # fn main() -> Result<(), wargnifla::Error> {
+    /// let mut buffer = CodeBuffer::new(Arch::X64);
+    /// let never = buffer.get_label()?;
+    /// buffer.bind_symbol("sort", never);
+    /// let code = buffer.finish()?;
+    /// let left_out: Vec<_> = code.unbound_definitions().collect();
+    /// assert_eq!(left_out, [&("sort".into(), never)]);
+    /// # Ok(())
+    /// # }
+    /// ```
+    pub fn unbound_definitions(&self) -> impl Iterator<Item = &(ExternalName, Label)> {
+        let definitions = self.definitions.iter();
+        definitions.filter(|(_, label)| self.label_offset(*label) == UNBOUND)
+    }
+
     /// The offset of a symbol, if a label that is bound defines it.
     #[must_use]
     pub fn defined_symbol_offset(&self, symbol: impl Into<ExternalName>) -> Option<CodeOffset> {

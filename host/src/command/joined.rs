@@ -29,6 +29,8 @@ pub fn run(options: &Options) -> Result<(), Failure> {
     for rule in &rules {
         let whose = format!("{}: ", rule.input.file);
         eprint!("{}", unpatched::notes(&whose, &rule.input, rule.code()));
+        let notes = unpatched::definition_notes(options, &rule.input, rule.code());
+        eprint!("{notes}");
     }
     Ok(())
 }

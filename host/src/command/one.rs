@@ -18,6 +18,8 @@ pub fn run(options: &Options, file: &OsStr) -> Result<(), Failure> {
         print_text(&text)?;
     }
     eprint!("{}", unpatched::notes("", &rule.input, rule.code()));
+    let notes = unpatched::definition_notes(options, &rule.input, rule.code());
+    eprint!("{notes}");
     Ok(())
 }
 

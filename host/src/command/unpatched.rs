@@ -1,11 +1,13 @@
-//! Notes of what was recorded and is not in the finished code.
+//! Notes of what was recorded and is not in the finished code, or defined and not in its object.
 
+use std::collections::HashSet;
 use std::fmt::Write;
 
 use sheet_text::counted;
-use wargnifla::{Arch, Call, CodeBufferFinalized, Unpatched, WhyUnpatched};
+use wargnifla::{Arch, Call, CodeBufferFinalized, Label, Unpatched, WhyUnpatched};
 
 use super::input::Input;
+use super::options::Options;
 
 /// A line for each kind of what finish did not write, with the lines of the sheet that it comes from. `whose` names the sheet where there are more.
 pub fn notes(whose: &str, input: &Input, finished: &CodeBufferFinalized) -> String {
@@ -39,6 +41,30 @@ pub fn notes(whose: &str, input: &Input, finished: &CodeBufferFinalized) -> Stri
         let _ = writeln!(out, "{note}");
     }
     out
+}
+
+/// A note for each definition that the object, if there is one, leaves out, with its line.
+pub fn definition_notes(
+    options: &Options,
+    input: &Input,
+    finished: &CodeBufferFinalized,
+) -> String {
+    if options.object.is_none() {
+        return String::new();
+    }
+    let left_out = finished.unbound_definitions().map(|(symbol, _)| symbol);
+    let left_out: HashSet<_> = left_out.collect();
+    let definitions = input.definitions.iter();
+    let notes = definitions.filter(|definition| left_out.contains(&definition.symbol));
+    let notes = notes.filter_map(|definition| {
+        let label = finished.names().text(Label::from_id(definition.label));
+        let sentence = format!(
+            "note: the definition of {} is left out of the object, since {label} is bound nowhere",
+            definition.symbol
+        );
+        input.said_at(definition.label_place, &sentence)
+    });
+    notes.map(|note| note + "\n").collect()
 }
 
 /// Entries of one kind.

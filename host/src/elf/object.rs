@@ -130,8 +130,9 @@ impl CodeBufferFinalized {
     /// [`Self::relas`] gives them, but for the symbols' numbers, which are the object's own.
     ///
     /// Bound labels that have names are global symbols, or local ones where the name starts with `.`, and so are the symbols that bound labels define
-    /// ([`bind_symbol`](crate::CodeBuffer::bind_symbol)). Other symbols that relocations name are undefined ones, for the linker to find. A symbol is
-    /// called `s0`, `s1` and so on where it has no name. Names and definitions are those that were given before finish.
+    /// ([`bind_symbol`](crate::CodeBuffer::bind_symbol)); [`Self::unbound_definitions`] lists what labels that are not bound define. Other symbols that
+    /// relocations name are undefined ones, for the linker to find. A symbol is called `s0`, `s1` and so on where it has no name. Names and definitions
+    /// are those that were given before finish.
     ///
     /// A label that was given a symbol to define is a function, `STT_FUNC`, if code stands behind it: up to the next such label, or to the pool. The
     /// label of a constant is an object, `STT_OBJECT`, of the constant's size. Other labels have neither type nor size.

@@ -2,7 +2,7 @@
 
 use std::fs;
 use std::io::{self, Write};
-use std::path::PathBuf;
+use std::path::{Path, PathBuf};
 use std::process::{Command, Output, Stdio};
 
 /// Whether some programs are at hand; where one is not, a sentence says what is passed over.
@@ -34,6 +34,10 @@ impl Folder {
         let _ = fs::remove_dir_all(&folder);
         fs::create_dir_all(&folder).unwrap();
         Self(folder)
+    }
+
+    pub fn path(&self) -> &Path {
+        &self.0
     }
 
     pub fn write(&self, name: &str, content: impl AsRef<[u8]>) {

@@ -9,6 +9,7 @@ mod contents;
 mod elf_types;
 mod joined;
 mod mapping;
+mod notes;
 #[cfg(all(target_arch = "x86_64", target_os = "linux"))]
 #[path = "../host/random.rs"]
 mod random;
