@@ -1,5 +1,6 @@
 //! Relocations for the system linker: `Elf64_Rela` entries, which the verified library writes and reads, and objects with them.
 
+mod file;
 mod mapping;
 mod object;
 mod symbols;

@@ -4,6 +4,7 @@
 use std::collections::HashMap;
 use std::fmt;
 
+use super::file::{Bytes, SHT_PROGBITS, SHT_RELA, SHT_STRTAB, SHT_SYMTAB, Section, Strings, file};
 use super::symbols::{SHN_UNDEF, STB_LOCAL, STT_NOTYPE, Symbols, TEXT};
 use crate::explain::of_relocation;
 use crate::recording::RelocTarget;
@@ -11,14 +12,8 @@ use crate::verified::RELA_BYTES;
 use crate::{Arch, CodeBufferFinalized, CodeOffset, Error, Reloc};
 use sheet_text::shown;
 
-const ET_REL: u16 = 1;
 const EM_X86_64: u16 = 62;
 const EM_AARCH64: u16 = 183;
-
-const SHT_PROGBITS: u32 = 1;
-const SHT_SYMTAB: u32 = 2;
-const SHT_STRTAB: u32 = 3;
-const SHT_RELA: u32 = 4;
 
 const SHF_ALLOC: u64 = 2;
 const SHF_EXECINSTR: u64 = 4;
@@ -26,22 +21,11 @@ const SHF_INFO_LINK: u64 = 0x40;
 
 const STT_SECTION: u8 = 3;
 
-const EHDR_BYTES: u16 = 64;
-const SHDR_BYTES: u16 = 64;
 const SYM_BYTES: u64 = 24;
 
-/// The sections, by number from 1; section 0 is none.
-const SECTIONS: [&str; 6] = [
-    ".text",
-    ".rela.text",
-    ".symtab",
-    ".strtab",
-    ".shstrtab",
-    ".note.GNU-stack",
-];
+/// Sections by number; those that are not named here are behind these.
 const SYMTAB: u32 = 3;
 const STRTAB: u32 = 4;
-const SHSTRTAB: u16 = 5;
 
 /// The symbol that stands for the section of code; symbol 0 is none.
 const TEXT_SYMBOL: u32 = 1;
@@ -167,12 +151,11 @@ impl CodeBufferFinalized {
         let relas = self.relas_of(&symbols.renumbered(&self.relocs), TEXT_SYMBOL)?;
         self.check_relocs()?;
         let (symtab, strtab) = symbol_tables(&symbols)?;
-        let (names, shstrtab) = section_names();
-        let sections = [
+        let sections = vec![
             Section {
                 sh_flags: SHF_ALLOC | SHF_EXECINSTR,
                 sh_addralign: self.section_alignment().into(),
-                ..Section::plain(SHT_PROGBITS, self.data())
+                ..Section::plain(".text", SHT_PROGBITS, self.data().to_vec())
             },
             Section {
                 sh_flags: SHF_INFO_LINK,
@@ -180,21 +163,20 @@ impl CodeBufferFinalized {
                 sh_info: TEXT.into(),
                 sh_addralign: 8,
                 sh_entsize: RELA_BYTES as u64,
-                ..Section::plain(SHT_RELA, &relas)
+                ..Section::plain(".rela.text", SHT_RELA, relas)
             },
             Section {
                 sh_link: STRTAB,
                 sh_info: symbols.first_global,
                 sh_addralign: 8,
                 sh_entsize: SYM_BYTES,
-                ..Section::plain(SHT_SYMTAB, &symtab)
+                ..Section::plain(".symtab", SHT_SYMTAB, symtab)
             },
-            Section::plain(SHT_STRTAB, &strtab),
-            Section::plain(SHT_STRTAB, &shstrtab),
+            Section::plain(".strtab", SHT_STRTAB, strtab),
             // Without it a linker takes the object for one that needs its stack to be executable.
-            Section::plain(SHT_PROGBITS, &[]),
+            Section::plain(".note.GNU-stack", SHT_PROGBITS, Vec::new()),
         ];
-        Ok(file(machine(self.arch()), &names, &sections))
+        Ok(file(machine(self.arch()), sections))
     }
 
     /// Refuses relocations that have a type, but that no linker fills as they are meant.
@@ -268,142 +250,4 @@ fn symbol_tables(symbols: &Symbols<'_>) -> Result<(Vec<u8>, Vec<u8>), ObjectErro
         );
     }
     Ok((table.0, strings.0))
-}
-
-/// A string table: names, each ended by a zero byte, behind the one that is empty.
-struct Strings(Vec<u8>);
-
-impl Strings {
-    fn new() -> Self {
-        Self(vec![0])
-    }
-
-    /// Appends a name: where it stands.
-    fn add(&mut self, name: &str) -> u32 {
-        let at = self.0.len() as u32;
-        self.0.extend(name.as_bytes());
-        self.0.push(0);
-        at
-    }
-}
-
-/// Where the name of each section stands, and the string table that it stands in.
-fn section_names() -> ([u32; SECTIONS.len()], Vec<u8>) {
-    let mut strings = Strings::new();
-    (SECTIONS.map(|name| strings.add(name)), strings.0)
-}
-
-/// A section, but for its name and its place in the file.
-struct Section<'a> {
-    sh_type: u32,
-    sh_flags: u64,
-    sh_link: u32,
-    sh_info: u32,
-    sh_addralign: u64,
-    sh_entsize: u64,
-    bytes: &'a [u8],
-}
-
-impl<'a> Section<'a> {
-    /// One whose fields say no more than its type.
-    fn plain(sh_type: u32, bytes: &'a [u8]) -> Self {
-        Self {
-            sh_type,
-            sh_flags: 0,
-            sh_link: 0,
-            sh_info: 0,
-            sh_addralign: 1,
-            sh_entsize: 0,
-            bytes,
-        }
-    }
-}
-
-/// The file: its header, what the sections hold, and their headers.
-fn file(e_machine: u16, names: &[u32], sections: &[Section<'_>]) -> Vec<u8> {
-    let mut contents = Bytes::default();
-    let mut headers = Bytes(vec![0; SHDR_BYTES.into()]);
-    contents.0.resize(EHDR_BYTES.into(), 0);
-    for (sh_name, section) in names.iter().zip(sections) {
-        contents.align(section.sh_addralign);
-        headers.section(*sh_name, contents.0.len(), section);
-        contents.0.extend(section.bytes);
-    }
-    contents.align(8);
-    let mut header = Bytes::default();
-    header.file(e_machine, contents.0.len(), 1 + sections.len() as u16);
-    contents.0[..EHDR_BYTES.into()].copy_from_slice(&header.0);
-    [contents.0, headers.0].concat()
-}
-
-/// Bytes to which ELF's numbers are appended, little-endian.
-#[derive(Default)]
-struct Bytes(Vec<u8>);
-
-impl Bytes {
-    fn half(&mut self, value: u16) {
-        self.0.extend(value.to_le_bytes());
-    }
-
-    fn word(&mut self, value: u32) {
-        self.0.extend(value.to_le_bytes());
-    }
-
-    fn xword(&mut self, value: u64) {
-        self.0.extend(value.to_le_bytes());
-    }
-
-    fn align(&mut self, multiple: u64) {
-        let len = self.0.len().next_multiple_of(multiple as usize);
-        self.0.resize(len, 0);
-    }
-
-    /// An `Elf64_Ehdr`.
-    fn file(&mut self, e_machine: u16, e_shoff: usize, e_shnum: u16) {
-        // 64 bits, little-endian, version 1; the rest is 0.
-        self.0.extend(b"\x7fELF\x02\x01\x01");
-        self.0.resize(16, 0);
-        self.half(ET_REL);
-        self.half(e_machine);
-        self.word(1); // e_version
-        self.xword(0); // e_entry
-        self.xword(0); // e_phoff
-        self.xword(e_shoff as u64);
-        self.word(0); // e_flags
-        self.half(EHDR_BYTES);
-        self.half(0); // e_phentsize
-        self.half(0); // e_phnum
-        self.half(SHDR_BYTES);
-        self.half(e_shnum);
-        self.half(SHSTRTAB);
-    }
-
-    /// An `Elf64_Shdr`.
-    fn section(&mut self, sh_name: u32, sh_offset: usize, section: &Section<'_>) {
-        self.word(sh_name);
-        self.word(section.sh_type);
-        self.xword(section.sh_flags);
-        self.xword(0); // sh_addr
-        self.xword(sh_offset as u64);
-        self.xword(section.bytes.len() as u64);
-        self.word(section.sh_link);
-        self.word(section.sh_info);
-        self.xword(section.sh_addralign);
-        self.xword(section.sh_entsize);
-    }
-
-    /// An `Elf64_Sym`.
-    fn symbol(
-        &mut self,
-        st_name: u32,
-        [binding, st_type]: [u8; 2],
-        st_shndx: u16,
-        [st_value, st_size]: [u32; 2],
-    ) {
-        self.word(st_name);
-        self.0.extend([binding << 4 | st_type, 0]);
-        self.half(st_shndx);
-        self.xword(st_value.into());
-        self.xword(st_size.into());
-    }
 }

@@ -53,8 +53,8 @@ fn an_object_has_its_sections() {
             (".rela.text", 4, 0x40, [3, 1], [8, 24]),
             (".symtab", 2, 0, [4, first_global], [8, 24]),
             (".strtab", 3, 0, [0, 0], [1, 0]),
-            (".shstrtab", 3, 0, [0, 0], [1, 0]),
             (".note.GNU-stack", 1, 0, [0, 0], [1, 0]),
+            (".shstrtab", 3, 0, [0, 0], [1, 0]),
         ];
         assert_eq!(headers, expected);
         assert_eq!(object.section(".text").bytes, [0; 12]);
