@@ -5,6 +5,7 @@ mod excerpt;
 mod files;
 mod input;
 mod joined;
+mod object;
 mod one;
 mod open;
 mod options;

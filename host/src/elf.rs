@@ -1,11 +1,14 @@
 //! Relocations for the system linker: `Elf64_Rela` entries, which the verified library writes and reads, and objects with them.
 
+mod debug;
 mod file;
+mod lines;
 mod mapping;
 mod object;
 mod symbols;
 mod types;
 
+pub use lines::{SourceLine, SourceLines};
 pub use object::ObjectError;
 pub use types::ElfType;
 

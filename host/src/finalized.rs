@@ -129,7 +129,7 @@ impl CodeBufferFinalized {
     /// ```
     pub fn unbound_definitions(&self) -> impl Iterator<Item = &(ExternalName, Label)> {
         let definitions = self.definitions.iter();
-        definitions.filter(|(_, label)| self.label_offset(*label) == UNBOUND)
+        definitions.filter(|(_, label)| self.label_offset(*label).is_none())
     }
 
     /// The offset of a symbol, if a label that is bound defines it.

@@ -63,7 +63,7 @@ mod unpatched;
 mod verified;
 
 pub use buffer::CodeBuffer;
-pub use elf::{ElfType, ObjectError, Rela, read_relas};
+pub use elf::{ElfType, ObjectError, Rela, SourceLine, SourceLines, read_relas};
 pub use error::{Entry, Error, Place};
 pub use event::{Alignment, LayoutEvent, RelaxableJump};
 pub use ffi::Segment;

@@ -8,7 +8,7 @@ use wargnifla::{Joined, JoinedRecordings, ListedPiece};
 use super::options::Options;
 use super::rounds::RoundsReport;
 use super::rule::Rule;
-use super::{Failure, files, open, print_text, report, unpatched};
+use super::{Failure, files, object, open, print_text, report, unpatched};
 
 pub fn run(options: &Options) -> Result<(), Failure> {
     let rules = options.files.iter().map(|file| Rule::new(options, file));
@@ -69,11 +69,8 @@ fn of_piece(options: &Options, piece: usize, rule: &Rule) -> String {
 
 fn write_files(options: &Options, rules: &[Rule], whole: &Joined) -> Result<(), Failure> {
     let code = whole.code();
-    let object = match &options.object {
-        Some(_) => code
-            .object()
-            .map_err(|error| refused::object(rules, whole, &error))?,
-        None => Vec::new(),
-    };
+    let object = object::object(options, rules, whole.bases(), code, |error| {
+        refused::object(rules, whole, error)
+    })?;
     files::write(options, [code.data(), &object, &[], &[]])
 }

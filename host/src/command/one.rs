@@ -7,7 +7,7 @@ use wargnifla::{Picture, write_sheet};
 use super::options::{Options, title};
 use super::rounds::RoundsReport;
 use super::rule::Rule;
-use super::{Failure, files, open, print_text, report, unpatched};
+use super::{Failure, files, object, open, print_text, report, unpatched};
 
 pub fn run(options: &Options, file: &OsStr) -> Result<(), Failure> {
     let rule = Rule::new(options, file)?;
@@ -49,13 +49,10 @@ fn write_files(options: &Options, rule: &Rule, title: &str) -> Result<(), Failur
     let Rule {
         input, finished, ..
     } = rule;
-    let object = match &options.object {
-        Some(_) => rule
-            .code()
-            .object()
-            .map_err(|error| input.no_object(&error, rule.recording()))?,
-        None => Vec::new(),
-    };
+    let rules = std::slice::from_ref(rule);
+    let object = object::object(options, rules, &[0], rule.code(), |error| {
+        input.no_object(error, rule.recording())
+    })?;
     let sheet = match &options.write_sheet {
         Some(_) => write_sheet(&input.calls).map_err(|error| input.unwritable(&error))?,
         None => Vec::new(),

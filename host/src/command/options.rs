@@ -14,6 +14,7 @@ then joined, in the order given: calls of symbols that one of them defines are f
 
   -o FILE                  write the finished code; to - it goes to standard output, in the place of the listing
   --object FILE            write an ELF object for the system linker, or to -
+  --debug                  put the text's lines into the object, as DWARF
   --write-sheet FILE       write the calls as a binary sheet, or to -; not where sheets are joined
   --picture FILE           write a page for a browser that draws the rounds to scale, step by step, or to -; not where sheets are joined
   --join                   join even one FILE, and so fill its calls of symbols that it defines itself
@@ -52,6 +53,7 @@ pub struct Options {
     pub join: bool,
     pub output: Option<PathBuf>,
     pub object: Option<PathBuf>,
+    pub debug: bool,
     pub write_sheet: Option<PathBuf>,
     pub picture: Option<PathBuf>,
     pub arch: Option<Arch>,
@@ -141,6 +143,7 @@ pub fn parse(arguments: impl IntoIterator<Item = OsString>) -> Result<Request, S
             "-V" | "--version" => return Ok(Request::Version),
             "-o" => options.output = Some(value("-o", arguments.next())?.into()),
             "--object" => options.object = Some(value("--object", arguments.next())?.into()),
+            "--debug" => options.debug = true,
             "--write-sheet" => {
                 options.write_sheet = Some(value("--write-sheet", arguments.next())?.into());
             }
@@ -176,6 +179,9 @@ fn check(options: &Options) -> Result<(), String> {
     let inputs = options.files.iter().filter(|file| is_dash(file));
     if inputs.count() > 1 {
         return Err("standard input, -, can be one FILE alone".into());
+    }
+    if options.debug && options.object.is_none() {
+        return Err("--debug is about an object, which --object writes".into());
     }
     let of_one_sheet = [
         ("--write-sheet", options.write_sheet.is_some()),
@@ -219,12 +225,13 @@ mod tests {
 
     #[test]
     fn reads_every_option() {
-        let all = "--arch X86 --symbols 3 --rounds --open --full --hex --text -o out --object object --write-sheet sheet --picture page in";
+        let all = "--arch X86 --symbols 3 --rounds --open --full --hex --text -o out --object object --debug --write-sheet sheet --picture page in";
         let expected = Options {
             files: vec!["in".into()],
             join: false,
             output: Some("out".into()),
             object: Some("object".into()),
+            debug: true,
             write_sheet: Some("sheet".into()),
             picture: Some("page".into()),
             arch: Some(Arch::X86),
@@ -269,6 +276,7 @@ mod tests {
         };
         fails("", "FILE is missing");
         fails("- a -", "standard input, -, can be one FILE alone");
+        fails("a --debug", "--debug is about an object");
         fails("a b --picture c", "--picture is about one sheet");
         fails("--join a --write-sheet b", "--write-sheet is about one");
         fails("--fast a", "no option --fast");

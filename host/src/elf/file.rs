@@ -133,6 +133,13 @@ impl Bytes {
         self.xword(section.sh_entsize);
     }
 
+    /// An `Elf64_Rela`.
+    pub fn rela(&mut self, r_offset: u64, symbol: u32, elf_type: u32, r_addend: u64) {
+        self.xword(r_offset);
+        self.xword(u64::from(symbol) << 32 | u64::from(elf_type));
+        self.xword(r_addend);
+    }
+
     /// An `Elf64_Sym`.
     pub fn symbol(
         &mut self,

@@ -4,7 +4,9 @@
 use std::collections::HashMap;
 use std::fmt;
 
+use super::debug;
 use super::file::{Bytes, SHT_PROGBITS, SHT_RELA, SHT_STRTAB, SHT_SYMTAB, Section, Strings, file};
+use super::lines::SourceLines;
 use super::symbols::{SHN_UNDEF, STB_LOCAL, STT_NOTYPE, Symbols, TEXT};
 use crate::explain::of_relocation;
 use crate::recording::RelocTarget;
@@ -28,7 +30,7 @@ const SYMTAB: u32 = 3;
 const STRTAB: u32 = 4;
 
 /// The symbol that stands for the section of code; symbol 0 is none.
-const TEXT_SYMBOL: u32 = 1;
+pub(super) const TEXT_SYMBOL: u32 = 1;
 
 /// A page of AArch64, whose number an ADRP holds.
 const PAGE: u32 = 4096;
@@ -56,6 +58,8 @@ pub enum ObjectError {
     },
     /// The name of a label or symbol is empty or has a zero byte, which ends names in an object.
     UnfitName(RelocTarget),
+    /// The lines are unfit: what is wrong with them.
+    Lines(String),
     /// Two labels or symbols have one name.
     NameTwice {
         /// The name.
@@ -74,6 +78,7 @@ impl fmt::Display for ObjectError {
             Self::FieldPastEnd { sentence, .. } | Self::LabelInGot { sentence, .. } => {
                 f.write_str(sentence)
             }
+            Self::Lines(sentence) => f.write_str(sentence),
             Self::UnfitName(target) => write!(
                 f,
                 "the name of {target} is empty or has a zero byte, and no symbol of an object has such a name"
@@ -147,24 +152,55 @@ impl CodeBufferFinalized {
     /// As [`Self::relas`]; and where a relocation's field passes the end of the code, one of kind [`Reloc::X86GOTPCRel4`] or
     /// [`Reloc::ElfX86_64TlsGd`] names a label, two symbols that are not both local would have one name, or one a name that no object holds.
     pub fn object(&self) -> Result<Vec<u8>, ObjectError> {
-        let symbols = Symbols::new(self);
+        self.object_from(None)
+    }
+
+    /// The same with debug information, DWARF 4, which says from which lines the code comes: debuggers, profilers and disassemblers show them.
+    ///
+    /// ```
+    /// use wargnifla::{Arch, CodeBuffer, SourceLine, SourceLines};
+    ///
+    /// # fn main() -> Result<(), Box<dyn std::error::Error>> {
+    /// let mut buffer = CodeBuffer::new(Arch::X64);
+    /// buffer.put_bytes(&[0x90, 0xC3])?;
+    /// let lines = SourceLines {
+    ///     folder: "/rules".into(),
+    ///     files: vec!["sort.rule".into()],
+    ///     lines: vec![
+    ///         SourceLine { code: 0..1, file: 0, line: 7 },
+    ///         SourceLine { code: 1..2, file: 0, line: 9 },
+    ///     ],
+    /// };
+    /// let object = buffer.finish()?.object_with_lines(&lines)?;
+    /// assert_eq!(object[..4], *b"\x7fELF");
+    /// # Ok(())
+    /// # }
+    /// ```
+    ///
+    /// # Errors
+    ///
+    /// As [`Self::object`]; and where a name of the lines is unfit, or a line's code is empty, passes the end of the code or does not stand behind
+    /// that of the line before.
+    pub fn object_with_lines(&self, lines: &SourceLines) -> Result<Vec<u8>, ObjectError> {
+        self.object_from(Some(lines))
+    }
+
+    fn object_from(&self, lines: Option<&SourceLines>) -> Result<Vec<u8>, ObjectError> {
+        let sections = lines.map_or(&[][..], |_| &debug::SECTIONS);
+        let symbols = Symbols::new(self, sections);
         let relas = self.relas_of(&symbols.renumbered(&self.relocs), TEXT_SYMBOL)?;
         self.check_relocs()?;
+        if let Some(wrong) = lines.and_then(|lines| lines.wrong(self.total_size())) {
+            return Err(ObjectError::Lines(wrong));
+        }
         let (symtab, strtab) = symbol_tables(&symbols)?;
-        let sections = vec![
+        let mut sections = vec![
             Section {
                 sh_flags: SHF_ALLOC | SHF_EXECINSTR,
                 sh_addralign: self.section_alignment().into(),
                 ..Section::plain(".text", SHT_PROGBITS, self.data().to_vec())
             },
-            Section {
-                sh_flags: SHF_INFO_LINK,
-                sh_link: SYMTAB,
-                sh_info: TEXT.into(),
-                sh_addralign: 8,
-                sh_entsize: RELA_BYTES as u64,
-                ..Section::plain(".rela.text", SHT_RELA, relas)
-            },
+            rela_section(".rela.text", TEXT, relas),
             Section {
                 sh_link: STRTAB,
                 sh_info: symbols.first_global,
@@ -176,6 +212,11 @@ impl CodeBufferFinalized {
             // Without it a linker takes the object for one that needs its stack to be executable.
             Section::plain(".note.GNU-stack", SHT_PROGBITS, Vec::new()),
         ];
+        sections.extend(
+            lines
+                .into_iter()
+                .flat_map(|lines| debug::sections(self, lines)),
+        );
         Ok(file(machine(self.arch()), sections))
     }
 
@@ -209,6 +250,18 @@ impl CodeBufferFinalized {
     }
 }
 
+/// The relocations of a section, which is given by its number.
+pub(super) fn rela_section(name: &'static str, section: u16, relas: Vec<u8>) -> Section {
+    Section {
+        sh_flags: SHF_INFO_LINK,
+        sh_link: SYMTAB,
+        sh_info: section.into(),
+        sh_addralign: 8,
+        sh_entsize: RELA_BYTES as u64,
+        ..Section::plain(name, SHT_RELA, relas)
+    }
+}
+
 fn machine(arch: Arch) -> u16 {
     match arch {
         Arch::X64 => EM_X86_64,
@@ -222,7 +275,9 @@ fn symbol_tables(symbols: &Symbols<'_>) -> Result<(Vec<u8>, Vec<u8>), ObjectErro
     let mut strings = Strings::new();
     let mut table = Bytes::default();
     table.symbol(0, [STB_LOCAL, STT_NOTYPE], SHN_UNDEF, [0, 0]);
-    table.symbol(0, [STB_LOCAL, STT_SECTION], TEXT, [0, 0]);
+    for section in &symbols.sections {
+        table.symbol(0, [STB_LOCAL, STT_SECTION], *section, [0, 0]);
+    }
     for (name, offset) in &symbols.mapping {
         let st_name = strings.add(name);
         table.symbol(st_name, [STB_LOCAL, STT_NOTYPE], TEXT, [*offset, 0]);

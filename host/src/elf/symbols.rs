@@ -19,11 +19,10 @@ pub(super) const SHN_UNDEF: u16 = 0;
 /// The section of code.
 pub(super) const TEXT: u16 = 1;
 
-/// The symbols in front of the mapping symbols: none, and the section's.
-const FIRST_SYMBOL: u32 = 2;
-
 pub(super) struct Symbols<'a> {
-    /// By number from [`FIRST_SYMBOL`] on; each is local.
+    /// The sections that symbols stand for, by the symbols' numbers from 1 on; that of code is the first.
+    pub sections: Vec<u16>,
+    /// By number behind these; each is local.
     pub mapping: Vec<MappingSymbol>,
     /// By number behind these: first the local ones, then the others; of each, symbols that nothing defines, labels, and symbols that labels define.
     pub all: Vec<Symbol<'a>>,
@@ -119,7 +118,8 @@ fn name_of(external: &ExternalName) -> String {
 }
 
 impl<'a> Symbols<'a> {
-    pub fn new(code: &'a CodeBufferFinalized) -> Self {
+    /// Those of finished code; further sections than that of code have symbols, too.
+    pub fn new(code: &'a CodeBufferFinalized, further: &[u16]) -> Self {
         let named = named_symbols(&code.relocs);
         let types = label_types(code);
         let is_bound = |label| code.label_offset(label).is_some();
@@ -152,8 +152,10 @@ impl<'a> Symbols<'a> {
         all.sort_by_key(|symbol| symbol.binding);
         let local = all.iter().filter(|symbol| symbol.binding == STB_LOCAL);
         let mapping = mapping_symbols(code);
-        let first = FIRST_SYMBOL + mapping.len() as u32;
+        let sections = [&[TEXT], further].concat();
+        let first = (1 + sections.len() + mapping.len()) as u32;
         Self {
+            sections,
             first_global: first + local.count() as u32,
             numbers: numbers(code, named.into_keys(), first, &all),
             mapping,

@@ -5,12 +5,12 @@ mod binutils;
 #[cfg(all(target_arch = "x86_64", target_os = "linux"))]
 mod ceilings;
 mod contents;
+mod debug;
 #[path = "../host/elf_types.rs"]
 mod elf_types;
 mod joined;
 mod mapping;
 mod notes;
-#[cfg(all(target_arch = "x86_64", target_os = "linux"))]
 #[path = "../host/random.rs"]
 mod random;
 mod reader;
