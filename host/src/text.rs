@@ -11,6 +11,9 @@ pub use sheet_text::{Note, Span, TextError};
 /// What a text says.
 pub type Script = sheet_text::Script<Call>;
 
+/// What a text says that may be half typed, and what is wrong with it.
+pub type Draft = sheet_text::Draft<Call>;
+
 /// Zeros become calls of at most so many bytes, which share them.
 const ZEROS: usize = 65_536;
 
@@ -18,7 +21,7 @@ const ZEROS: usize = 65_536;
 ///
 /// # Errors
 ///
-/// Says what is wrong: with the first statement that is malformed, else with the first that makes no call.
+/// Says what is wrong with the first statement that is.
 pub fn read_text(text: &str) -> Result<Script, TextError> {
     read_text_for(None, text)
 }
@@ -30,6 +33,19 @@ pub fn read_text(text: &str) -> Result<Script, TextError> {
 /// As [`read_text`].
 pub fn read_text_for(arch: Option<Arch>, text: &str) -> Result<Script, TextError> {
     sheet_text::read_text(text, arch, append)
+}
+
+/// Reads a text that may be half typed, for an architecture, whatever the text says, if one is given. An editor learns from it what is recorded so far,
+/// and all that is wrong.
+///
+/// ```
+/// let draft = wargnifla::read_draft(None, "bytes 90\njmp\nzeros x");
+/// assert_eq!(draft.script.calls.len(), 1);
+/// let lines: Vec<u32> = draft.errors.iter().map(|error| error.place.line).collect();
+/// assert_eq!(lines, [2, 3]);
+/// ```
+pub fn read_draft(arch: Option<Arch>, text: &str) -> Draft {
+    sheet_text::read_draft(text, arch, append)
 }
 
 fn append(call: TextCall, calls: &mut Vec<Call>) -> Result<(), String> {

@@ -4,6 +4,8 @@
 mod ceilings;
 #[path = "command/joined.rs"]
 mod joined;
+#[path = "command/texts.rs"]
+mod texts;
 
 use std::fs;
 use std::io::Write;

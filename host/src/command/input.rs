@@ -6,8 +6,9 @@ use std::io::{self, Read};
 
 use sheet_text::nearest;
 use wargnifla::{
-    Arch, Call, CodeBuffer, Definition, Entry, Error, ExternalName, LayoutEvent, ObjectError,
-    Recording, Script, Sheet, Span, UNBOUND, Unwritable, read_text_for, symbols_named,
+    Arch, Call, CodeBuffer, Definition, Draft, Entry, Error, ExternalName, LayoutEvent,
+    ObjectError, Recording, Script, Sheet, Span, TextError, UNBOUND, Unwritable, read_draft,
+    symbols_named,
 };
 
 use super::Failure;
@@ -20,7 +21,7 @@ pub struct Input {
     pub file: String,
     pub arch: Arch,
     pub symbols: u32,
-    /// The calls; of a binary sheet, up to the first that breaks its form.
+    /// The calls; of a text, up to its first error, and of a binary sheet, up to the first that breaks its form.
     pub calls: Vec<Call>,
     /// The labels that have names, by number.
     pub names: Vec<(u32, String)>,
@@ -31,6 +32,9 @@ pub struct Input {
     source: Source,
     /// Whether option or sheet says the architecture.
     names_arch: bool,
+    /// What is wrong with the text, which has been read up to there.
+    errors: Vec<TextError>,
+    has_more_errors: bool,
 }
 
 impl Input {
@@ -48,13 +52,16 @@ impl Input {
     fn from_text(file: String, options: &Options, bytes: &[u8]) -> Result<Self, Failure> {
         let text = text_of(bytes)
             .map_err(|(line, sentence)| Failure::unusable(format!("{file}:{line}: {sentence}")))?;
-        let script = read_text_for(options.arch, &text)
-            .map_err(|error| Failure::unusable(malformed(&file, &text, &error)))?;
+        let Draft {
+            script,
+            mut errors,
+            has_more_errors,
+        } = read_draft(options.arch, &text);
         let named = options.arch.or(script.arch);
         let symbols = options.symbols.or(script.symbols);
         let symbols = symbols.unwrap_or_else(|| all_named(&script));
-        if let Some(error) = script.undeclared_definition(symbols) {
-            return Err(Failure::unusable(malformed(&file, &text, &error)));
+        if errors.is_empty() {
+            errors.extend(script.undeclared_definition(symbols));
         }
         Ok(Self {
             file,
@@ -70,6 +77,8 @@ impl Input {
                 statements: script.statements,
             }),
             names_arch: named.is_some(),
+            errors,
+            has_more_errors,
         })
     }
 
@@ -86,7 +95,24 @@ impl Input {
             definitions: Vec::new(),
             source: Source::Binary(bytes),
             names_arch: options.arch.is_some(),
+            errors: Vec::new(),
+            has_more_errors: false,
         }
+    }
+
+    /// That the text is as it should be, or all that is wrong with it.
+    pub fn check(&self) -> Result<(), Failure> {
+        let (Source::Text(source), false) = (&self.source, self.errors.is_empty()) else {
+            return Ok(());
+        };
+        let errors = self.errors.iter();
+        let mut messages: Vec<String> = errors
+            .map(|error| malformed(&self.file, &source.text, error))
+            .collect();
+        if self.has_more_errors {
+            messages.push("and further errors".into());
+        }
+        Err(Failure::unusable(messages.join("\n")))
     }
 
     /// Records the sheet, up to the first call that is refused.

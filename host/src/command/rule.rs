@@ -62,12 +62,13 @@ impl Rule {
 
 /// What was recorded, and what it finishes to.
 fn assembled(input: &Input, buffer: &mut CodeBuffer) -> Result<FinishedRecording, Failure> {
+    input.check()?;
     input.record(buffer)?;
     let finished = buffer.finish_with_recording();
     finished.map_err(|error| input.refused_finish(&error, &buffer.recording()))
 }
 
-/// What was open after each call of a recording that is refused, where that is to be shown.
+/// What was open after each call of a text that is wrong, or of a recording that is refused, where that is to be shown.
 fn show_open(options: &Options, input: &Input) -> Result<(), Failure> {
     if !options.open || options.writes_standard_output() {
         return Ok(());

@@ -75,31 +75,44 @@ pub(crate) struct Define<'a> {
     pub label: Token<'a>,
 }
 
-/// What the statements of a text define, once all its labels are made and its symbols named.
+/// What the statements of a text define, once all its labels are made and its symbols named; and what is wrong with those that define nothing.
 pub(crate) fn definitions(
     defines: &[Define<'_>],
     labels: &Labels<'_>,
     symbols: &Symbols<'_>,
-) -> Result<Vec<Definition>, TextError> {
+) -> (Vec<Definition>, Vec<TextError>) {
     let mut places = HashMap::new();
-    let mut definitions = Vec::new();
+    let (mut definitions, mut errors) = (Vec::new(), Vec::new());
     for define in defines {
-        let symbol = symbol(define.symbol, symbols)?;
-        symbols.check_label(define.label)?;
-        let label = labels.made(define.label)?;
-        if let Some(first) = places.insert(symbol.clone(), define.symbol.place) {
-            let sentence = format!("{symbol} is defined already");
-            let error = define.symbol.error(sentence);
-            return Err(error.with_note(Some(first), "it is defined here"));
+        match definition(define, labels, symbols, &mut places) {
+            Ok(definition) => definitions.push(definition),
+            Err(error) => errors.push(error),
         }
-        definitions.push(Definition {
-            symbol,
-            label,
-            symbol_place: define.symbol.place,
-            label_place: define.label.place,
-        });
     }
-    Ok(definitions)
+    (definitions, errors)
+}
+
+/// What one of them defines. `places` says where symbols are defined.
+fn definition(
+    define: &Define<'_>,
+    labels: &Labels<'_>,
+    symbols: &Symbols<'_>,
+    places: &mut HashMap<ExternalName, Span>,
+) -> Result<Definition, TextError> {
+    let symbol = symbol(define.symbol, symbols)?;
+    if let Some(first) = places.get(&symbol) {
+        let sentence = format!("{symbol} is defined already");
+        let error = define.symbol.error(sentence);
+        return Err(error.with_note(Some(*first), "it is defined here"));
+    }
+    places.insert(symbol.clone(), define.symbol.place);
+    symbols.check_label(define.label)?;
+    Ok(Definition {
+        symbol,
+        label: labels.made(define.label)?,
+        symbol_place: define.symbol.place,
+        label_place: define.label.place,
+    })
 }
 
 /// A symbol by number, as `7` or `s7`, or by name.

@@ -16,6 +16,9 @@ pub(crate) struct Labels<'a> {
     named: HashMap<&'a str, Named>,
     /// The names of labels that no call of the text makes, by number: their first mention does.
     unwritten: HashMap<u32, &'a str>,
+    /// Whether a wrong statement may have made labels that are not known here. Then no number is wrong, and none is sure: such a text is read again, up
+    /// to that statement.
+    is_doubtful: bool,
 }
 
 #[derive(Clone, Copy)]
@@ -73,6 +76,11 @@ impl<'a> Labels<'a> {
         }
     }
 
+    /// Notes that a wrong statement may have made labels.
+    pub fn doubt(&mut self) {
+        self.is_doubtful = true;
+    }
+
     pub fn knows(&self, name: &str) -> bool {
         self.named.contains_key(name)
     }
@@ -124,7 +132,7 @@ impl<'a> Labels<'a> {
     pub fn made(&self, word: Token<'_>) -> Result<u32, TextError> {
         if starts_number(word.text) {
             let label = self.written(word, number(word)?)?;
-            if label < self.count {
+            if label < self.count || self.is_doubtful {
                 return Ok(label);
             }
             let made = counted(self.count as usize, "label");
@@ -132,6 +140,9 @@ impl<'a> Labels<'a> {
         }
         if let Some(named) = self.named.get(word.text) {
             return Ok(named.label);
+        }
+        if self.is_doubtful && is_name(word.text) {
+            return Ok(self.count);
         }
         let mut names: Vec<&str> = self.named.keys().copied().collect();
         names.sort_unstable();
@@ -142,7 +153,7 @@ impl<'a> Labels<'a> {
 
     /// A label's number, unless the label was made for a name: whoever counts the calls that make labels does not count it.
     pub fn written(&self, word: Token<'_>, label: u32) -> Result<u32, TextError> {
-        let Some(name) = self.unwritten.get(&label) else {
+        let Some(name) = self.unwritten.get(&label).filter(|_| !self.is_doubtful) else {
             return Ok(label);
         };
         let sentence = format!("label {label} is '{name}', which no call makes: write its name");

@@ -11,6 +11,8 @@
 
 mod call;
 mod definitions;
+mod draft;
+mod groups;
 mod kinds;
 mod labels;
 mod padding;
@@ -29,12 +31,11 @@ use std::borrow::Cow;
 
 pub use call::{CALL_NAMES, Call};
 pub use definitions::{Definition, ExternalName};
+pub use draft::{Draft, MOST_ERRORS, read_draft};
 pub use kinds::{Arch, Condition, LabelUse, Reach, Reloc};
 pub use padding::{DEFAULT_MOST, Padding, most_of_word};
 pub use place::{Note, Span, TextError};
-use placing::Placing;
 pub use placing::long_jump;
-use reader::{check_count, read_steps};
 pub use shown::{counted, escaped, shown};
 pub use suggest::nearest;
 pub use text_call::TextCall;
@@ -83,32 +84,13 @@ pub fn plain_lines(text: &str) -> Cow<'_, str> {
 ///
 /// # Errors
 ///
-/// Says what is wrong: with the first statement that is malformed, else with the first that makes no call.
+/// Says what is wrong with the first statement that is.
 pub fn read_text<C>(
     text: &str,
     arch: Option<Arch>,
     append: impl Fn(TextCall, &mut Vec<C>) -> Result<(), String>,
 ) -> Result<Script<C>, TextError> {
-    let read = read_steps(&plain_lines(text))?;
-    let mut placing = Placing::new(arch.or(read.arch).unwrap_or(Arch::X64), append);
-    let mut sources = Vec::new();
-    for (step, statement) in read.steps {
-        let place = read.statements[statement as usize];
-        let placed = placing.step(step);
-        placed.map_err(|sentence| TextError::new(place, sentence))?;
-        check_count(placing.calls.len(), place)?;
-        sources.resize(placing.calls.len(), statement);
-    }
-    Ok(Script {
-        arch: read.arch,
-        symbols: read.symbols,
-        calls: placing.calls,
-        sources,
-        statements: read.statements,
-        names: read.names,
-        symbol_names: read.symbol_names,
-        definitions: read.definitions,
-    })
+    read_draft(text, arch, append).into_script()
 }
 
 #[cfg(test)]
@@ -316,7 +298,8 @@ mod tests {
         fails("( n )", 1, "count is missing");
         fails("n ( l 0 )", 1, "follows a call");
         fails("3x ( n )", 1, "'3x' is no number");
-        fails(&"1 ( ".repeat(17), 1, "nested deeper than 16");
+        let deep = "1 ( ".repeat(17) + &")".repeat(17);
+        fails(&deep, 1, "nested deeper than 16");
         fails("n\n4294967295 ( n )", 2, "more than 4194304 calls");
         fails("65536 ( 65536 ( n ) )", 1, "more than 4194304 calls");
     }

@@ -1,10 +1,12 @@
 //! Statements and groups, read into steps.
 
 use crate::definitions::{Define, Definition, definitions};
+use crate::draft::MOST_ERRORS;
+use crate::groups::Groups;
 use crate::labels::{Labels, is_name, name as label_name};
 use crate::symbols::Symbols;
 use crate::text_call::{Arguments, Step, long_word, mentioned_label, numbered_argument};
-use crate::tokens::{Token, tokens};
+use crate::tokens::Token;
 use crate::words::{architecture, number, starts_number};
 use crate::{Arch, Call, Span, TextCall, TextError};
 
@@ -26,10 +28,13 @@ pub(crate) struct Steps {
     pub definitions: Vec<Definition>,
 }
 
-pub(crate) fn read_steps(text: &str) -> Result<Steps, TextError> {
+/// What the tokens before `end` say, with what is wrong there. Groups that are open at `end` are written out once.
+pub(crate) fn read_steps(tokens: &[Token<'_>], end: usize) -> (Steps, Vec<TextError>) {
     let mut reader = Reader {
-        tokens: tokens(text),
+        tokens,
+        groups: Groups::new(tokens),
         at: 0,
+        end,
         arch: None,
         symbols: Symbols::default(),
         steps: Vec::new(),
@@ -37,16 +42,17 @@ pub(crate) fn read_steps(text: &str) -> Result<Steps, TextError> {
         labels: Labels::default(),
         numbered_targets: Vec::new(),
         defines: Vec::new(),
+        errors: Vec::new(),
+        has_unclosed_group: false,
+        has_too_many_calls: false,
     };
-    reader.statements(0)?;
-    if let Some(token) = reader.peek() {
-        return Err(token.error("')' closes no group"));
-    }
-    for word in &reader.numbered_targets {
-        reader.labels.check_target(*word)?;
-    }
-    let definitions = definitions(&reader.defines, &reader.labels, &reader.symbols)?;
-    Ok(Steps {
+    reader.statements(0);
+    let mut errors = reader.errors;
+    let targets = reader.numbered_targets.iter();
+    errors.extend(targets.filter_map(|word| reader.labels.check_target(*word).err()));
+    let (definitions, wrong) = definitions(&reader.defines, &reader.labels, &reader.symbols);
+    errors.extend(wrong);
+    let steps = Steps {
         arch: reader.arch,
         symbols: reader.symbols.count(),
         steps: reader.steps,
@@ -54,7 +60,8 @@ pub(crate) fn read_steps(text: &str) -> Result<Steps, TextError> {
         names: reader.labels.names(),
         symbol_names: reader.symbols.names(),
         definitions,
-    })
+    };
+    (steps, errors)
 }
 
 pub(crate) fn check_count(calls: usize, place: Span) -> Result<(), TextError> {
@@ -65,9 +72,12 @@ pub(crate) fn check_count(calls: usize, place: Span) -> Result<(), TextError> {
     Ok(())
 }
 
-struct Reader<'a> {
-    tokens: Vec<Token<'a>>,
+struct Reader<'t, 'a> {
+    tokens: &'t [Token<'a>],
+    groups: Groups,
     at: usize,
+    /// Where reading ends.
+    end: usize,
     arch: Option<Arch>,
     symbols: Symbols<'a>,
     steps: Vec<(Step, u32)>,
@@ -77,11 +87,16 @@ struct Reader<'a> {
     numbered_targets: Vec<Token<'a>>,
     /// What is defined, to be read once all labels are made.
     defines: Vec<Define<'a>>,
+    errors: Vec<TextError>,
+    /// Whether it was said that a group is not closed. What stands after its `(` is read as if it stood in no group.
+    has_unclosed_group: bool,
+    /// Whether it was said that there are too many calls. Further ones are not kept.
+    has_too_many_calls: bool,
 }
 
-impl<'a> Reader<'a> {
+impl<'a> Reader<'_, 'a> {
     fn peek(&self) -> Option<Token<'a>> {
-        self.tokens.get(self.at).copied()
+        self.tokens[..self.end].get(self.at).copied()
     }
 
     fn take(&mut self, text: &str) -> bool {
@@ -90,50 +105,118 @@ impl<'a> Reader<'a> {
         found
     }
 
-    /// Statements up to the end of the text or of a group.
-    fn statements(&mut self, nesting: usize) -> Result<(), TextError> {
+    /// Statements up to the end of the text or of a group. What is wrong with one is noted, and reading goes on after it.
+    fn statements(&mut self, nesting: usize) {
         while let Some(token) = self.peek() {
-            match token.text {
-                ")" => return Ok(()),
-                ";" => self.at += 1,
-                "(" => {
-                    return Err(
-                        token.error("a group is written COUNT ( CALLS ), and the count is missing")
-                    );
+            let read = match token.text {
+                ")" if nesting > 0 => return,
+                ")" => {
+                    self.at += 1;
+                    Err(token.error("')' closes no group"))
                 }
-                text if text.ends_with(':') => self.binding(token)?,
-                text if starts_number(text) => self.group(token, nesting)?,
-                _ => self.statement(token, nesting)?,
+                ";" => {
+                    self.at += 1;
+                    Ok(())
+                }
+                "(" => {
+                    self.group_without_count(nesting);
+                    Err(token.error("a group is written COUNT ( CALLS ), and the count is missing"))
+                }
+                text if text.ends_with(':') => self.binding(token),
+                text if starts_number(text) => self.group(token, nesting),
+                _ => self.statement(token, nesting),
+            };
+            if let Err(error) = read {
+                self.note(error);
             }
         }
-        Ok(())
+    }
+
+    /// Notes what is wrong. Where that is more than is ever said, reading ends here.
+    fn note(&mut self, error: TextError) {
+        self.errors.push(error);
+        if self.errors.len() > MOST_ERRORS {
+            self.end = self.at;
+            self.labels.doubt();
+        }
     }
 
     fn group(&mut self, count: Token<'a>, nesting: usize) -> Result<(), TextError> {
-        let times = number(count)?;
+        let times = number(count);
         self.at += 1;
-        if !self.take("(") {
+        if self.peek().is_none_or(|token| token.text != "(") {
+            self.at += self.words_from(self.at).len();
+            self.pass_parentheses(nesting);
+            self.labels.doubt();
+            times?;
             return Err(count.error(format!(
                 "{} starts no call; a group is written COUNT ( CALLS )",
                 count.quoted()
             )));
         }
+        let Some(end) = self.groups.end(self.at) else {
+            self.group_without_count(nesting);
+            return times.and_then(|_| self.unclosed(count));
+        };
         if nesting == MOST_NESTING {
+            self.group_without_count(nesting);
             return Err(count.error(format!("groups are nested deeper than {MOST_NESTING}")));
         }
+        let Ok(times) = times else {
+            self.group_without_count(nesting);
+            return times.map(|_| ());
+        };
+        self.at += 1;
         if nesting == 0 {
-            self.make_labels_of_group()?;
+            self.make_labels_of_group();
         }
         let start = self.steps.len();
-        self.statements(nesting + 1)?;
-        if !self.take(")") {
-            return Err(count.error("this group is not closed by ')'"));
+        self.statements(nesting + 1);
+        self.take(")");
+        let times = if end < self.end { times } else { times.min(1) };
+        self.repeat(start, times as usize, count.place);
+        Ok(())
+    }
+
+    /// The one error of all groups that are not closed: the first may be the only one that lacks its `)`.
+    fn unclosed(&mut self, count: Token<'a>) -> Result<(), TextError> {
+        if std::mem::replace(&mut self.has_unclosed_group, true) {
+            return Ok(());
         }
-        self.repeat(start, times as usize, count.place)
+        Err(count.error("this group is not closed by ')'"))
+    }
+
+    /// Reads what stands after a `(` that starts no proper group: once, up to its `)` if it has one. What is nested too deep is passed over.
+    fn group_without_count(&mut self, nesting: usize) {
+        let end = self.groups.end(self.at);
+        self.labels.doubt();
+        self.at += 1;
+        match end {
+            None => {}
+            Some(end) if nesting == MOST_NESTING => self.at = end + 1,
+            Some(_) => {
+                self.statements(nesting + 1);
+                self.take(")");
+            }
+        }
+    }
+
+    /// Passes over parentheses after a wrong statement. Those that end in another line are perhaps a group, and are read.
+    fn pass_parentheses(&mut self, nesting: usize) {
+        while let Some(token) = self.peek().filter(|token| token.text == "(") {
+            match self.groups.end(self.at) {
+                Some(end) if self.tokens[end].place.line == token.place.line => {
+                    self.at = end + 1;
+                    self.at += self.words_from(self.at).len();
+                }
+                _ => self.group_without_count(nesting),
+            }
+        }
     }
 
     /// Makes, in front of a group, the labels that it is the first to name: a group would make them as often as it is repeated.
-    fn make_labels_of_group(&mut self) -> Result<(), TextError> {
+    /// What is wrong with a mention is said where its statement is read.
+    fn make_labels_of_group(&mut self) {
         let mut nesting = 1;
         let mut at = self.at;
         while nesting > 0
@@ -146,14 +229,13 @@ impl<'a> Reader<'a> {
                 ";" => {}
                 text => {
                     let words = self.words_from(at).to_vec();
-                    self.make_mentioned(token, &words)?;
+                    let _ = self.make_mentioned(token, &words);
                     if !text.ends_with(':') {
                         at += words.len();
                     }
                 }
             }
         }
-        Ok(())
     }
 
     /// The words from a token on, up to what separates them from the next statement.
@@ -164,63 +246,93 @@ impl<'a> Reader<'a> {
     }
 
     /// Writes out the steps from `start` on, so that they stand there `times` times.
-    fn repeat(&mut self, start: usize, times: usize, place: Span) -> Result<(), TextError> {
-        let steps = &mut self.steps;
-        let end = steps.len();
+    fn repeat(&mut self, start: usize, times: usize, place: Span) {
+        let end = self.steps.len();
         if times == 0 {
-            steps.truncate(start);
-            self.labels.recount(steps.iter().filter_map(made_call));
+            self.steps.truncate(start);
+            self.labels.recount(self.steps.iter().filter_map(made_call));
         }
-        if start == steps.len() {
-            return Ok(());
+        if start == self.steps.len() {
+            return;
         }
-        let total = (end - start).saturating_mul(times).saturating_add(start);
-        check_count(total, place)?;
-        let made = steps[start..].iter().filter_map(made_call);
+        let made = self.steps[start..].iter().filter_map(made_call);
         let new_labels = made.filter(|call| **call == Call::NewLabel).count();
         self.labels.note_repeated(new_labels, times - 1);
-        for _ in 1..times {
-            steps.extend_from_within(start..end);
+        let total = (end - start).saturating_mul(times).saturating_add(start);
+        if self.has_room(total, place) {
+            for _ in 1..times {
+                self.steps.extend_from_within(start..end);
+            }
         }
-        Ok(())
+    }
+
+    /// Whether so many calls are few enough. The first time that they are not is an error.
+    fn has_room(&mut self, calls: usize, place: Span) -> bool {
+        let Err(error) = check_count(calls, place) else {
+            return true;
+        };
+        if !std::mem::replace(&mut self.has_too_many_calls, true) {
+            self.note(error);
+        }
+        false
     }
 
     /// A directive or a call, up to what separates it from the next.
     fn statement(&mut self, name: Token<'a>, nesting: usize) -> Result<(), TextError> {
         let words = self.words_from(self.at + 1).to_vec();
         self.at += 1 + words.len();
-        match name.text {
-            "arch" | "symbols" => self.directive(name, &words)?,
-            "define" => self.define(name, &words, nesting)?,
-            _ => self.call(name, &words, nesting)?,
+        let read = match name.text {
+            "arch" | "symbols" => self.directive(name, &words),
+            "define" => self.define(name, &words, nesting),
+            _ => self.call(name, &words, nesting),
+        };
+        if read.is_err() {
+            self.make_anyway(name, &words);
+            self.pass_parentheses(nesting);
+            return read;
         }
         match self.peek() {
             Some(token) if token.text == "(" => {
+                self.group_without_count(nesting);
                 Err(token.error("'(' follows a call; a group is written COUNT ( CALLS )"))
             }
-            _ => check_count(self.steps.len(), name.place),
+            _ => Ok(()),
         }
     }
 
+    /// Makes the label that a wrong statement was to make, so that later statements are not wrong because of it.
+    fn make_anyway(&mut self, name: Token<'a>, words: &[Token<'a>]) {
+        let given = match long_word(name.text) {
+            Some("label") => words.first(),
+            Some("constant-label") => words.get(1),
+            None => return self.labels.doubt(),
+            _ => return,
+        };
+        // A name that is none, or is given already, is what was wrong.
+        let _ = given.map(|given| self.labels.name_next(*given));
+        self.push(call_step(Call::NewLabel), name.place);
+    }
+
     fn directive(&mut self, name: Token<'a>, words: &[Token<'a>]) -> Result<(), TextError> {
-        if !self.steps.is_empty() {
-            let sentence = format!("'{}' stands before the first call only", name.text);
-            return Err(name.error(sentence));
-        }
-        match words.first() {
+        let is_first = self.steps.is_empty();
+        let read = match words.first() {
             Some(first) if name.text == "symbols" && !starts_number(first.text) => {
-                let mut names = words.iter();
-                names.try_for_each(|word| self.symbols.name_next(*word))
+                self.symbols.name_all(words)
             }
-            _ => {
-                let word = self.arguments(name, words).one()?;
+            _ => self.arguments(name, words).one().and_then(|word| {
                 if name.text == "symbols" {
                     return self.symbols.set_count(word);
                 }
-                self.arch = Some(architecture(word)?);
+                let arch = architecture(word)?;
+                self.arch = self.arch.or(Some(arch).filter(|_| is_first));
                 Ok(())
-            }
+            }),
+        };
+        if is_first {
+            return read;
         }
+        let sentence = format!("'{}' stands before the first call only", name.text);
+        Err(name.error(sentence))
     }
 
     fn define(
@@ -239,7 +351,7 @@ impl<'a> Reader<'a> {
         Ok(())
     }
 
-    fn arguments<'t>(&'t self, name: Token<'a>, words: &'t [Token<'a>]) -> Arguments<'t, 'a> {
+    fn arguments<'w>(&'w self, name: Token<'a>, words: &'w [Token<'a>]) -> Arguments<'w, 'a> {
         Arguments {
             name,
             words,
@@ -273,7 +385,7 @@ impl<'a> Reader<'a> {
         self.make_mentioned(word, &[])?;
         let number = self.labels.number_of(label)?;
         self.push(call_step(Call::Bind(number)), word.place);
-        check_count(self.steps.len(), word.place)
+        Ok(())
     }
 
     /// Makes the label that a statement mentions, if it is named there for the first time.
@@ -325,9 +437,11 @@ impl<'a> Reader<'a> {
         if let Step::Call(TextCall::Call(call)) = &step {
             self.labels.note(call);
         }
-        let statement = self.statements.len() as u32;
-        self.statements.push(place);
-        self.steps.push((step, statement));
+        if self.has_room(self.steps.len() + 1, place) {
+            let statement = self.statements.len() as u32;
+            self.statements.push(place);
+            self.steps.push((step, statement));
+        }
     }
 }
 

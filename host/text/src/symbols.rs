@@ -23,8 +23,14 @@ impl<'a> Symbols<'a> {
         self.check_form(word)
     }
 
+    /// Names the next symbols, those after a wrong name too.
+    pub fn name_all(&mut self, words: &[Token<'a>]) -> Result<(), TextError> {
+        let named = words.iter().map(|word| self.name_next(*word));
+        named.fold(Ok(()), Result::and)
+    }
+
     /// Names the next symbol.
-    pub fn name_next(&mut self, word: Token<'a>) -> Result<(), TextError> {
+    fn name_next(&mut self, word: Token<'a>) -> Result<(), TextError> {
         let name = name(word)?;
         if is_numbered(word) {
             return Err(word.error(format!(
