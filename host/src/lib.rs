@@ -50,6 +50,7 @@ mod finalized;
 mod finished_recording;
 mod join;
 mod listing;
+mod open;
 mod picture;
 mod queue;
 mod recording;
@@ -71,6 +72,7 @@ pub use finalized::CodeBufferFinalized;
 pub use finished_recording::FinishedRecording;
 pub use join::{Filled, Joined, Origin, join};
 pub use listing::{Extent, JoinedRecordings, ListedPiece, Radix, Style};
+pub use open::OpenLabel;
 pub use picture::Picture;
 pub use recording::{
     AsmConstant, AsmFixup, AsmReloc, Constant, Label, LabelRef, Names, Pooled, PooledConstant,

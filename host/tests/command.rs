@@ -756,10 +756,9 @@ open
           finish               0
 ";
     assert_eq!(output.status.code(), Some(1), "a ref touches the jump");
-    let expected = expected
-        .trim_start()
-        .trim_end_matches("          finish               0\n");
-    assert_eq!(out(&output), expected);
+    let finish = "          finish               0\n";
+    let labels = "\nopen labels\n    open  label\n       1  label seven: line 3; finish binds it, as a constant's\n";
+    assert_eq!(out(&output), expected.trim_start().replace(finish, labels));
     assert!(err(&output).contains("number 17"), "{}", err(&output));
 
     let text = text.replace("ref 0 end 1", "relocation 0 0 end");
@@ -786,6 +785,10 @@ fn open_entries_are_shown_up_to_a_refusal() {
     line  call              open  statement
        1  label                0  n
        1  use                  1  u 0 0 0
+
+open labels
+    open  label
+       1  label 0: line 1
 ";
     assert_eq!(out(&output), expected);
     assert!(
@@ -817,6 +820,10 @@ fn open_entries_of_a_binary_sheet_are_shown_by_call() {
     let output = run(&["--binary", "--open", "-"], &sheet);
     assert_eq!(out(&output), "", "no call of it is made");
     assert!(err(&output).contains("number 1"), "{}", err(&output));
+    let calls = read_text("n; n; u 0 1 1; b 9090; j 0 2 1; o 0 0 l0; l 0").unwrap();
+    let output = run(&["--open", "-"], &write_sheet(&calls.calls).unwrap());
+    let expected = "\n\nopen labels\n    open  label\n       2  label 1: calls 2, 4\n";
+    assert!(out(&output).ends_with(expected), "{}", out(&output));
 }
 
 #[test]

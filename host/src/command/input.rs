@@ -6,8 +6,8 @@ use std::io::{self, Read};
 
 use sheet_text::nearest;
 use wargnifla::{
-    Arch, Call, CodeBuffer, Definition, Draft, Entry, Error, ExternalName, LayoutEvent,
-    ObjectError, Recording, Script, Sheet, Span, TextError, UNBOUND, Unwritable, read_draft,
+    Arch, Call, CodeBuffer, Definition, Draft, Entry, Error, ExternalName, Label, LayoutEvent,
+    ObjectError, Recording, Script, Sheet, Span, Sym, TextError, UNBOUND, Unwritable, read_draft,
     symbols_named,
 };
 
@@ -113,6 +113,21 @@ impl Input {
             messages.push("and further errors".into());
         }
         Err(Failure::unusable(messages.join("\n")))
+    }
+
+    /// A buffer for the sheet, with the names and definitions that it gives.
+    pub fn buffer(&self) -> CodeBuffer {
+        let mut buffer = CodeBuffer::with_symbols(self.arch, self.symbols);
+        for (label, name) in &self.names {
+            buffer.name_label(Label::from_id(*label), name);
+        }
+        for (symbol, name) in (0..).zip(&self.symbol_names) {
+            buffer.name_symbol(Sym::from_id(symbol), name);
+        }
+        for definition in &self.definitions {
+            buffer.bind_symbol(definition.symbol.clone(), Label::from_id(definition.label));
+        }
+        buffer
     }
 
     /// Records the sheet, up to the first call that is refused.

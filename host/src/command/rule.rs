@@ -2,7 +2,7 @@
 
 use std::ffi::OsStr;
 
-use wargnifla::{CodeBuffer, CodeBufferFinalized, FinishedRecording, Label, Recording, Sym};
+use wargnifla::{CodeBuffer, CodeBufferFinalized, FinishedRecording, Recording};
 
 use super::Failure;
 use super::input::Input;
@@ -19,16 +19,7 @@ pub struct Rule {
 impl Rule {
     pub fn new(options: &Options, file: &OsStr) -> Result<Self, Failure> {
         let input = Input::read(options, file)?;
-        let mut buffer = CodeBuffer::with_symbols(input.arch, input.symbols);
-        for (label, name) in &input.names {
-            buffer.name_label(Label::from_id(*label), name);
-        }
-        for (symbol, name) in (0..).zip(&input.symbol_names) {
-            buffer.name_symbol(Sym::from_id(symbol), name);
-        }
-        for definition in &input.definitions {
-            buffer.bind_symbol(definition.symbol.clone(), Label::from_id(definition.label));
-        }
+        let mut buffer = input.buffer();
         let finished = assembled(&input, &mut buffer).or_else(|failure| {
             show_open(options, &input)?;
             Err(failure)

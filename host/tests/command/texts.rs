@@ -44,8 +44,28 @@ fn open_entries_are_shown_up_to_a_half_typed_line() {
        1  bytes                0  jmp end
        1  jump                 1  jmp end
        2  bytes                1  bytes 90
+
+open labels
+    open  label
+       1  label end: line 1
 ";
     assert_eq!(out(&output), expected);
     assert!(err(&output).starts_with("standard input:3: 'ju' is no call"));
     assert_eq!(output.status.code(), Some(2));
+}
+
+#[test]
+fn open_labels_are_shown_with_the_lines_that_name_them() {
+    let text = "jmp end\nje end; zeros 4\nref 7 out 0\n2 ( relocation 7 Abs4 end )\nrelocation 7 Abs4 in\nin:\n";
+    let output = run(&["--open", "-"], text.as_bytes());
+    let expected = "
+
+open labels
+    open  label
+       4  label end: lines 1, 2, 4
+       1  label out: line 3
+";
+    assert!(out(&output).ends_with(expected), "{}", out(&output));
+    assert!(err(&output).contains("number 15"), "{}", err(&output));
+    assert_eq!(output.status.code(), Some(1));
 }

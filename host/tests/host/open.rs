@@ -1,8 +1,8 @@
 //! Request Five: how many entries name a label that is not bound.
 
 use wargnifla::{
-    Arch, CodeBuffer, Label, LayoutEvent, MOST_ENTRIES, Recording, RelaxableJump, RelocTarget,
-    UNBOUND, read_text, write_sheet,
+    Arch, CodeBuffer, Entry, Label, LayoutEvent, MOST_ENTRIES, OpenLabel, Recording, RelaxableJump,
+    RelocTarget, UNBOUND, read_text, write_sheet,
 };
 
 use crate::lent::{EVENTS, LABELS, Lent, OPEN, RELOCS, USES};
@@ -24,6 +24,40 @@ fn counted(recording: &Recording) -> u32 {
     let is_open = |label: &Label| recording.labels[label.id() as usize] == UNBOUND;
     let open = uses.chain(refs).chain(jumps).chain(relocs).filter(is_open);
     open.count() as u32
+}
+
+/// Checks that the open labels are not bound, and have as many entries as are open.
+fn check_open_labels(recording: &Recording) {
+    let open = recording.open_labels();
+    let numbers: Vec<u32> = open.iter().map(|open| open.label.id()).collect();
+    assert!(numbers.is_sorted_by(|a, b| a < b));
+    let is_open = |label: &u32| recording.labels[*label as usize] == UNBOUND;
+    assert!(numbers.iter().all(is_open));
+    let entries: usize = open.iter().map(|open| open.entries.len()).sum();
+    assert_eq!(entries as u32, recording.open);
+    assert!(open.iter().all(|open| !open.entries.is_empty()));
+}
+
+#[test]
+fn open_labels_have_their_entries() {
+    let calls = "n; n; n; n; u 0 3 0; r 4 0 0; z 8; a 4; z 5; j 8 5 0; o 0 0 s0; o 0 0 l0; u 0 1 0; u 9 0 0; l 1";
+    let mut buffer = CodeBuffer::with_symbols(Arch::X64, 1);
+    for call in &read_text(calls).unwrap().calls {
+        buffer.call(call).unwrap();
+        check_open_labels(&buffer.recording());
+    }
+    let label = |id, entries: &[Entry]| OpenLabel {
+        label: Label::from_id(id),
+        entries: entries.into(),
+    };
+    let of_0 = [
+        Entry::Use(2),
+        Entry::Ref(0),
+        Entry::Event(1),
+        Entry::Reloc(1),
+    ];
+    let expected = [label(0, &of_0), label(3, &[Entry::Use(0)])];
+    assert_eq!(buffer.recording().open_labels(), expected);
 }
 
 #[test]
@@ -74,6 +108,7 @@ fn the_number_is_kept_at_random_and_by_refused_calls() {
                 let is_refused = buffer.call(call).is_err();
                 assert_eq!(buffer.open(), counted(&buffer.recording()), "{text}");
                 assert!(!is_refused || buffer.open() == before, "{text}");
+                check_open_labels(&buffer.recording());
             }
         }
         let before = buffer.open();
