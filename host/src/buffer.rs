@@ -16,7 +16,7 @@ use crate::recording::{
 };
 use crate::sheet::{Sheet, extended};
 use crate::tables::{Counts, TableName, Tables};
-use crate::unpatched::unpatched;
+use crate::unpatched::{unasked_constants, unpatched};
 use crate::verified::{self, Record};
 use crate::{
     Arch, Call, CodeOffset, Condition, Error, ExternalName, LabelUse, MOST_CODE, MOST_ENTRIES,
@@ -842,6 +842,7 @@ impl CodeBuffer {
             record,
             segments,
             unpatched: unpatched(tables, &self.unread),
+            unasked_constants: unasked_constants(tables),
             names: tables.names.clone(),
             definitions: self.definitions.clone(),
             has_page_fields: has_page_fields(tables),

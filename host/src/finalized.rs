@@ -2,7 +2,7 @@
 
 use crate::contents::Contents;
 use crate::ffi::Segment;
-use crate::recording::{AsmReloc, Label, Names};
+use crate::recording::{AsmReloc, Constant, Label, Names};
 use crate::tables::bound;
 use crate::verified::Record;
 use crate::{Arch, CodeOffset, ExternalName, Unpatched};
@@ -17,6 +17,7 @@ pub struct CodeBufferFinalized {
     pub(crate) record: Record,
     pub(crate) segments: Vec<Segment>,
     pub(crate) unpatched: Vec<Unpatched>,
+    pub(crate) unasked_constants: Vec<Constant>,
     /// Those that labels and symbols had at finish.
     pub(crate) names: Names,
     /// The symbols that labels define; likewise.
@@ -157,5 +158,22 @@ impl CodeBufferFinalized {
     /// joined code its pieces know.
     pub fn unpatched(&self) -> &[Unpatched] {
         &self.unpatched
+    }
+
+    /// The constants that are not in the code, since their labels were never [asked for](crate::CodeBuffer::get_label_for_constant). Of joined code its
+    /// pieces know.
+    ///
+    /// ```
+    /// use wargnifla::{Arch, CodeBuffer};
+    ///
+    /// # fn main() -> Result<(), wargnifla::Error> {
+    /// let mut buffer = CodeBuffer::new(Arch::X64);
+    /// let forgotten = buffer.add_constant(&[7; 8])?;
+    /// assert_eq!(buffer.finish()?.unasked_constants(), [forgotten]);
+    /// # Ok(())
+    /// # }
+    /// ```
+    pub fn unasked_constants(&self) -> &[Constant] {
+        &self.unasked_constants
     }
 }

@@ -175,6 +175,7 @@ fn joined(pieces: &Pieces<'_>, whole: Whole) -> Joined {
             record: whole.record,
             segments: Vec::new(),
             unpatched: Vec::new(),
+            unasked_constants: Vec::new(),
             names: pieces.names(),
             definitions: pieces.definitions(),
             has_page_fields: pieces.all.iter().any(|piece| piece.code.has_page_fields),

@@ -3,7 +3,7 @@
 use std::collections::HashSet;
 
 use crate::tables::Tables;
-use crate::{Arch, Call, Label, LabelUse};
+use crate::{Arch, Call, Constant, Label, LabelUse};
 
 /// A jump, ref or use that was accepted and that finish did not write.
 #[derive(Clone, Debug, PartialEq, Eq)]
@@ -80,6 +80,18 @@ pub(crate) fn unpatched(tables: &Tables, unread: &[Call]) -> Vec<Unpatched> {
         entries.extend(refs.map(|call| entry(call, WhyUnpatched::NoJump)));
     }
     entries
+}
+
+/// The constants that finish does not pool.
+pub(crate) fn unasked_constants(tables: &Tables) -> Vec<Constant> {
+    if tables.asked_count() == tables.constant_count() {
+        return Vec::new();
+    }
+    let labels = (0..).zip(tables.constant_labels());
+    let unasked = labels.filter(|(_, label)| label.is_none());
+    unasked
+        .map(|(number, _)| Constant::from_id(number))
+        .collect()
 }
 
 /// What finish fills, by where it ends, since a jump's displacement ends with the jump whatever its form.

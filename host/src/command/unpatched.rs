@@ -9,7 +9,7 @@ use wargnifla::{Arch, Call, CodeBufferFinalized, Label, Unpatched, WhyUnpatched}
 use super::input::Input;
 use super::options::Options;
 
-/// A line for each kind of what finish did not write, with the lines of the sheet that it comes from. `whose` names the sheet where there are more.
+/// A line for each kind of what finish did not write, and for the constants that it did not pool, with the lines of the sheet that it comes from. `whose` names the sheet where there are more.
 pub fn notes(whose: &str, input: &Input, finished: &CodeBufferFinalized) -> String {
     let mut groups: Vec<Group> = Vec::new();
     let mut jumps = input.calls_where(|call| matches!(call, Call::Jump { .. }));
@@ -33,6 +33,7 @@ pub fn notes(whose: &str, input: &Input, finished: &CodeBufferFinalized) -> Stri
         let what = group.text(finished.arch());
         let _ = writeln!(out, "note: {whose}{what} ({places})");
     }
+    out += &unasked_note(whose, input, finished);
     let is_not_kept = |group: &Group| group.why == WhyUnpatched::NotKept;
     if let Some(note) = input
         .unsaid_arch()
@@ -65,6 +66,27 @@ pub fn definition_notes(
         input.said_at(definition.label_place, &sentence)
     });
     notes.map(|note| note + "\n").collect()
+}
+
+/// A line for the constants that no call asks for.
+fn unasked_note(whose: &str, input: &Input, finished: &CodeBufferFinalized) -> String {
+    let constants: Vec<usize> = input
+        .calls_where(|call| matches!(call, Call::Constant(_)))
+        .collect();
+    let unasked = finished.unasked_constants().iter();
+    let calls: Vec<usize> = unasked
+        .map(|unasked| constants[unasked.id() as usize])
+        .collect();
+    let (is, them) = match calls.len() {
+        0 => return String::new(),
+        1 => ("is", "it"),
+        _ => ("are", "them"),
+    };
+    let constants = counted(calls.len(), "constant");
+    let places = input.where_are(&calls);
+    format!(
+        "note: {whose}{constants} {is} not in the code, since no constant-label asks for {them} ({places})\n"
+    )
 }
 
 /// Entries of one kind.

@@ -69,3 +69,69 @@ open labels
     assert!(err(&output).contains("number 15"), "{}", err(&output));
     assert_eq!(output.status.code(), Some(1));
 }
+
+#[test]
+fn a_constant_that_no_call_asks_for_is_said_with_its_line() {
+    let output = run(&["-"], b"bytes 90\nconstant 00 00\n");
+    let note =
+        "note: 1 constant is not in the code, since no constant-label asks for it (line 2)\n";
+    assert_eq!(err(&output), note);
+    assert_eq!(output.status.code(), Some(0));
+    let text = b"constant 01\nconstant 02; constant-label 1\n2 ( constant 03 )\n\nconstant 04";
+    let output = run(&["-"], text);
+    let note = "note: 4 constants are not in the code, since no constant-label asks for them (lines 1, 3, 5)\n";
+    assert_eq!(err(&output), note);
+    let output = run(&["--join", "-"], b"c 01");
+    assert!(err(&output).starts_with("note: standard input: 1 constant is"));
+}
+
+/// Checks that a text is wrong by one sentence, with a note at a second place.
+fn is_wrong(text: &str, expected: &str) {
+    fails(&run(&["-"], text.as_bytes()), 2, expected);
+}
+
+#[test]
+fn a_second_name_of_a_constant_is_an_error() {
+    is_wrong(
+        "constant 01\nconstant-label 0 one\nconstant-label 0 eins\ndefine s0 eins\n",
+        "standard input:3: the label of constant 0 has the name 'one' already, and can't have 'eins' too
+    constant-label 0 eins
+                     ^^^^
+standard input:2: note: the name is given here
+    constant-label 0 one
+                     ^^^",
+    );
+    let again = b"constant 01\nconstant-label 0 one\nconstant-label 0 one\nconstant-label 0\n";
+    assert_eq!(run(&["-"], again).status.code(), Some(0));
+}
+
+#[test]
+fn architecture_and_count_of_symbols_are_said_once() {
+    is_wrong(
+        "arch x64\nsymbols a; arch aarch64\njmp end\nend:",
+        "standard input:2: the architecture is said already
+    symbols a; arch aarch64
+               ^^^^
+standard input:1: note: it is said here
+    arch x64
+    ^^^^",
+    );
+    is_wrong(
+        "symbols 3; symbols 3",
+        "standard input:1: the symbols are counted already
+    symbols 3; symbols 3
+                       ^
+standard input:1: note: they are counted here
+    symbols 3; symbols 3
+            ^",
+    );
+    is_wrong(
+        "symbols puts\nsymbols 5",
+        "standard input:2: symbols are counted or named, and a text can't do both
+    symbols 5
+            ^
+standard input:1: note: the first is here
+    symbols puts
+            ^^^^",
+    );
+}

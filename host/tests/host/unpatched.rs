@@ -74,3 +74,19 @@ fn a_jump_whose_displacement_is_a_use_is_filled_on_x86() {
     let with_use = format!("{text} u 1 0 0");
     assert_eq!(whys(Arch::X86, &with_use), [(WhyUnpatched::NotKept, true)]);
 }
+
+#[test]
+fn constants_that_are_not_asked_for_are_named() {
+    for arch in Arch::ALL {
+        let unasked = |text: &str| -> Vec<u32> {
+            let mut buffer = crate::recorded(arch, text).unwrap();
+            let finished = buffer.finish().unwrap();
+            let unasked = finished.unasked_constants().iter();
+            unasked.map(|constant| constant.id()).collect()
+        };
+        assert_eq!(unasked("c 01; c 02; c; k 1"), [0, 2]);
+        assert_eq!(unasked("c 01; c 01; k 1; k 1"), [0]);
+        assert_eq!(unasked("c 01; k 0; c 02; k 1"), []);
+        assert_eq!(unasked("b 90"), []);
+    }
+}

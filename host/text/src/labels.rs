@@ -14,6 +14,8 @@ pub(crate) struct Labels<'a> {
     /// The label of each constant that was asked for.
     asked: HashMap<u32, u32>,
     named: HashMap<&'a str, Named>,
+    /// Where the labels of constants are given their names.
+    names_of_constants: HashMap<u32, Token<'a>>,
     /// The names of labels that no call of the text makes, by number: their first mention does.
     unwritten: HashMap<u32, &'a str>,
     /// Whether a wrong statement may have made labels that are not known here. Then no number is wrong, and none is sure: such a text is read again, up
@@ -90,10 +92,24 @@ impl<'a> Labels<'a> {
         self.insert(name, self.count)
     }
 
-    /// Gives a name to the label of a constant.
+    /// Gives a name to the label of a constant, or the same name once more.
     pub fn name_of_constant(&mut self, name: Token<'a>, constant: u32) -> Result<(), TextError> {
         let label = self.asked.get(&constant).copied();
-        self.insert(name, label.unwrap_or(self.count))
+        match self.names_of_constants.get(&constant) {
+            Some(first) if first.text == name.text => Ok(()),
+            Some(first) => Err(name
+                .error(format!(
+                    "the label of constant {constant} has the name {} already, and can't have {} too",
+                    first.quoted(),
+                    name.quoted()
+                ))
+                .with_note(Some(first.place), "the name is given here")),
+            None => {
+                self.insert(name, label.unwrap_or(self.count))?;
+                self.names_of_constants.insert(constant, name);
+                Ok(())
+            }
+        }
     }
 
     /// Gives a name to the label that is made because it is first mentioned here.

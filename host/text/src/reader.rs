@@ -53,7 +53,7 @@ pub(crate) fn read_steps(tokens: &[Token<'_>], end: usize) -> (Steps, Vec<TextEr
     let (definitions, wrong) = definitions(&reader.defines, &reader.labels, &reader.symbols);
     errors.extend(wrong);
     let steps = Steps {
-        arch: reader.arch,
+        arch: reader.arch.map(|(arch, _)| arch),
         symbols: reader.symbols.count(),
         steps: reader.steps,
         statements: reader.statements,
@@ -78,7 +78,8 @@ struct Reader<'t, 'a> {
     at: usize,
     /// Where reading ends.
     end: usize,
-    arch: Option<Arch>,
+    /// The architecture, and where it is said.
+    arch: Option<(Arch, Span)>,
     symbols: Symbols<'a>,
     steps: Vec<(Step, u32)>,
     statements: Vec<Span>,
@@ -302,37 +303,57 @@ impl<'a> Reader<'_, 'a> {
 
     /// Makes the label that a wrong statement was to make, so that later statements are not wrong because of it.
     fn make_anyway(&mut self, name: Token<'a>, words: &[Token<'a>]) {
-        let given = match long_word(name.text) {
+        let known = long_word(name.text);
+        let given = match known {
             Some("label") => words.first(),
             Some("constant-label") => words.get(1),
-            None => return self.labels.doubt(),
-            _ => return,
+            _ => None,
         };
         // A name that is none, or is given already, is what was wrong.
         let _ = given.map(|given| self.labels.name_next(*given));
-        self.push(call_step(Call::NewLabel), name.place);
+        match known {
+            Some("label") => self.push(call_step(Call::NewLabel), name.place),
+            Some("constant-label") | None => self.labels.doubt(),
+            Some(_) => {}
+        }
     }
 
     fn directive(&mut self, name: Token<'a>, words: &[Token<'a>]) -> Result<(), TextError> {
         let is_first = self.steps.is_empty();
-        let read = match words.first() {
-            Some(first) if name.text == "symbols" && !starts_number(first.text) => {
-                self.symbols.name_all(words)
-            }
-            _ => self.arguments(name, words).one().and_then(|word| {
-                if name.text == "symbols" {
-                    return self.symbols.set_count(word);
-                }
-                let arch = architecture(word)?;
-                self.arch = self.arch.or(Some(arch).filter(|_| is_first));
-                Ok(())
-            }),
+        let read = match name.text {
+            "symbols" => self.count_or_name_symbols(name, words),
+            _ if is_first => self.set_arch(name, words),
+            _ => Ok(()),
         };
         if is_first {
             return read;
         }
         let sentence = format!("'{}' stands before the first call only", name.text);
         Err(name.error(sentence))
+    }
+
+    fn count_or_name_symbols(
+        &mut self,
+        name: Token<'a>,
+        words: &[Token<'a>],
+    ) -> Result<(), TextError> {
+        match words.first() {
+            Some(first) if !starts_number(first.text) => self.symbols.name_all(words),
+            _ => {
+                let count = self.arguments(name, words).one()?;
+                self.symbols.set_count(count)
+            }
+        }
+    }
+
+    fn set_arch(&mut self, name: Token<'a>, words: &[Token<'a>]) -> Result<(), TextError> {
+        let arch = architecture(self.arguments(name, words).one()?)?;
+        if let Some((_, first)) = self.arch {
+            let error = name.error("the architecture is said already");
+            return Err(error.with_note(Some(first), "it is said here"));
+        }
+        self.arch = Some((arch, name.place));
+        Ok(())
     }
 
     fn define(

@@ -10,7 +10,8 @@ use crate::{ExternalName, Span, TextError};
 /// The symbols that a text counts or names before its first call.
 #[derive(Default)]
 pub(crate) struct Symbols<'a> {
-    count: Option<u32>,
+    /// How many there are, and where that is said.
+    counted: Option<(u32, Span)>,
     /// By number from 0.
     named: Vec<Token<'a>>,
     numbers: HashMap<&'a str, u32>,
@@ -19,8 +20,16 @@ pub(crate) struct Symbols<'a> {
 impl<'a> Symbols<'a> {
     /// Notes how many there are.
     pub fn set_count(&mut self, word: Token<'a>) -> Result<(), TextError> {
-        self.count = Some(number(word)?);
-        self.check_form(word)
+        let count = number(word)?;
+        if let Some((_, first)) = self.counted {
+            let error = word.error("the symbols are counted already");
+            return Err(error.with_note(Some(first), "they are counted here"));
+        }
+        self.counted = Some((count, word.place));
+        match self.named.first() {
+            Some(first) => Err(counted_and_named(word, first.place)),
+            None => Ok(()),
+        }
     }
 
     /// Names the next symbols, those after a wrong name too.
@@ -46,14 +55,10 @@ impl<'a> Symbols<'a> {
         }
         self.numbers.insert(name, self.named.len() as u32);
         self.named.push(word);
-        self.check_form(word)
-    }
-
-    fn check_form(&self, word: Token<'_>) -> Result<(), TextError> {
-        if self.count.is_some() && !self.named.is_empty() {
-            return Err(word.error("symbols are counted or named, and a text can't do both"));
+        match self.counted {
+            Some((_, first)) => Err(counted_and_named(word, first)),
+            None => Ok(()),
         }
-        Ok(())
     }
 
     /// A word that is to be a label's name, which no symbol may have.
@@ -90,7 +95,7 @@ impl<'a> Symbols<'a> {
     /// How many there are, if the text says.
     pub fn count(&self) -> Option<u32> {
         match self.named.len() {
-            0 => self.count,
+            0 => self.counted.map(|(count, _)| count),
             many => Some(many as u32),
         }
     }
@@ -100,4 +105,9 @@ impl<'a> Symbols<'a> {
         let names = self.named.iter();
         names.map(|word| word.text.to_owned()).collect()
     }
+}
+
+fn counted_and_named(word: Token<'_>, first: Span) -> TextError {
+    let error = word.error("symbols are counted or named, and a text can't do both");
+    error.with_note(Some(first), "the first is here")
 }
