@@ -10,6 +10,7 @@ mod join_boundary;
 mod join_refusals;
 mod joined_listings;
 mod joins;
+mod kinds;
 mod lent;
 mod limits;
 mod listings;

@@ -260,6 +260,15 @@ impl LabelUse {
         find_by_name(&Self::ALL, name)
     }
 
+    /// The architectures that take uses of this kind; to the others it is foreign. None takes a kind that is known by number only.
+    pub const fn archs(self) -> &'static [Arch] {
+        match self.code() {
+            0..=1 => &[Arch::X86, Arch::X64],
+            9..=14 | 16 => &[Arch::AArch64],
+            _ => &[],
+        }
+    }
+
     /// The bytes of a field of a kind that recordings keep.
     pub const fn patch_size(self) -> u32 {
         match self {
@@ -379,6 +388,16 @@ impl Reloc {
     /// The kind of a name, in capitals or not.
     pub fn from_name(name: &str) -> Option<Self> {
         find_by_name(&Self::ALL, name)
+    }
+
+    /// The architectures that take relocations of this kind; to the others it is foreign.
+    pub const fn archs(self) -> &'static [Arch] {
+        match self.number() {
+            0..=1 => &Arch::ALL,
+            2..=6 | 9..=10 => &[Arch::X86, Arch::X64],
+            8 | 11..=21 => &[Arch::AArch64],
+            _ => &[],
+        }
     }
 
     /// The bytes that it applies to.
