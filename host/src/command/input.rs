@@ -4,7 +4,7 @@ use std::ffi::OsStr;
 use std::fs;
 use std::io::{self, Read};
 
-use sheet_text::nearest;
+use sheet_text::{nearest, shown};
 use wargnifla::{
     Arch, Call, CodeBuffer, Definition, Draft, Entry, Error, ExternalName, Label, LayoutEvent,
     ObjectError, Recording, Script, Sheet, Span, Sym, TextError, UNBOUND, Unwritable, read_draft,
@@ -12,7 +12,7 @@ use wargnifla::{
 };
 
 use super::Failure;
-use super::calls::{binding, call_of_entry, second_place, wrong_word};
+use super::calls::{binding, call_of_entry, making, second_place, wrong_word};
 use super::options::{Form, Options, input_text, is_dash};
 use super::source::{Source, TextSource, form_of, malformed, placed, text_of};
 
@@ -156,7 +156,9 @@ impl Input {
         let [name, count] = words[..] else {
             return error.to_string();
         };
-        if error.number() != 12 || !matches!(source.word(name), "zeros" | "z") {
+        let name = source.word(name);
+        let is_zeros = name.eq_ignore_ascii_case("zeros") || name.eq_ignore_ascii_case("z");
+        if error.number() != 12 || !is_zeros {
             return error.to_string();
         }
         let before = self.bytes_of_statement(source, call, source.word(count));
@@ -311,13 +313,17 @@ impl Input {
         ))
     }
 
-    /// A bound label, or in a relocation a symbol, with nearly the name of a label that is not bound.
+    /// What a name was perhaps meant to be that made a label which is not bound: a bound label's name, or in a relocation a symbol's.
     fn meant_label(&self, call: usize, error: &Error, recording: &Recording) -> String {
         let (15, Source::Text(source)) = (error.number(), &self.source) else {
             return String::new();
         };
         let made = &self.calls[call];
         let place = source.place(call, made, wrong_word(made, error));
+        let word = source.word(place);
+        let Some((label, _)) = self.names.iter().find(|(_, name)| name == word) else {
+            return String::new();
+        };
         let bound = self.names.iter().filter(|(label, _)| {
             let offset = recording.labels.get(*label as usize);
             offset.is_some_and(|offset| *offset != UNBOUND)
@@ -327,12 +333,32 @@ impl Input {
             _ => &[],
         };
         let meant = bound.map(|(_, name)| name).chain(symbols);
-        let word = source.word(place);
-        let is_name = self.names.iter().any(|(_, name)| name == word);
         match nearest(word, meant.map(String::as_str)) {
-            Some(near) if is_name => format!("\nnote: did you mean '{near}'?"),
-            _ => String::new(),
+            Some(near) => format!("\nnote: did you mean '{near}'?"),
+            None if self.looks_like_symbol(source, *label, word, recording) => {
+                format!("\nnote: is 'symbols {}' missing?", shown(word))
+            }
+            None => String::new(),
         }
+    }
+
+    /// Whether no call but relocations has to do with a label: their first mention of its name makes it.
+    fn looks_like_symbol(
+        &self,
+        source: &TextSource,
+        label: u32,
+        name: &str,
+        recording: &Recording,
+    ) -> bool {
+        let made = making(&self.calls, label);
+        let is_made_by_mention = made.is_some_and(|made| {
+            // A call that makes the label would have words beside the name.
+            source.word(source.statement(made)) == name
+        });
+        let mut open = recording.open_labels().into_iter();
+        let open = open.find(|open| open.label.id() == label);
+        let is_relocation = |entry: &Entry| matches!(entry, Entry::Reloc(_));
+        is_made_by_mention && open.is_some_and(|open| open.entries.iter().all(is_relocation))
     }
 
     pub fn unwritable(&self, error: &Unwritable) -> Failure {

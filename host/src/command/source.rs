@@ -54,7 +54,10 @@ impl TextSource {
     pub fn place(&self, call: usize, made: &Call, word: usize) -> Span {
         let words = self.words(call);
         let first = words.first().map_or("", |first| self.word(*first));
-        let is_named_jump = first.len() > 1 && !matches!(first, "jump" | "use");
+        let is_call = ["jump", "use"]
+            .iter()
+            .any(|call| first.eq_ignore_ascii_case(call));
+        let is_named_jump = first.len() > 1 && !is_call;
         let word = match made {
             Call::Jump { .. } if is_named_jump => usize::from(word == 3),
             Call::Use { .. } if is_named_jump => usize::from(word == 2),

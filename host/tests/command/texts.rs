@@ -135,3 +135,56 @@ standard input:1: note: the first is here
             ^^^^",
     );
 }
+
+#[test]
+fn instructions_and_comments_of_other_assemblers_are_understood() {
+    let text = "push rbp ; save it\ncall puts\n; this is a comment\nbytes 90 # this is\nb.eq end\n";
+    let output = run(&["-"], text.as_bytes());
+    let is_instruction = "is an instruction, and a sheet has none but jumps: write its bytes";
+    for expected in [
+        format!(
+            ":1: 'push' {is_instruction}; on x86, 'bytes C3' is a ret\n    push rbp ; save it\n    ^^^^\n"
+        ),
+        ":1: 'save' is no call\n    push rbp ; save it\n               ^^^^\n\
+         note: ';' separates calls, and '#' starts a comment\n"
+            .into(),
+        format!(":2: 'call' {is_instruction}"),
+        ":3: 'this' is no call\n".into(),
+        format!(":5: 'b.eq' {is_instruction}; on AArch64, 'bytes C0 03 5F D6' is a ret\n"),
+    ] {
+        assert!(err(&output).contains(&expected), "{}", err(&output));
+    }
+    assert_eq!(err(&output).matches("standard input:").count(), 5);
+    assert_eq!(output.status.code(), Some(2));
+}
+
+#[test]
+fn a_relocation_to_an_unknown_name_asks_for_its_symbol() {
+    let asks = |text: &str| {
+        let output = run(&["-"], text.as_bytes());
+        assert!(err(&output).contains("number 15"), "{}", err(&output));
+        err(&output).ends_with("\nnote: is 'symbols puts' missing?\n")
+    };
+    let call = "bytes E8 00 00 00 00\nrelocation 1 X86CallPLTRel4 puts -4\n";
+    assert!(asks(call));
+    assert!(asks(&format!("symbols exit\n2 ( {call} )")));
+    assert!(
+        !asks(&format!("symbols put\n{call}")),
+        "did you mean 'put'?"
+    );
+    assert!(!asks(&format!("label puts\n{call}")));
+    assert!(!asks(&format!("{call}jmp puts\n")));
+}
+
+#[test]
+fn words_in_capitals_are_marked_as_others_are() {
+    let output = run(&["-"], b"ARCH AMD64\nLABEL end; BYTES 90 90\nJUMP 0 2 7\n");
+    let marked = "    JUMP 0 2 7\n             ^\n";
+    assert!(err(&output).ends_with(marked), "{}", err(&output));
+    let output = run(&["--arch", "X86_64", "-"], b"ZEROS 0xFFFFFFFF\n");
+    assert!(
+        err(&output).contains("zeros: number 12"),
+        "{}",
+        err(&output)
+    );
+}

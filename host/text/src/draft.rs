@@ -270,7 +270,7 @@ mod tests {
 
     #[test]
     fn notes_without_a_place_are_said_once() {
-        let errors = draft("x; y\nlabel a; label a; label a").errors;
+        let errors = draft("x\ny\nlabel a; label a; label a").errors;
         let notes: Vec<usize> = errors.iter().map(|error| error.notes.len()).collect();
         assert_eq!(notes, [1, 0, 1, 1]);
     }

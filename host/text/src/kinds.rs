@@ -27,9 +27,25 @@ impl Arch {
         Self::ALL.into_iter().find(|arch| arch.number() == number)
     }
 
-    /// The architecture of a name, in capitals or not.
+    /// Names that others use.
+    const OTHER_NAMES: [(&'static str, Self); 5] = [
+        ("i386", Self::X86),
+        ("amd64", Self::X64),
+        ("x86_64", Self::X64),
+        ("x86-64", Self::X64),
+        ("arm64", Self::AArch64),
+    ];
+
+    /// The architecture of a name, in capitals or not: `amd64`, `x86_64` and `x86-64` as well as `x64`, `arm64` as well as `aarch64`, and `i386` as well
+    /// as `x86`.
     pub fn from_name(name: &str) -> Option<Self> {
-        find_by_name(&Self::ALL, name)
+        find_by_name(&Self::ALL, name).or_else(|| find_other(&Self::OTHER_NAMES, name))
+    }
+
+    /// Every name that an architecture goes by.
+    pub(crate) fn names() -> impl Iterator<Item = &'static str> {
+        let others = Self::OTHER_NAMES.into_iter().map(|(name, _)| name);
+        ["x86", "x64", "aarch64"].into_iter().chain(others)
     }
 
     /// Whether recordings keep events and refs, so that finish can relax jumps.
@@ -120,11 +136,14 @@ impl Condition {
 
     /// The condition of a name, in capitals or not: one of Intel's, `nz` as well as `ne`.
     pub fn from_name(name: &str) -> Option<Self> {
-        find_by_name(&Self::ALL, name).or_else(|| {
-            let mut others = Self::OTHER_NAMES.into_iter();
-            let other = others.find(|(other, _)| other.eq_ignore_ascii_case(name));
-            other.map(|(_, condition)| condition)
-        })
+        find_by_name(&Self::ALL, name).or_else(|| find_other(&Self::OTHER_NAMES, name))
+    }
+
+    /// Every name that a condition goes by.
+    pub(crate) fn names() -> impl Iterator<Item = String> {
+        let others = Self::OTHER_NAMES.into_iter().map(|(name, _)| name.into());
+        let first = Self::ALL.into_iter().map(|condition| condition.to_string());
+        first.chain(others)
     }
 }
 
@@ -425,6 +444,12 @@ fn find_by_name<T: Copy + fmt::Debug>(all: &[T], name: &str) -> Option<T> {
         .find(|kind| format!("{kind:?}").eq_ignore_ascii_case(name))
 }
 
+fn find_other<T: Copy>(others: &[(&str, T)], name: &str) -> Option<T> {
+    let mut others = others.iter();
+    let other = others.find(|(other, _)| other.eq_ignore_ascii_case(name));
+    other.map(|(_, kind)| *kind)
+}
+
 #[cfg(test)]
 mod tests {
     use super::*;
@@ -455,7 +480,20 @@ mod tests {
 
     #[test]
     fn names_are_found_in_any_case() {
-        assert_eq!(Arch::from_name("aarch64"), Some(Arch::AArch64));
+        for (name, arch) in [
+            ("aarch64", Arch::AArch64),
+            ("Arm64", Arch::AArch64),
+            ("X86", Arch::X86),
+            ("i386", Arch::X86),
+            ("x64", Arch::X64),
+            ("amd64", Arch::X64),
+            ("x86_64", Arch::X64),
+            ("X86-64", Arch::X64),
+        ] {
+            assert_eq!(Arch::from_name(name), Some(arch), "{name}");
+        }
+        assert!(Arch::names().all(|name| Arch::from_name(name).is_some()));
+        assert!(Condition::names().all(|name| Condition::from_name(&name).is_some()));
         assert_eq!(LabelUse::from_name("a64adr21"), Some(LabelUse::A64Adr21));
         assert_eq!(Reloc::from_name("X86PCRel4"), Some(Reloc::X86PCRel4));
         assert_eq!(Condition::from_name("nE"), Some(Condition::Ne));

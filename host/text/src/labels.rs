@@ -2,7 +2,7 @@
 
 use std::collections::HashMap;
 
-use crate::suggest::nearest;
+use crate::suggest::meant;
 use crate::tokens::Token;
 use crate::words::{number, starts_number};
 use crate::{Call, Span, TextError, counted};
@@ -162,8 +162,7 @@ impl<'a> Labels<'a> {
         }
         let mut names: Vec<&str> = self.named.keys().copied().collect();
         names.sort_unstable();
-        let meant = nearest(word.text, names)
-            .map_or(String::new(), |near| format!("; did you mean '{near}'?"));
+        let meant = meant(word.text, names).unwrap_or_default();
         Err(word.error(format!("there is no label {}{meant}", word.quoted())))
     }
 

@@ -13,6 +13,7 @@ mod call;
 mod definitions;
 mod draft;
 mod groups;
+mod instructions;
 mod kinds;
 mod labels;
 mod padding;
@@ -96,6 +97,7 @@ pub fn read_text<C>(
 #[cfg(test)]
 mod tests {
     use super::*;
+    use crate::text_call::COMMENT;
 
     fn read(text: &str) -> Result<Script<TextCall>, TextError> {
         read_text(text, None, |call, calls| {
@@ -343,9 +345,71 @@ mod tests {
         );
         fails("jmpp end", 1, "did you mean 'jmp'?");
         fails("hop 3", 1, "'hop' is no call");
+        let error = read("mov rax, 1").unwrap_err();
+        let expected = "'mov' is an instruction, and a sheet has none but jumps: \
+                        write its bytes; on x86, 'bytes C3' is a ret";
+        assert_eq!(error.sentence, expected);
         let error = read(&"x".repeat(1000)).unwrap_err();
         assert!(error.sentence.len() < 60, "{error}");
         fails("\u{1b}[31m", 1, "'\\u{1b}[31m' is no call");
+    }
+
+    #[test]
+    fn what_looks_like_a_comment_is_told_how_one_starts() {
+        let note = |text: &str| {
+            let notes = read(text).unwrap_err().notes;
+            notes.iter().any(|note| note.sentence == COMMENT)
+        };
+        assert!(note("; this is a comment"));
+        assert!(note("bytes 90 ; then add one"));
+        assert!(note("// this"));
+        assert!(!note("bytes 90\nthen"));
+        assert!(!note("bytes 90; zeros x"));
+    }
+
+    #[test]
+    fn words_are_read_in_any_case() {
+        let lower = "arch x64; symbols puts; define a End\nlabel End; bind End; bytes 0f; zeros 3; align 16; \
+                     use 1 End x86jmprel32; ref 1 End x86branchrel8; jump 0 5 End ne; jne End; constant 01; \
+                     constant-label 0 pi; relocation 4 abs8 puts; jump 0 5 End always; finish";
+        let upper = "ARCH X64; SYMBOLS puts; DEFINE a End\nLABEL End; BIND End; BYTES 0F; ZEROS 3; ALIGN 16; \
+                     USE 1 End X86JMPREL32; REF 1 End X86BRANCHREL8; JUMP 0 5 End NE; JNE End; CONSTANT 01; \
+                     CONSTANT-LABEL 0 pi; RELOCATION 4 ABS8 puts; JUMP 0 5 End ALWAYS; FINISH";
+        assert_eq!(read(upper), read(lower));
+        assert_eq!(calls(upper).len(), 15);
+        assert_eq!(
+            calls("N; L 0; B 0F; Z 3; A 4; U 0 0 0; R 0 0 0; J 0 5 0; C 01; K 0; O 0 0 l0"),
+            calls("n; l 0; b 0F; z 3; a 4; u 0 0 0; r 0 0 0; j 0 5 0; c 01; k 0; o 0 0 l0")
+        );
+        assert_eq!(calls("n; label End; bind end"), calls("n; n; n; l 2"));
+    }
+
+    #[test]
+    fn words_that_are_nearly_right_are_suggested() {
+        fails(
+            "u 0 0 X86JmpRel3",
+            1,
+            "'X86JmpRel3' is no code; did you mean 'X86JmpRel32'?",
+        );
+        fails("r 0 0 a64adr12", 1, "did you mean 'A64Adr21'?");
+        fails(
+            "o 0 X86PCRel s0",
+            1,
+            "'X86PCRel' is no kind; did you mean 'X86PCRel4'?",
+        );
+        fails(
+            "j 0 5 0 alwais",
+            1,
+            "'alwais' is no condition; did you mean 'always'?",
+        );
+        fails("j 0 5 0 nnz", 1, "did you mean 'nz'?");
+        fails(
+            "arch arch64",
+            1,
+            "'arch64' is none of x86, x64, aarch64; did you mean 'aarch64'?",
+        );
+        fails("arch amd46", 1, "did you mean 'amd64'?");
+        fails("arch mips", 1, "'mips' is none of x86, x64, aarch64");
     }
 
     #[test]

@@ -5,7 +5,9 @@ use crate::draft::MOST_ERRORS;
 use crate::groups::Groups;
 use crate::labels::{Labels, is_name, name as label_name};
 use crate::symbols::Symbols;
-use crate::text_call::{Arguments, Step, long_word, mentioned_label, numbered_argument};
+use crate::text_call::{
+    Arguments, COMMENT, Step, long_word, mentioned_label, no_call, numbered_argument,
+};
 use crate::tokens::Token;
 use crate::words::{architecture, number, starts_number};
 use crate::{Arch, Call, Span, TextCall, TextError};
@@ -280,12 +282,14 @@ impl<'a> Reader<'_, 'a> {
 
     /// A directive or a call, up to what separates it from the next.
     fn statement(&mut self, name: Token<'a>, nesting: usize) -> Result<(), TextError> {
-        let words = self.words_from(self.at + 1).to_vec();
+        let start = self.at;
+        let words = self.words_from(start + 1).to_vec();
         self.at += 1 + words.len();
-        let read = match name.text {
-            "arch" | "symbols" => self.directive(name, &words),
-            "define" => self.define(name, &words, nesting),
-            _ => self.call(name, &words, nesting),
+        let read = match long_word(name.text) {
+            Some(directive @ ("arch" | "symbols")) => self.directive(directive, name, &words),
+            Some("define") => self.define(name, &words, nesting),
+            Some(_) => self.call(name, &words, nesting),
+            None => Err(self.no_call(start)),
         };
         if read.is_err() {
             self.make_anyway(name, &words);
@@ -298,6 +302,19 @@ impl<'a> Reader<'_, 'a> {
                 Err(token.error("'(' follows a call; a group is written COUNT ( CALLS )"))
             }
             _ => Ok(()),
+        }
+    }
+
+    /// A token that starts a statement and is no call, with a note where it looks like a comment.
+    fn no_call(&self, start: usize) -> TextError {
+        let name = self.tokens[start];
+        let error = no_call(name);
+        let before = start.checked_sub(1).map(|before| self.tokens[before]);
+        let follows_semicolon =
+            before.is_some_and(|before| before.text == ";" && before.place.line == name.place.line);
+        match follows_semicolon || name.text.starts_with("//") {
+            true => error.with_note(None, COMMENT),
+            false => error,
         }
     }
 
@@ -318,9 +335,14 @@ impl<'a> Reader<'_, 'a> {
         }
     }
 
-    fn directive(&mut self, name: Token<'a>, words: &[Token<'a>]) -> Result<(), TextError> {
+    fn directive(
+        &mut self,
+        directive: &str,
+        name: Token<'a>,
+        words: &[Token<'a>],
+    ) -> Result<(), TextError> {
         let is_first = self.steps.is_empty();
-        let read = match name.text {
+        let read = match directive {
             "symbols" => self.count_or_name_symbols(name, words),
             _ if is_first => self.set_arch(name, words),
             _ => Ok(()),
@@ -328,7 +350,7 @@ impl<'a> Reader<'_, 'a> {
         if is_first {
             return read;
         }
-        let sentence = format!("'{}' stands before the first call only", name.text);
+        let sentence = format!("'{directive}' stands before the first call only");
         Err(name.error(sentence))
     }
 

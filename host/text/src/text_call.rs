@@ -1,7 +1,8 @@
 //! Calls, from a name and its arguments.
 
+use crate::instructions::written_as_bytes;
 use crate::labels::Labels;
-use crate::suggest::nearest;
+use crate::suggest::meant;
 use crate::symbols::Symbols;
 use crate::tokens::Token;
 use crate::words::{
@@ -84,16 +85,20 @@ const CONDITIONAL: [&str; 4] = ["je", "jne", "jl", "jge"];
 const ALL_CALLS: &str = "the calls are label, bind (or NAME:), bytes, zeros, align, use, ref, jump, jmp, je and the other conditions, \
      constant, constant-label, relocation";
 
-/// The word that starts a statement, `jmp` for every jump's name.
+/// What starts a comment, for whoever took `;` for it.
+pub(crate) const COMMENT: &str = "';' separates calls, and '#' starts a comment";
+
+/// The word that starts a statement, in capitals or not; `jmp` for every jump's name.
 fn known_word(name: &str) -> Option<&'static Word> {
     let name = if mnemonic(name).is_some() {
         "jmp"
     } else {
         name
     };
+    let is_name = |spelled: &str| name.eq_ignore_ascii_case(spelled);
     WORDS
         .iter()
-        .find(|word| name == word.long || name == word.short)
+        .find(|word| is_name(word.long) || is_name(word.short))
 }
 
 /// Its long form.
@@ -131,11 +136,18 @@ pub(crate) fn numbered_argument<'a>(name: Token<'a>, words: &[Token<'a>]) -> Opt
 }
 
 pub(crate) fn no_call(name: Token<'_>) -> TextError {
-    let known = WORDS.iter().map(|word| word.long).chain(CONDITIONAL);
-    let meant =
-        nearest(name.text, known).map_or(String::new(), |near| format!("; did you mean '{near}'?"));
-    name.error(format!("{} is no call{meant}", name.quoted()))
-        .with_note(None, ALL_CALLS)
+    let quoted = name.quoted();
+    let sentence = match written_as_bytes(name.text) {
+        Some(example) => format!(
+            "{quoted} is an instruction, and a sheet has none but jumps: write its bytes; {example}"
+        ),
+        None => {
+            let known = WORDS.iter().map(|word| word.long).chain(CONDITIONAL);
+            let meant = meant(name.text, known).unwrap_or_default();
+            format!("{quoted} is no call{meant}")
+        }
+    };
+    name.error(sentence).with_note(None, ALL_CALLS)
 }
 
 /// The arguments of a statement.

@@ -2,6 +2,7 @@
 
 use std::sync::Arc;
 
+use crate::suggest::meant;
 use crate::tokens::Token;
 use crate::{Arch, Condition, LabelUse, Reloc, TextError, counted, escaped};
 
@@ -9,8 +10,20 @@ use crate::{Arch, Condition, LabelUse, Reloc, TextError, counted, escaped};
 pub(crate) const LABEL_TARGET: u32 = 1 << 31;
 
 pub(crate) fn architecture(word: Token<'_>) -> Result<Arch, TextError> {
-    Arch::from_name(word.text)
-        .ok_or_else(|| word.error(format!("{} is none of x86, x64, aarch64", word.quoted())))
+    Arch::from_name(word.text).ok_or_else(|| {
+        let meant = meant(word.text, Arch::names()).unwrap_or_default();
+        word.error(format!(
+            "{} is none of x86, x64, aarch64{meant}",
+            word.quoted()
+        ))
+    })
+}
+
+/// What is wrong with a word that is none of some names: what it was perhaps meant to be, or else what to write.
+fn unknown(word: Token<'_>, noun: &str, names: &[String], write: &str) -> TextError {
+    let meant = meant(word.text, names.iter().map(String::as_str));
+    let help = meant.unwrap_or_else(|| format!(": write {write}"));
+    word.error(format!("{} is no {noun}{help}", word.quoted()))
 }
 
 pub(crate) fn starts_number(word: &str) -> bool {
@@ -56,10 +69,13 @@ pub(crate) fn field_code(word: Token<'_>) -> Result<u32, TextError> {
     LabelUse::from_name(word.text)
         .map(LabelUse::code)
         .ok_or_else(|| {
-            word.error(format!(
-                "{} is no code: write 0 to 16, or a name such as X86JmpRel32",
-                word.quoted()
-            ))
+            let names = LabelUse::ALL.map(|kind| kind.to_string());
+            unknown(
+                word,
+                "code",
+                &names,
+                "0 to 16, or a name such as X86JmpRel32",
+            )
         })
 }
 
@@ -70,10 +86,8 @@ pub(crate) fn relocation_kind(word: Token<'_>) -> Result<u32, TextError> {
     Reloc::from_name(word.text)
         .map(Reloc::number)
         .ok_or_else(|| {
-            word.error(format!(
-                "{} is no kind: write 0 to 27, or a name such as X86PCRel4",
-                word.quoted()
-            ))
+            let names = Reloc::ALL.map(|kind| kind.to_string());
+            unknown(word, "kind", &names, "0 to 27, or a name such as X86PCRel4")
         })
 }
 
@@ -86,21 +100,32 @@ pub(crate) fn mnemonic(word: &str) -> Option<u32> {
     Condition::from_name(condition).map(Condition::number)
 }
 
+/// The words for no condition.
+const NO_CONDITION: [&str; 2] = ["always", "none"];
+
 pub(crate) fn condition(word: Token<'_>) -> Result<u32, TextError> {
     if starts_number(word.text) {
         return number(word);
     }
-    if let "always" | "none" = word.text {
+    if NO_CONDITION
+        .iter()
+        .any(|none| word.text.eq_ignore_ascii_case(none))
+    {
         return Ok(Condition::NONE);
     }
     Condition::from_name(word.text)
         .map(Condition::number)
         .or_else(|| mnemonic(word.text))
         .ok_or_else(|| {
-            word.error(format!(
-                "{} is no condition: write 0 to 16, or a name such as e, ne, l or always",
-                word.quoted()
-            ))
+            let names: Vec<String> = Condition::names()
+                .chain(NO_CONDITION.map(str::to_owned))
+                .collect();
+            unknown(
+                word,
+                "condition",
+                &names,
+                "0 to 16, or a name such as e, ne, l or always",
+            )
         })
 }
 
