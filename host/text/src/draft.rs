@@ -282,8 +282,9 @@ mod tests {
         assert_eq!(marked("label a\nlabel a\ndefine s0 1"), [(2, "a")]);
         assert_eq!(marked("constant-label x pi\ndefine s0 pi"), [(1, "x")]);
         assert_eq!(marked("jump 0 5x end\ndefine s0 end"), [(1, "5x")]);
-        assert_eq!(marked("jmp end; labl\nbind 0\ndefine s0 x"), [(1, "labl")]);
+        assert_eq!(marked("labl; jmp end\nbind 0\ndefine s0 x"), [(1, "labl")]);
         assert_eq!(marked("2 ( label a )\ndefine s0 a"), [(1, "a")]);
+        assert_eq!(marked("jmp a; define s0 0\nx"), [(1, "0"), (2, "x")]);
     }
 
     #[test]

@@ -18,9 +18,9 @@ pub(crate) struct Labels<'a> {
     names_of_constants: HashMap<u32, Token<'a>>,
     /// The names of labels that no call of the text makes, by number: their first mention does.
     unwritten: HashMap<u32, &'a str>,
-    /// Whether a wrong statement may have made labels that are not known here. Then no number is wrong, and none is sure: such a text is read again, up
-    /// to that statement.
-    is_doubtful: bool,
+    /// The first label that may be another, since a wrong statement before it may have made labels. Of such labels none is said to be wrong, and none
+    /// is sure: the text is read again, up to that statement.
+    doubtful: Option<u32>,
 }
 
 #[derive(Clone, Copy)]
@@ -80,7 +80,11 @@ impl<'a> Labels<'a> {
 
     /// Notes that a wrong statement may have made labels.
     pub fn doubt(&mut self) {
-        self.is_doubtful = true;
+        self.doubtful.get_or_insert(self.count);
+    }
+
+    fn is_doubtful(&self, label: u32) -> bool {
+        self.doubtful.is_some_and(|first| first <= label)
     }
 
     pub fn knows(&self, name: &str) -> bool {
@@ -148,7 +152,7 @@ impl<'a> Labels<'a> {
     pub fn made(&self, word: Token<'_>) -> Result<u32, TextError> {
         if starts_number(word.text) {
             let label = self.written(word, number(word)?)?;
-            if label < self.count || self.is_doubtful {
+            if label < self.count || self.is_doubtful(label) {
                 return Ok(label);
             }
             let made = counted(self.count as usize, "label");
@@ -157,7 +161,7 @@ impl<'a> Labels<'a> {
         if let Some(named) = self.named.get(word.text) {
             return Ok(named.label);
         }
-        if self.is_doubtful && is_name(word.text) {
+        if self.doubtful.is_some() && is_name(word.text) {
             return Ok(self.count);
         }
         let mut names: Vec<&str> = self.named.keys().copied().collect();
@@ -168,7 +172,11 @@ impl<'a> Labels<'a> {
 
     /// A label's number, unless the label was made for a name: whoever counts the calls that make labels does not count it.
     pub fn written(&self, word: Token<'_>, label: u32) -> Result<u32, TextError> {
-        let Some(name) = self.unwritten.get(&label).filter(|_| !self.is_doubtful) else {
+        let Some(name) = self
+            .unwritten
+            .get(&label)
+            .filter(|_| !self.is_doubtful(label))
+        else {
             return Ok(label);
         };
         let sentence = format!("label {label} is '{name}', which no call makes: write its name");
