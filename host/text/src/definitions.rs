@@ -3,7 +3,8 @@
 use std::collections::HashMap;
 use std::fmt;
 
-use crate::labels::{Labels, name};
+use crate::draft::MOST_ERRORS;
+use crate::labels::{Labels, is_name, name};
 use crate::symbols::Symbols;
 use crate::tokens::Token;
 use crate::words::{LABEL_TARGET, number, numbered_target, starts_number};
@@ -75,7 +76,8 @@ pub(crate) struct Define<'a> {
     pub label: Token<'a>,
 }
 
-/// What the statements of a text define, once all its labels are made and its symbols named; and what is wrong with those that define nothing.
+/// What the statements of a text define, once all its labels are made and its symbols named; and what is wrong with those that define nothing, one more
+/// than is ever said.
 pub(crate) fn definitions(
     defines: &[Define<'_>],
     labels: &Labels<'_>,
@@ -84,9 +86,16 @@ pub(crate) fn definitions(
     let mut places = HashMap::new();
     let (mut definitions, mut errors) = (Vec::new(), Vec::new());
     for define in defines {
+        let is_enough = errors.len() > MOST_ERRORS;
+        let label = define.label.text;
+        // To say which label was meant takes a look at all their names.
+        if is_enough && is_name(label) && !labels.knows(label) {
+            continue;
+        }
         match definition(define, labels, symbols, &mut places) {
             Ok(definition) => definitions.push(definition),
-            Err(error) => errors.push(error),
+            Err(error) if !is_enough => errors.push(error),
+            Err(_) => {}
         }
     }
     (definitions, errors)

@@ -229,6 +229,13 @@ mod tests {
     }
 
     #[test]
+    fn definitions_after_many_that_are_left_out_stand() {
+        let many: String = (0..50).map(|i| format!("define a{i} end\n")).collect();
+        let script = draft(&format!("{many}start: define b start\nx\nend:")).script;
+        assert_eq!(script.definitions.len(), 1);
+    }
+
+    #[test]
     fn all_errors_are_found_in_order_of_place() {
         let text = "define a ent\nx\nb 0g; zeros; b 90\nfinish\ny\nend: o 0 0 s0 z";
         let expected = [
@@ -262,8 +269,12 @@ mod tests {
                 wrong.min(20) as u32
             );
         }
-        let late = format!("arch aarch64\n{}", "jmp a\n".repeat(30));
-        assert!(draft(&late).has_more_errors);
+        for late in ["jmp a\n", "define x y\n", "l1: o 0 0 l1\n"] {
+            let text = format!("arch aarch64\n{}", late.repeat(30));
+            let draft = draft(&text);
+            assert_eq!(draft.errors.len(), MOST_ERRORS, "{late}");
+            assert!(draft.has_more_errors, "{late}");
+        }
         let deep = "2 ( x ".repeat(10) + &") ".repeat(10) + &"x;".repeat(30);
         assert!(draft(&deep).has_more_errors);
     }

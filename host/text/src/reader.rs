@@ -51,7 +51,8 @@ pub(crate) fn read_steps(tokens: &[Token<'_>], end: usize) -> (Steps, Vec<TextEr
     reader.statements(0);
     let mut errors = reader.errors;
     let targets = reader.numbered_targets.iter();
-    errors.extend(targets.filter_map(|word| reader.labels.check_target(*word).err()));
+    let wrong = targets.filter_map(|word| reader.labels.check_target(*word).err());
+    errors.extend(wrong.take(MOST_ERRORS + 1));
     let (definitions, wrong) = definitions(&reader.defines, &reader.labels, &reader.symbols);
     errors.extend(wrong);
     let steps = Steps {
@@ -130,16 +131,16 @@ impl<'a> Reader<'_, 'a> {
                 _ => self.statement(token, nesting),
             };
             if let Err(error) = read {
-                self.note(error);
+                self.note_error(error);
             }
         }
     }
 
     /// Notes what is wrong. Where that is more than is ever said, reading ends here.
-    fn note(&mut self, error: TextError) {
+    fn note_error(&mut self, error: TextError) {
         self.errors.push(error);
         if self.errors.len() > MOST_ERRORS {
-            self.end = self.at;
+            self.end = self.end.min(self.at);
             self.labels.doubt();
         }
     }
@@ -275,7 +276,7 @@ impl<'a> Reader<'_, 'a> {
             return true;
         };
         if !std::mem::replace(&mut self.has_too_many_calls, true) {
-            self.note(error);
+            self.note_error(error);
         }
         false
     }
