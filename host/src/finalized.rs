@@ -160,8 +160,8 @@ impl CodeBufferFinalized {
         &self.unpatched
     }
 
-    /// The constants that are not in the code, since their labels were never [asked for](crate::CodeBuffer::get_label_for_constant). Of joined code its
-    /// pieces know.
+    /// The constants that are not in the code, since their labels were never [asked for](crate::CodeBuffer::get_label_for_constant). Of joined code
+    /// its pieces know.
     ///
     /// ```
     /// use wargnifla::{Arch, CodeBuffer};

@@ -35,8 +35,8 @@ pub fn read_text_for(arch: Option<Arch>, text: &str) -> Result<Script, TextError
     sheet_text::read_text(text, arch, append)
 }
 
-/// Reads a text that may be half typed, for an architecture, whatever the text says, if one is given. An editor learns from it what is recorded so far,
-/// and all that is wrong.
+/// Reads a text that may be half typed, for an architecture, whatever the text says, if one is given. An editor learns from it what is recorded so
+/// far, and all that is wrong.
 ///
 /// ```
 /// let draft = wargnifla::read_draft(None, "bytes 90\njmp\nzeros x");

@@ -8,8 +8,8 @@ use wargnifla::{Call, Entry, Extent, Label, OpenLabel, Recording};
 use super::input::Input;
 use super::report::{MOST_LINES, table};
 
-/// A line for each call up to the first that is wrong or refused, and one for a finish that left such a number, under a title; nothing where no call was
-/// made. Without a finish, the labels that are open at the end follow.
+/// A line for each call up to the first that is wrong or refused, and one for a finish that left such a number, under a title; nothing where no call
+/// was made. Without a finish, the labels that are open at the end follow.
 pub fn after_each_call(
     title: &str,
     input: &Input,

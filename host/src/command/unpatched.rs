@@ -9,7 +9,8 @@ use wargnifla::{Arch, Call, CodeBufferFinalized, Label, Unpatched, WhyUnpatched}
 use super::input::Input;
 use super::options::Options;
 
-/// A line for each kind of what finish did not write, and for the constants that it did not pool, with the lines of the sheet that it comes from. `whose` names the sheet where there are more.
+/// A line for each kind of what finish did not write, and for the constants that it did not pool, with the lines of the sheet that it comes from.
+/// `whose` names the sheet where there are more.
 pub fn notes(whose: &str, input: &Input, finished: &CodeBufferFinalized) -> String {
     let mut groups: Vec<Group> = Vec::new();
     let mut jumps = input.calls_where(|call| matches!(call, Call::Jump { .. }));

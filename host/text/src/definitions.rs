@@ -76,8 +76,8 @@ pub(crate) struct Define<'a> {
     pub label: Token<'a>,
 }
 
-/// What the statements of a text define, once all its labels are made and its symbols named; and what is wrong with those that define nothing, one more
-/// than is ever said.
+/// What the statements of a text define, once all its labels are made and its symbols named; and what is wrong with those that define nothing, one
+/// more than is ever said.
 pub(crate) fn definitions(
     defines: &[Define<'_>],
     labels: &Labels<'_>,

@@ -36,8 +36,8 @@ impl Arch {
         ("arm64", Self::AArch64),
     ];
 
-    /// The architecture of a name, in capitals or not: `amd64`, `x86_64` and `x86-64` as well as `x64`, `arm64` as well as `aarch64`, and `i386` as well
-    /// as `x86`.
+    /// The architecture of a name, in capitals or not: `amd64`, `x86_64` and `x86-64` as well as `x64`, `arm64` as well as `aarch64`, and `i386` as
+    /// well as `x86`.
     pub fn from_name(name: &str) -> Option<Self> {
         find_by_name(&Self::ALL, name).or_else(|| find_other(&Self::OTHER_NAMES, name))
     }
