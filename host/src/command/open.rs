@@ -96,7 +96,8 @@ impl EntryCalls {
             Entry::Ref(index) => (&self.refs, index),
             Entry::Event(index) => (&self.events, index),
             Entry::Reloc(index) => (&self.relocs, index),
-            Entry::Asked(_) | Entry::Definition(_) => return None,
+            // Other entries name no label that can be open.
+            _ => return None,
         };
         calls.get(index).copied()
     }
