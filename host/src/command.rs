@@ -1,6 +1,7 @@
 //! The command line: records sheets of calls, finishes and joins them, and shows the code.
 
 mod calls;
+mod diagnostic;
 mod excerpt;
 mod files;
 mod input;
@@ -19,35 +20,55 @@ use std::env;
 use std::io::{self, ErrorKind, Write};
 use std::process::ExitCode;
 
+use diagnostic::Diagnostic;
 use options::{HELP, Options, Request};
 
-/// A message for standard error, and the exit status that goes with it.
+/// Messages for standard error, and the exit status that goes with them.
 struct Failure {
     status: u8,
-    message: String,
+    diagnostics: Vec<Diagnostic>,
 }
 
 impl Failure {
     /// The recording, its finish, its join with others or its relocations as ELF were refused.
-    fn refused(message: String) -> Self {
-        Self { status: 1, message }
+    fn refused(diagnostic: Diagnostic) -> Self {
+        Self::new(1, diagnostic)
     }
 
     /// The command line, a file or a text is unusable, or what is to be written fits no such file.
-    fn unusable(message: String) -> Self {
-        Self { status: 2, message }
+    fn unusable(diagnostic: Diagnostic) -> Self {
+        Self::new(2, diagnostic)
+    }
+
+    /// The same, of all that is wrong with a text.
+    fn all_unusable(diagnostics: Vec<Diagnostic>) -> Self {
+        Self {
+            status: 2,
+            diagnostics,
+        }
     }
 
     /// This program contradicts itself.
-    fn internal(message: String) -> Self {
-        Self { status: 3, message }
+    fn internal(sentence: &str) -> Self {
+        Self::new(3, Diagnostic::error(format!("internal error: {sentence}")))
+    }
+
+    fn new(status: u8, diagnostic: Diagnostic) -> Self {
+        Self {
+            status,
+            diagnostics: vec![diagnostic],
+        }
     }
 }
 
 /// Runs the command on the arguments of the process.
 pub fn main() -> ExitCode {
     let done = options::parse(env::args_os().skip(1))
-        .map_err(|sentence| Failure::unusable(format!("{sentence}; see wargnifla --help")))
+        .map_err(|sentence| {
+            Failure::unusable(Diagnostic::error(format!(
+                "{sentence}; see wargnifla --help"
+            )))
+        })
         .and_then(|request| match request {
             Request::Help => print_text(HELP),
             Request::Version => print_text(concat!("wargnifla ", env!("CARGO_PKG_VERSION"), "\n")),
@@ -55,9 +76,9 @@ pub fn main() -> ExitCode {
         });
     match done {
         Ok(()) => ExitCode::SUCCESS,
-        Err(Failure { status, message }) => {
-            eprintln!("{message}");
-            ExitCode::from(status)
+        Err(failure) => {
+            diagnostic::print_all(&failure.diagnostics);
+            ExitCode::from(failure.status)
         }
     }
 }
@@ -84,5 +105,6 @@ fn print_text(text: &str) -> Result<(), Failure> {
 }
 
 fn unprintable(error: &io::Error) -> Failure {
-    Failure::unusable(format!("standard output can't be written: {error}"))
+    let sentence = format!("standard output can't be written: {error}");
+    Failure::unusable(Diagnostic::error(sentence))
 }

@@ -82,8 +82,8 @@ pub use refusal::Refusal;
 pub use rounds::{Change, Lengthened, Mismatch, Round, Rounds, Turn};
 pub use sheet::{Sheet, Unwritable, symbols_named, write_sheet};
 pub use sheet_text::{
-    Arch, Call, Condition, DEFAULT_MOST, Definition, ExternalName, LabelUse, MOST_ERRORS, NoSuchName,
-    NoSuchNumber, Padding, Reach, Reloc,
+    Arch, Call, Condition, DEFAULT_MOST, Definition, ExternalName, LabelUse, MOST_ERRORS,
+    NoSuchName, NoSuchNumber, Padding, Reach, Reloc,
 };
 pub use text::{Draft, Note, Script, Span, TextError, read_draft, read_text, read_text_for};
 pub use unpatched::{Unpatched, WhyUnpatched};

@@ -117,13 +117,13 @@ fn symbols_are_shown_by_name() {
     );
     assert!(!text.contains("labels"), "{text}");
     let output = run(&["--symbols", "0", "-"], b"symbols puts\no 0 Abs8 puts\n");
-    let sentence = "standard input:2: relocation: number 8, InvalidArgument: \
+    let sentence = "standard input:2:10: error[8]: relocation: InvalidArgument: \
                     symbol puts is unknown: the recording has 0 symbols
     o 0 Abs8 puts
              ^^^^";
     fails(&output, 1, sentence);
     let output = run(&["-"], b"symbols puts\nz 8; o 0 Abs8 put\n");
-    let sentence = "standard input:2: finish: number 15, UnboundLabel: \
+    let sentence = "standard input:2:15: error[15]: finish: UnboundLabel: \
                     label put is not bound, and the relocation at 0 names it, the only entry that is open
     z 8; o 0 Abs8 put
                   ^^^
@@ -195,30 +195,30 @@ fn what_no_object_holds_names_its_line_and_leaves_no_file() {
         fails(&run(&arguments, text), status, sentence);
         assert!(!code.exists() && !object.exists());
     };
-    let sentence = "standard input:2: write_relas: number 24, InvalidArch: \
+    let sentence = "standard input:2:18: error[24]: write_relas: InvalidArch: \
                     relocation 1, at 8 in the finished code, is of kind X86SecRel, which has no ELF type on X64
     o 0 Abs8 s0; o 8 X86SecRel s0
                      ^^^^^^^^^";
     refused(b"z 12\no 0 Abs8 s0; o 8 X86SecRel s0", 1, sentence);
-    let sentence = "standard input:3: write_relas: number 25, TooLarge: \
+    let sentence = "standard input:3:14: error[25]: write_relas: TooLarge: \
                     relocation 0, at 0 in the finished code, has the addend 9223372036854775807, and with label end at 8 it passes 9223372036854775807
     o 0 Abs8 end 9223372036854775807
                  ^^^^^^^^^^^^^^^^^^^
-standard input:2: note: label end is bound here
+standard input:2:1: note: label end is bound here
     end:
     ^^^^";
     refused(b"z 8\nend:\no 0 Abs8 end 9223372036854775807", 1, sentence);
-    let sentence = "standard input: write_relas: number 24, InvalidArch: \
+    let sentence = "standard input: error[24]: write_relas: InvalidArch: \
                     relocations are written as ELF for X64 and AArch64, and this code is for X86";
     refused(b"arch x86; b 90", 1, sentence);
-    let sentence = "standard input: symbol 1 and label 0 are both named 's1', and an object has one symbol of a name";
+    let sentence = "standard input: error: symbol 1 and label 0 are both named 's1', and an object has one symbol of a name";
     refused(b"z 8; o 0 Abs8 s01; s1:", 2, sentence);
-    let sentence = "standard input:2: \
+    let sentence = "standard input:2:3: error: \
                     relocation 1, at 6 in the finished code, has a field of 4 bytes, which passes the end of the code, 8
     o 9 Abs4 s0
       ^";
     refused(b"jmp end; end: z 6; o 5 Abs4 s0\no 9 Abs4 s0", 2, sentence);
-    let sentence = "standard input:2: \
+    let sentence = "standard input:2:18: error: \
                     relocation 1, at 6 in the finished code, is of kind X86GOTPCRel4 and names label end, \
                     but a linker makes GOT entries for symbols alone: name a symbol instead
     o 9 X86GOTPCRel4 end -4
@@ -226,7 +226,7 @@ standard input:2: note: label end is bound here
     let text = b"jmp end; z 8; o 5 X86GOTPCRel4 s0 -4\no 9 X86GOTPCRel4 end -4\nend:";
     refused(text, 2, sentence);
     let sheet = write_sheet(&read_text("z 4; o 0 X86SecRel s0").unwrap().calls).unwrap();
-    let sentence = "standard input: call 1: write_relas: number 24, InvalidArch: \
+    let sentence = "standard input: error[24]: call 1: write_relas: InvalidArch: \
                     relocation 0, at 0 in the finished code, is of kind X86SecRel, which has no ELF type on X64";
     refused(&sheet, 1, sentence);
 }
@@ -259,7 +259,7 @@ fn says_which_call_fits_no_binary_sheet() {
         "-",
     ];
     let output = run(&arguments, b"n\nc 000102030405060708090A0B0C\n");
-    let sentence = "standard input:2: a constant of 13 bytes fits no binary sheet, whose calls carry at most 12
+    let sentence = "standard input:2:3: error: a constant of 13 bytes fits no binary sheet, whose calls carry at most 12
     c 000102030405060708090A0B0C
       ^^^^^^^^^^^^^^^^^^^^^^^^^^";
     fails(&output, 2, sentence);
@@ -273,7 +273,7 @@ fn a_refused_call_names_its_line_and_leaves_no_file() {
         &["-o", file.to_str().unwrap(), "-"],
         b"label\nzeros 12\njump 4 5 0\n",
     );
-    let sentence = "standard input:3: jump: number 10, InvalidArgument: \
+    let sentence = "standard input:3:6: error[10]: jump: InvalidArgument: \
                     the jump at 4 is 5 bytes long and ends at 9, but the current offset is 12
     jump 4 5 0
          ^";
@@ -284,16 +284,16 @@ fn a_refused_call_names_its_line_and_leaves_no_file() {
 #[test]
 fn a_refused_finish_names_the_line_that_it_goes_back_to() {
     let output = run(&["-"], b"n\nn; l 0\nz 5\nj 0 5 1 # never bound\n");
-    let sentence = "standard input:4: finish: number 15, UnboundLabel: \
+    let sentence = "standard input:4:7: error[15]: finish: UnboundLabel: \
                     label 1 is not bound, and the jump at 0 names it, the only entry that is open
     j 0 5 1 # never bound
           ^
-standard input:2: note: label 1 is made here, and nothing binds it
+standard input:2:1: note: label 1 is made here, and nothing binds it
     n; l 0
     ^";
     fails(&output, 1, sentence);
     let output = run(&["-"], b"z 16777216; c 00; k 0");
-    assert!(err(&output).starts_with("standard input: finish: number 14, OutOfMemory"));
+    assert!(err(&output).starts_with("standard input: error[14]: finish: OutOfMemory"));
 }
 
 #[test]
@@ -301,13 +301,13 @@ fn a_refused_call_of_a_binary_sheet_names_its_index() {
     let calls = read_text("n; l 0; z 30; l 0").unwrap().calls;
     let output = run(&["-"], &write_sheet(&calls).unwrap());
     let sentence =
-        "standard input: call 5 (bind): number 9, InvalidState: label 0 is bound already, to 0";
+        "standard input: error[9]: call 5: bind: InvalidState: label 0 is bound already, to 0";
     fails(&output, 1, sentence);
     let calls = read_text("n; z 13; u 0 0 0").unwrap().calls;
     let output = run(&["-"], &write_sheet(&calls).unwrap());
-    let sentence = "standard input: call 3: finish: number 15, UnboundLabel: \
+    let sentence = "standard input: error[15]: call 3: finish: UnboundLabel: \
                     label 0 is not bound, and the use at 0 names it, the only entry that is open
-standard input: call 0: note: label 0 is made here, and nothing binds it";
+standard input: note: call 0: label 0 is made here, and nothing binds it";
     fails(&output, 1, sentence);
 }
 
@@ -317,24 +317,24 @@ fn a_broken_binary_sheet_is_refused() {
     fails(
         &output,
         1,
-        "standard input: sheet: number 1, InvalidArgument: a sheet of 2 calls has 38 bytes, not 5",
+        "standard input: error[1]: sheet: InvalidArgument: a sheet of 2 calls has 38 bytes, not 5",
     );
 }
 
 #[test]
 fn malformed_text_shows_its_line_and_marks_the_word() {
     let output = run(&["-"], b"label\n\n  labl 3 # one\n");
-    let message = "standard input:3: 'labl' is no call; did you mean 'label'?
+    let message = "standard input:3:3: error: 'labl' is no call; did you mean 'label'?
     labl 3 # one
     ^^^^
 note: the calls are label, bind (or NAME:), bytes, zeros, align, use, ref, jump, jmp, je and the other conditions, \
 constant, constant-label, relocation";
     fails(&output, 2, message);
     let output = run(&["-"], b"label end\nbind end; label end\n");
-    let message = "standard input:2: the label 'end' is made already
+    let message = "standard input:2:17: error: the label 'end' is made already
     bind end; label end
                     ^^^
-standard input:1: note: it is made where it is first named, here
+standard input:1:7: note: it is made where it is first named, here
     label end
           ^^^";
     fails(&output, 2, message);
@@ -347,7 +347,7 @@ fn words_are_cut_and_escaped() {
     assert!(err(&output).len() < 500, "{}", err(&output));
     let output = run(&["-"], b"b \x1b[31m\n");
     let message =
-        "standard input:1: '\\u{1b}' is no hexadecimal digit; bytes are written like 0F 1F 00
+        "standard input:1:3: error: '\\u{1b}' is no hexadecimal digit; bytes are written like 0F 1F 00
     b \\u{1b}[31m
       ^^^^^^^^^^";
     fails(&output, 2, message);
@@ -355,10 +355,10 @@ fn words_are_cut_and_escaped() {
     fails(
         &output,
         2,
-        "there is no option --\\u{1b}[31m; see wargnifla --help",
+        "error: there is no option --\\u{1b}[31m; see wargnifla --help",
     );
     let output = run(&["no/\x1bfile"], b"");
-    assert!(err(&output).starts_with("no/\\u{1b}file: can't be read"));
+    assert!(err(&output).starts_with("no/\\u{1b}file: error: can't be read"));
 }
 
 #[test]
@@ -367,11 +367,11 @@ fn a_byte_that_is_no_text_is_named_by_line_and_taken_for_no_sheet() {
     fails(
         &output,
         2,
-        "standard input:2: the byte E9 is no UTF-8: save the text as UTF-8",
+        "standard input:2:13: error: the byte E9 is no UTF-8: save the text as UTF-8",
     );
     let output = run(&["-"], &[2, 0, 0, 0, 1]);
     assert_eq!(output.status.code(), Some(2));
-    assert!(err(&output).starts_with("standard input:1: a zero byte stands in no text"));
+    assert!(err(&output).starts_with("standard input:1:2: error: a zero byte stands in no text"));
     assert!(err(&output).contains("--binary"));
 }
 
@@ -380,7 +380,7 @@ fn a_foreign_kind_hints_at_the_architecture() {
     let text = "n; l 0; z 4; u 0 0 A64Branch26";
     let sheet = write_sheet(&read_text(text).unwrap().calls).unwrap();
     let output = run(&["-"], &sheet);
-    let message = "standard input: call 3 (use): number 7, InvalidArch: code 11 (A64Branch26) is foreign to X64
+    let message = "standard input: error[7]: call 3: use: InvalidArch: code 11 (A64Branch26) is foreign to X64
 note: a binary sheet does not say its architecture: X64 is taken where --arch names none; try another --arch";
     fails(&output, 1, message);
     assert_eq!(
@@ -405,34 +405,34 @@ fn what_is_not_in_the_code_is_said_with_its_lines() {
     let jumps = "n; l 0\nz 5\nj 0 5 0\nz 5\nj 5 5 0\n";
     assert_eq!(
         notes("x86", jumps),
-        "note: 2 jumps are not kept on X86 (lines 3, 5)\n"
+        "standard input:3:1: note: 2 jumps are not kept on X86 (lines 3, 5)\n"
     );
     assert_eq!(
         notes("aarch64", jumps),
-        "note: 2 jumps are not kept on AArch64 (lines 3, 5)\n"
+        "standard input:3:1: note: 2 jumps are not kept on AArch64 (lines 3, 5)\n"
     );
     assert_eq!(notes("x64", jumps), "");
     let refs = "n; l 0; z 8\nr 0 0 0\nr 4 0 0\nu 4 0 0\n";
     assert_eq!(
         notes("x64", refs),
-        "note: 1 ref is not patched, since no jump stands (line 2)\n\
-         note: 1 ref is not patched, since no jump stands, but a use fills its field (line 3)\n"
+        "standard input:2:1: note: 1 ref is not patched, since no jump stands (line 2)\n\
+         standard input:3:1: note: 1 ref is not patched, since no jump stands, but a use fills its field (line 3)\n"
     );
     assert_eq!(
         notes("x86", refs),
-        "note: 1 ref is not kept on X86 (line 2)\n\
-         note: 1 ref is not kept on X86, but a use fills its field (line 3)\n"
+        "standard input:2:1: note: 1 ref is not kept on X86 (line 2)\n\
+         standard input:3:1: note: 1 ref is not kept on X86, but a use fills its field (line 3)\n"
     );
     let uses = "n; l 0; z 9; j 4 5 0\n2 ( u 0 0 0\n)";
     assert_eq!(
         notes("x64", uses),
-        "note: 2 uses are dropped, since a jump stands (line 2)\n"
+        "standard input:2:5: note: 2 uses are dropped, since a jump stands (line 2)\n"
     );
     let sheet = write_sheet(&read_text(jumps).unwrap().calls).unwrap();
     let output = run(&["--arch", "x86", "-"], &sheet);
     assert_eq!(
         err(&output),
-        "note: 2 jumps are not kept on X86 (calls 3, 5)\n\
+        "standard input: note: call 3: 2 jumps are not kept on X86 (calls 3, 5)\n\
          note: a binary sheet does not say its architecture: X86 was asked for; try another --arch\n"
     );
     assert!(out(&output).contains("jump to label 0: not kept on X86"));
@@ -443,7 +443,7 @@ fn many_lines_are_cut_in_a_note() {
     let text: String = (0..40).map(|i| format!("z 5\nj {} 5 0\n", 5 * i)).collect();
     let said = notes("x86", &format!("n; l 0\n{text}"));
     assert!(
-        said.starts_with("note: 40 jumps are not kept on X86 (lines 3, 5, 7,"),
+        said.starts_with("standard input:3:1: note: 40 jumps are not kept on X86 (lines 3, 5, 7,"),
         "{said}"
     );
     assert!(said.ends_with(", 33 and 24 more)\n"), "{said}");
@@ -458,7 +458,7 @@ fn an_output_that_is_the_sheet_or_another_output_is_refused() {
     fails(
         &output,
         2,
-        &format!("-o names {name}, which is the sheet itself; nothing is written"),
+        &format!("error: -o names {name}, which is the sheet itself; nothing is written"),
     );
     let folder = sheet.parent().unwrap().to_str().unwrap();
     let other = format!("{folder}/./same.txt");
@@ -500,7 +500,7 @@ fn an_output_that_is_the_sheet_or_another_output_is_refused() {
     fails(
         &run(&["-o", both, "--object", both, name], b""),
         2,
-        &format!("-o and --object both name {both}; nothing is written"),
+        &format!("error: -o and --object both name {both}; nothing is written"),
     );
     assert!(!out.exists());
 }
@@ -520,7 +520,7 @@ fn files_are_replaced_whole_or_not_at_all() {
     let output = run(&arguments, b"b 90");
     assert_eq!(output.status.code(), Some(2));
     assert!(
-        err(&output).contains("whole-folder: can't be written"),
+        err(&output).contains("whole-folder: error: can't be written"),
         "{}",
         err(&output)
     );
@@ -565,7 +565,7 @@ fn a_link_is_followed_and_a_device_is_written_in_place() {
 fn a_dash_is_standard_output() {
     let output = run(&["-o", "-", "-"], b"n; l 0; b 90 C3; r 0 0 1");
     assert_eq!(output.stdout, [0x90, 0xC3]);
-    assert!(err(&output).starts_with("note: 1 ref is not patched"));
+    assert!(err(&output).starts_with("standard input:1:18: note: 1 ref is not patched"));
     let output = run(&["--write-sheet", "-", "-"], b"n");
     assert_eq!(
         output.stdout,
@@ -575,7 +575,7 @@ fn a_dash_is_standard_output() {
     fails(
         &output,
         2,
-        "-o and --write-sheet both name -; nothing is written",
+        "error: -o and --write-sheet both name -; nothing is written",
     );
 }
 
@@ -585,11 +585,11 @@ fn a_bound_constant_is_shown_where_it_is_bound() {
         &["-"],
         b"constant 01\nconstant-label 0 pi\nzeros 3\nbind pi\n",
     );
-    let message = "standard input:4: finish: number 13, InvalidState: \
+    let message = "standard input:4:6: error[13]: finish: InvalidState: \
                    label pi belongs to constant 0, whose place finish decides, but a call bound it to 3
     bind pi
          ^^
-standard input:2: note: finish binds the label that is asked for here
+standard input:2:1: note: finish binds the label that is asked for here
     constant-label 0 pi
     ^^^^^^^^^^^^^^";
     fails(&output, 1, message);
@@ -598,7 +598,7 @@ standard input:2: note: finish binds the label that is asked for here
 #[test]
 fn zeros_are_refused_as_they_are_written() {
     let output = run(&["-"], b"bytes 90\nzeros 99999999\n");
-    let message = "standard input:2: zeros: number 12, OutOfMemory: \
+    let message = "standard input:2:7: error[12]: zeros: OutOfMemory: \
                    99999999 zeros at 1 pass the end of the code, which has at most 16,777,216 bytes
     zeros 99999999
           ^^^^^^^^";
@@ -630,28 +630,28 @@ fn refusals_show_the_second_place_that_they_speak_of() {
     };
     note(
         "end:\nbytes 90\nend:",
-        "standard input:1: note: label end is bound here\n    end:\n    ^^^^",
+        "standard input:1:1: note: label end is bound here\n    end:\n    ^^^^",
     );
     note("2 ( end: b 90 )", "note: a group repeats this call");
     note(
         "label\nzeros 3; bind 0\nzeros 2\njump 0 5 0",
-        "standard input:2: note: label 0 is bound here\n    zeros 3; bind 0\n             ^^^^",
+        "standard input:2:10: note: label 0 is bound here\n    zeros 3; bind 0\n             ^^^^",
     );
     note(
         "label; zeros 1\nalign 2\njump 0 2 0",
-        "standard input:2: note: the alignment to 2 stands here\n    align 2\n    ^^^^^",
+        "standard input:2:1: note: the alignment to 2 stands here\n    align 2\n    ^^^^^",
     );
     note(
         "a: jmp a\nzeros 3\nref 4 a X86JmpRel32",
-        "standard input:1: note: the jump comes from here\n    a: jmp a\n       ^^^",
+        "standard input:1:4: note: the jump comes from here\n    a: jmp a\n       ^^^",
     );
     note(
         "a: jmp a; constant 01\nconstant-label 0\nref 6 a X86BranchRel8",
-        "standard input:2: note: the alignment to 8 for constant 0 comes from here\n    constant-label 0\n    ^^^^^^^^^^^^^^",
+        "standard input:2:1: note: the alignment to 8 for constant 0 comes from here\n    constant-label 0\n    ^^^^^^^^^^^^^^",
     );
     note(
         "a:\njmp a\nbytes AA\nref 5 a X86BranchRel8 1000",
-        "standard input:1: note: label a is bound here\n    a:\n    ^^",
+        "standard input:1:1: note: label a is bound here\n    a:\n    ^^",
     );
     note(
         "jmp ende\nend:",
@@ -759,7 +759,7 @@ open
     let finish = "          finish               0\n";
     let labels = "\nopen labels\n    open  label\n       1  label seven: line 3; finish binds it, as a constant's\n";
     assert_eq!(out(&output), expected.trim_start().replace(finish, labels));
-    assert!(err(&output).contains("number 17"), "{}", err(&output));
+    assert!(err(&output).contains("error[17]: "), "{}", err(&output));
 
     let text = text.replace("ref 0 end 1", "relocation 0 0 end");
     let output = run(&["--open", "-"], text.as_bytes());
@@ -792,14 +792,14 @@ open labels
 ";
     assert_eq!(out(&output), expected);
     assert!(
-        err(&output).contains(":2: use: number 8"),
+        err(&output).contains(":2:5: error[8]: use: "),
         "{}",
         err(&output)
     );
     assert_eq!(output.status.code(), Some(1));
     let output = run(&["--open", "--write-sheet", "-", "-"], b"n; u 0 0 0");
     assert_eq!(out(&output), "");
-    assert!(err(&output).contains("number 15"), "{}", err(&output));
+    assert!(err(&output).contains("error[15]: "), "{}", err(&output));
 }
 
 #[test]
@@ -819,7 +819,7 @@ fn open_entries_of_a_binary_sheet_are_shown_by_call() {
     sheet[4 + 4 + 3 * 16] = 13;
     let output = run(&["--binary", "--open", "-"], &sheet);
     assert_eq!(out(&output), "", "no call of it is made");
-    assert!(err(&output).contains("number 1"), "{}", err(&output));
+    assert!(err(&output).contains("error[1]: "), "{}", err(&output));
     let calls = read_text("n; n; u 0 1 1; b 9090; j 0 2 1; o 0 0 l0; l 0").unwrap();
     let output = run(&["--open", "-"], &write_sheet(&calls.calls).unwrap());
     let expected = "\n\nopen labels\n    open  label\n       2  label 1: calls 2, 4\n";
@@ -867,17 +867,17 @@ fn bad_usage_is_status_2() {
     fails(
         &run(&[], b""),
         2,
-        "a FILE is missing; - is standard input; see wargnifla --help",
+        "error: a FILE is missing; - is standard input; see wargnifla --help",
     );
     fails(
         &run(&["--fast", "-"], b""),
         2,
-        "there is no option --fast; see wargnifla --help",
+        "error: there is no option --fast; see wargnifla --help",
     );
     let output = run(&["no/such/file"], b"");
     assert_eq!(output.status.code(), Some(2));
     assert!(
-        err(&output).starts_with("no/such/file: can't be read: "),
+        err(&output).starts_with("no/such/file: error: can't be read: "),
         "{}",
         err(&output)
     );

@@ -7,6 +7,7 @@ use std::path::{Path, PathBuf};
 use std::process;
 
 use super::Failure;
+use super::diagnostic::{Diagnostic, Place};
 use super::options::{Options, file_text, is_dash};
 
 /// What is wrong with where the outputs are to go, before anything is read.
@@ -16,7 +17,8 @@ pub fn check(options: &Options) -> Result<(), Failure> {
         .into_iter()
         .filter_map(|(option, path)| Some((option, path?)))
         .collect();
-    let unusable = |sentence| Failure::unusable(format!("{sentence}; nothing is written"));
+    let unusable =
+        |sentence| Failure::unusable(Diagnostic::error(format!("{sentence}; nothing is written")));
     for (i, (option, path)) in named.iter().enumerate() {
         let file = file_text(path.as_os_str());
         let mut sheets = options.files.iter().filter(|sheet| !is_dash(sheet));
@@ -91,7 +93,8 @@ pub fn write(options: &Options, contents: [&[u8]; 4]) -> Result<(), Failure> {
 
 fn unwritable(path: &Path, error: &io::Error) -> Failure {
     let file = file_text(path.as_os_str());
-    Failure::unusable(format!("{file}: can't be written: {error}"))
+    let message = Diagnostic::error(format!("can't be written: {error}"));
+    Failure::unusable(message.at(Place::file(&file)))
 }
 
 /// A file about to be written.

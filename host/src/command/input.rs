@@ -7,14 +7,15 @@ use std::io::{self, Read};
 use sheet_text::{nearest, shown};
 use wargnifla::{
     Arch, Call, CodeBuffer, Definition, Draft, Entry, Error, ExternalName, Label, LayoutEvent,
-    ObjectError, Recording, Script, Sheet, Span, Sym, TextError, UNBOUND, Unwritable, read_draft,
-    symbols_named,
+    ObjectError, Place as Refused, Recording, Script, Sheet, Span, Sym, TextError, UNBOUND,
+    Unwritable, read_draft, symbols_named,
 };
 
 use super::Failure;
 use super::calls::{binding, call_of_entry, making, second_place, wrong_word};
+use super::diagnostic::{Diagnostic, Place};
 use super::options::{Form, Options, input_text, is_dash};
-use super::source::{Source, TextSource, form_of, malformed, placed, text_of};
+use super::source::{Source, TextSource, form_of, text_of};
 
 /// A sheet, and how to record it.
 pub struct Input {
@@ -41,8 +42,10 @@ impl Input {
     pub fn read(options: &Options, file: &OsStr) -> Result<Self, Failure> {
         let bytes = bytes_of(file);
         let file = input_text(file);
-        let bytes =
-            bytes.map_err(|error| Failure::unusable(format!("{file}: can't be read: {error}")))?;
+        let bytes = bytes.map_err(|error| {
+            let message = Diagnostic::error(format!("can't be read: {error}"));
+            Failure::unusable(message.at(Place::file(&file)))
+        })?;
         match options.form.unwrap_or_else(|| form_of(&bytes)) {
             Form::Text => Self::from_text(file, options, &bytes),
             Form::Binary => Ok(Self::from_binary(file, options, bytes)),
@@ -50,8 +53,10 @@ impl Input {
     }
 
     fn from_text(file: String, options: &Options, bytes: &[u8]) -> Result<Self, Failure> {
-        let text = text_of(bytes)
-            .map_err(|(line, sentence)| Failure::unusable(format!("{file}:{line}: {sentence}")))?;
+        let text = text_of(bytes).map_err(|(columns, sentence)| {
+            let place = Place::columns(&file, columns);
+            Failure::unusable(Diagnostic::error(sentence).at(place))
+        })?;
         let Draft {
             script,
             mut errors,
@@ -106,13 +111,13 @@ impl Input {
             return Ok(());
         };
         let errors = self.errors.iter();
-        let mut messages: Vec<String> = errors
-            .map(|error| malformed(&self.file, &source.text, error))
+        let mut diagnostics: Vec<Diagnostic> = errors
+            .map(|error| Diagnostic::malformed(&self.file, &source.text, error))
             .collect();
         if self.has_more_errors {
-            messages.push("and further errors".into());
+            diagnostics.push(Diagnostic::note("there are further errors"));
         }
-        Err(Failure::unusable(messages.join("\n")))
+        Err(Failure::all_unusable(diagnostics))
     }
 
     /// A buffer for the sheet, with the names and definitions that it gives.
@@ -135,39 +140,45 @@ impl Input {
         let Source::Binary(sheet) = &self.source else {
             for (index, call) in self.calls.iter().enumerate() {
                 if let Err(error) = buffer.call(call) {
-                    let sentence = self.as_written(index, &error, buffer.cur_offset());
-                    return Err(self.refused(index, &error, &sentence, &buffer.recording()));
+                    let message = self.as_written(index, &error, buffer.cur_offset());
+                    return Err(self.refused(index, &error, message, &buffer.recording()));
                 }
             }
             return Ok(());
         };
         buffer.run_sheet(sheet).map_err(|error| {
-            let message = format!("{}: {error}{}", self.file, self.hint(&error));
-            Failure::refused(message)
+            let place = match error.place() {
+                Refused::Call {
+                    index: Some(call), ..
+                } => Place::call(&self.file, call),
+                _ => Place::file(&self.file),
+            };
+            let message = Diagnostic::refusal(&error).at(place);
+            Failure::refused(message.with(self.hint(&error)))
         })
     }
 
     /// A refused call in the words of its statement: zeros are one call there, and many here.
-    fn as_written(&self, call: usize, error: &Error, offset: u32) -> String {
+    fn as_written(&self, call: usize, error: &Error, offset: u32) -> Diagnostic {
         let Source::Text(source) = &self.source else {
-            return error.to_string();
+            return Diagnostic::refusal(error);
         };
         let words = source.words(call);
         let [name, count] = words[..] else {
-            return error.to_string();
+            return Diagnostic::refusal(error);
         };
         let name = source.word(name);
         let is_zeros = name.eq_ignore_ascii_case("zeros") || name.eq_ignore_ascii_case("z");
         if error.number() != 12 || !is_zeros {
-            return error.to_string();
+            return Diagnostic::refusal(error);
         }
         let before = self.bytes_of_statement(source, call, source.word(count));
-        format!(
-            "zeros: number 12, {}: {} zeros at {} pass the end of the code, which has at most 16,777,216 bytes",
-            error.name(),
+        let sentence = format!(
+            "{} zeros at {} pass the end of the code, which has at most 16,777,216 bytes",
             source.word(count),
             offset - before
-        )
+        );
+        Diagnostic::refusal_of("zeros", error, &sentence)
     }
 
     /// How many bytes the calls before this one added for the same `zeros`.
@@ -191,45 +202,36 @@ impl Input {
         if let ObjectError::Relocations(error) = error {
             return self.refused_finish(error, recording);
         }
-        let placed = wrong_relocation(error)
-            .and_then(|(relocation, word)| self.said_of_relocation(relocation, word, error));
-        Failure::unusable(placed.unwrap_or_else(|| format!("{}: {error}", self.file)))
+        let place = wrong_relocation(error)
+            .and_then(|(relocation, word)| self.place_of_relocation(relocation, word));
+        let place = place.unwrap_or_else(|| Place::file(&self.file));
+        Failure::unusable(Diagnostic::error(error.to_string()).at(place))
     }
 
-    /// A sentence about a word of a relocation, which is given by its index.
-    pub fn said_of_relocation(
-        &self,
-        relocation: usize,
-        word: usize,
-        sentence: &impl ToString,
-    ) -> Option<String> {
+    /// Where a word of a relocation stands, which is given by its index.
+    pub fn place_of_relocation(&self, relocation: usize, word: usize) -> Option<Place> {
         let call = call_of_entry(&self.calls, self.arch, Entry::Reloc(relocation))?;
-        Some(self.said_of(call, word, &sentence.to_string()))
+        Some(self.place_of(call, word))
     }
 
-    /// A refusal with the line of the call that made an entry; without one, with the file alone.
-    pub fn said_of_refusal(&self, error: &Error) -> String {
-        let placed = match error.entry() {
-            Some(Entry::Definition(index)) => {
-                let place = self.definitions[index].symbol_place;
-                self.said_at(place, &error.to_string())
-            }
+    /// A refusal at the call that made an entry; without one, of the file as a whole.
+    pub fn refusal_of_entry(&self, error: &Error) -> Diagnostic {
+        let place = match error.entry() {
+            Some(Entry::Definition(index)) => self.place_at(self.definitions[index].symbol_place),
             Some(entry) => {
                 let call = call_of_entry(&self.calls, self.arch, entry);
-                call.map(|call| {
-                    let word = wrong_word(&self.calls[call], error);
-                    self.said_of(call, word, &error.to_string())
-                })
+                call.map(|call| self.place_of(call, wrong_word(&self.calls[call], error)))
             }
             None => None,
         };
-        placed.unwrap_or_else(|| format!("{}: {error}", self.file))
+        let place = place.unwrap_or_else(|| Place::file(&self.file));
+        Diagnostic::refusal(error).at(place)
     }
 
-    /// A sentence about a place of a text.
-    pub fn said_at(&self, place: Span, sentence: &str) -> Option<String> {
+    /// A place of a text.
+    pub fn place_at(&self, place: Span) -> Option<Place> {
         match &self.source {
-            Source::Text(source) => Some(placed(&self.file, &source.text, place, sentence)),
+            Source::Text(source) => Some(Place::in_text(&self.file, &source.text, place)),
             Source::Binary(_) => None,
         }
     }
@@ -242,8 +244,8 @@ impl Input {
             _ => entry.and_then(|entry| call_of_entry(&self.calls, self.arch, entry)),
         };
         match call {
-            Some(call) => self.refused(call, error, &error.to_string(), recording),
-            None => Failure::refused(format!("{}: {error}", self.file)),
+            Some(call) => self.refused(call, error, Diagnostic::refusal(error), recording),
+            None => Failure::refused(Diagnostic::refusal(error).at(Place::file(&self.file))),
         }
     }
 
@@ -253,52 +255,54 @@ impl Input {
         binding(&self.calls, recording.constants[constant].label?.id())
     }
 
-    /// A refusal with the line of its call, a note of a second one where there is one, and what may help.
+    /// A refusal at its call, with a note of a second one where there is one, and what may help.
     fn refused(
         &self,
         call: usize,
         error: &Error,
-        sentence: &str,
+        message: Diagnostic,
         recording: &Recording,
     ) -> Failure {
         let word = wrong_word(&self.calls[call], error);
-        let mut message = self.said_of(call, word, sentence);
-        if let Some((other, note)) = second_place(&self.calls, call, error, recording) {
-            message += &self.second(call, word, other, &note);
-        }
-        message += &self.hint(error);
-        message += &self.meant_label(call, error, recording);
+        let second = second_place(&self.calls, call, error, recording);
+        let second = second.and_then(|(other, note)| self.second(call, word, other, note));
+        let message = message
+            .at(self.place_of(call, word))
+            .with(second)
+            .with(self.hint(error))
+            .with(self.meant_label(call, error, recording));
         Failure::refused(message)
     }
 
     /// A note about a second call, unless it stands where the first does.
-    fn second(&self, call: usize, word: usize, other: usize, note: &str) -> String {
+    fn second(&self, call: usize, word: usize, other: usize, note: String) -> Option<Diagnostic> {
         if let Source::Text(source) = &self.source {
             let place = |call: usize, word| source.place(call, &self.calls[call], word);
             if source.statement(call) == source.statement(other) {
-                return "\nnote: a group repeats this call".into();
+                return Some(Diagnostic::note("a group repeats this call"));
             }
             if place(call, word) == place(other, 0) {
-                return String::new();
+                return None;
             }
         }
-        format!("\n{}", self.said_of(other, 0, &format!("note: {note}")))
+        Some(Diagnostic::note(note).at(self.place_of(other, 0)))
     }
 
     /// What may help where a kind is foreign to the architecture.
-    fn hint(&self, error: &Error) -> String {
+    fn hint(&self, error: &Error) -> Option<Diagnostic> {
         match &self.source {
-            _ if error.number() != 7 => String::new(),
-            Source::Binary(_) => format!("\n{}", self.unsaid_arch().unwrap_or_default()),
-            Source::Text(_) if self.names_arch => String::new(),
-            Source::Text(_) => "\nnote: the text names no architecture, so X64 is taken; \
-                                'arch aarch64' in front of it, or --arch, names another"
-                .into(),
+            _ if error.number() != 7 => None,
+            Source::Binary(_) => self.unsaid_arch(),
+            Source::Text(_) if self.names_arch => None,
+            Source::Text(_) => Some(Diagnostic::note(
+                "the text names no architecture, so X64 is taken; \
+                 'arch aarch64' in front of it, or --arch, names another",
+            )),
         }
     }
 
     /// That a binary sheet may have been made for another architecture than it is read for.
-    pub fn unsaid_arch(&self) -> Option<String> {
+    pub fn unsaid_arch(&self) -> Option<Diagnostic> {
         let Source::Binary(_) = self.source else {
             return None;
         };
@@ -308,21 +312,21 @@ impl Input {
             "is taken where --arch names none"
         };
         let arch = self.arch;
-        Some(format!(
-            "note: a binary sheet does not say its architecture: {arch} {taken}; try another --arch"
-        ))
+        Some(Diagnostic::note(format!(
+            "a binary sheet does not say its architecture: {arch} {taken}; try another --arch"
+        )))
     }
 
     /// What a name was perhaps meant to be that made a label which is not bound: a bound label's name, or in a relocation a symbol's.
-    fn meant_label(&self, call: usize, error: &Error, recording: &Recording) -> String {
+    fn meant_label(&self, call: usize, error: &Error, recording: &Recording) -> Option<Diagnostic> {
         let (15, Source::Text(source)) = (error.number(), &self.source) else {
-            return String::new();
+            return None;
         };
         let made = &self.calls[call];
         let place = source.place(call, made, wrong_word(made, error));
         let word = source.word(place);
         let Some((label, _)) = self.names.iter().find(|(_, name)| name == word) else {
-            return String::new();
+            return None;
         };
         let bound = self.names.iter().filter(|(label, _)| {
             let offset = recording.labels.get(*label as usize);
@@ -333,13 +337,14 @@ impl Input {
             _ => &[],
         };
         let meant = bound.map(|(_, name)| name).chain(symbols);
-        match nearest(word, meant.map(String::as_str)) {
-            Some(near) => format!("\nnote: did you mean '{near}'?"),
+        let sentence = match nearest(word, meant.map(String::as_str)) {
+            Some(near) => format!("did you mean '{near}'?"),
             None if self.looks_like_symbol(source, *label, word, recording) => {
-                format!("\nnote: is 'symbols {}' missing?", shown(word))
+                format!("is 'symbols {}' missing?", shown(word))
             }
-            None => String::new(),
-        }
+            None => return None,
+        };
+        Some(Diagnostic::note(sentence))
     }
 
     /// Whether no call but relocations has to do with a label: their first mention of its name makes it.
@@ -362,18 +367,18 @@ impl Input {
     }
 
     pub fn unwritable(&self, error: &Unwritable) -> Failure {
-        Failure::unusable(self.said_of(error.index, 1, &error.to_string()))
+        let message = Diagnostic::error(error.to_string());
+        Failure::unusable(message.at(self.place_of(error.index, 1)))
     }
 
-    /// A sentence about a word of a call, after the place where the call stands; of a text, with its line.
-    fn said_of(&self, call: usize, word: usize, sentence: &str) -> String {
-        let file = &self.file;
+    /// Where a word of a call stands; of a binary sheet, the call as a whole.
+    pub fn place_of(&self, call: usize, word: usize) -> Place {
         match &self.source {
             Source::Text(source) => {
                 let place = source.place(call, &self.calls[call], word);
-                placed(file, &source.text, place, sentence)
+                Place::in_text(&self.file, &source.text, place)
             }
-            Source::Binary(_) => format!("{file}: call {call}: {sentence}"),
+            Source::Binary(_) => Place::call(&self.file, call),
         }
     }
 

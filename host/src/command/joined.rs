@@ -8,7 +8,7 @@ use wargnifla::{Joined, JoinedRecordings, ListedPiece};
 use super::options::Options;
 use super::rounds::RoundsReport;
 use super::rule::Rule;
-use super::{Failure, files, object, open, print_text, report, unpatched};
+use super::{Failure, diagnostic, files, object, open, print_text, report, unpatched};
 
 pub fn run(options: &Options) -> Result<(), Failure> {
     let rules = options.files.iter().map(|file| Rule::new(options, file));
@@ -27,10 +27,7 @@ pub fn run(options: &Options) -> Result<(), Failure> {
         print_text(&text)?;
     }
     for rule in &rules {
-        let whose = format!("{}: ", rule.input.file);
-        eprint!("{}", unpatched::notes(&whose, &rule.input, rule.code()));
-        let notes = unpatched::definition_notes(options, &rule.input, rule.code());
-        eprint!("{notes}");
+        diagnostic::print_all(&unpatched::notes(options, &rule.input, rule.code()));
     }
     Ok(())
 }

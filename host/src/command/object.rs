@@ -6,6 +6,7 @@ use std::ffi::OsStr;
 use wargnifla::{CodeBufferFinalized, CodeOffset, ObjectError, SourceLine, SourceLines};
 
 use super::Failure;
+use super::diagnostic::{Diagnostic, Place};
 use super::options::{Options, is_dash};
 use super::rule::Rule;
 
@@ -34,10 +35,9 @@ fn source_lines(
     bases: &[CodeOffset],
 ) -> Result<SourceLines, Failure> {
     if let Some(rule) = rules.iter().find(|rule| !rule.input.is_text()) {
-        return Err(Failure::unusable(format!(
-            "{}: --debug is about the lines of a text, and this is a binary sheet",
-            rule.input.file
-        )));
+        let sentence = "--debug is about the lines of a text, and this is a binary sheet";
+        let place = Place::file(&rule.input.file);
+        return Err(Failure::unusable(Diagnostic::error(sentence).at(place)));
     }
     let folder = env::current_dir().unwrap_or_default();
     let pieces = rules.iter().zip(bases).enumerate();

@@ -7,7 +7,7 @@ use wargnifla::{Picture, write_sheet};
 use super::options::{Options, title};
 use super::rounds::RoundsReport;
 use super::rule::Rule;
-use super::{Failure, files, object, open, print_text, report, unpatched};
+use super::{Failure, diagnostic, files, object, open, print_text, report, unpatched};
 
 pub fn run(options: &Options, file: &OsStr) -> Result<(), Failure> {
     let rule = Rule::new(options, file)?;
@@ -17,9 +17,7 @@ pub fn run(options: &Options, file: &OsStr) -> Result<(), Failure> {
     if !options.writes_standard_output() {
         print_text(&text)?;
     }
-    eprint!("{}", unpatched::notes("", &rule.input, rule.code()));
-    let notes = unpatched::definition_notes(options, &rule.input, rule.code());
-    eprint!("{notes}");
+    diagnostic::print_all(&unpatched::notes(options, &rule.input, rule.code()));
     Ok(())
 }
 

@@ -47,7 +47,7 @@ impl Rule {
             return Ok(());
         }
         let checked = self.finished.rounds().check(self.code());
-        checked.map_err(|mismatch| Failure::internal(format!("internal error: {mismatch}")))
+        checked.map_err(|mismatch| Failure::internal(&mismatch.to_string()))
     }
 }
 

@@ -1,9 +1,9 @@
 //! What a sheet was read from: a text whose words have places, or the bytes of a binary sheet.
 
 use sheet_text::{plain_lines, words_in};
-use wargnifla::{Call, Sheet, Span, TextError};
+use wargnifla::{Call, Sheet, Span};
 
-use super::excerpt::excerpt;
+use super::diagnostic::Columns;
 use super::options::Form;
 
 /// Where calls come from.
@@ -68,28 +68,6 @@ impl TextSource {
     }
 }
 
-/// A sentence with its place, and the line that it is about.
-pub fn placed(file: &str, text: &str, place: Span, sentence: &str) -> String {
-    let lines = excerpt(text, place).unwrap_or_default();
-    format!("{file}:{}: {sentence}\n{}", place.line, lines)
-        .trim_end()
-        .into()
-}
-
-/// What is wrong with a text, with its place and its notes.
-pub fn malformed(file: &str, text: &str, error: &TextError) -> String {
-    let mut message = placed(file, text, error.place, &error.sentence);
-    for note in &error.notes {
-        let sentence = format!("note: {}", note.sentence);
-        message.push('\n');
-        message += &match note.place {
-            Some(place) => placed(file, text, place, &sentence),
-            None => sentence,
-        };
-    }
-    message
-}
-
 /// Binary if it is a sheet by length and kinds, and text otherwise.
 pub fn form_of(bytes: &[u8]) -> Form {
     match Sheet::read(bytes) {
@@ -98,11 +76,12 @@ pub fn form_of(bytes: &[u8]) -> Form {
     }
 }
 
-/// The text that some bytes are, or the line of the first that is in none, and what is wrong.
-pub fn text_of(bytes: &[u8]) -> Result<String, (usize, String)> {
+/// The text that some bytes are, or the place of the first byte that is in none, and what is wrong.
+pub fn text_of(bytes: &[u8]) -> Result<String, (Columns, String)> {
     const UTF_16: [&[u8]; 2] = [&[0xFF, 0xFE], &[0xFE, 0xFF]];
     if UTF_16.iter().any(|mark| bytes.starts_with(mark)) {
-        return Err((1, "this text is UTF-16; save it as UTF-8".into()));
+        let sentence = "this text is UTF-16; save it as UTF-8".into();
+        return Err((place_behind(""), sentence));
     }
     let valid = match str::from_utf8(bytes) {
         Ok(_) => bytes.len(),
@@ -115,7 +94,6 @@ pub fn text_of(bytes: &[u8]) -> Result<String, (usize, String)> {
         return Ok(plain_lines(&text).into_owned());
     };
     let before = String::from_utf8_lossy(&bytes[..at]);
-    let line = 1 + plain_lines(&before).matches('\n').count();
     let help = if bytes.contains(&0) {
         "this is neither a text nor a binary sheet, which has 4 bytes, 17 more for each call, and kinds 1 to 10; \
          --binary says what is wrong with it as one"
@@ -126,7 +104,19 @@ pub fn text_of(bytes: &[u8]) -> Result<String, (usize, String)> {
         0 => "a zero byte stands in no text".into(),
         _ => format!("the byte {byte:02X} is no UTF-8"),
     };
-    Err((line, format!("{what}: {help}")))
+    Err((place_behind(&before), format!("{what}: {help}")))
+}
+
+/// The place of the character behind the start of a text.
+fn place_behind(start: &str) -> Columns {
+    let lines = plain_lines(start);
+    let last = lines.rsplit('\n').next().unwrap_or_default();
+    let column = last.chars().count() + 1;
+    Columns {
+        line: lines.matches('\n').count() + 1,
+        start: column,
+        end: column + 1,
+    }
 }
 
 #[cfg(test)]
@@ -149,14 +139,17 @@ mod tests {
     }
 
     #[test]
-    fn bytes_that_are_no_text_are_named_by_line() {
+    fn bytes_that_are_no_text_are_named_by_line_and_column() {
         let wrong = |bytes: &[u8]| text_of(bytes).unwrap_err();
+        let at = |bytes: &[u8]| (wrong(bytes).0.line, wrong(bytes).0.start);
         assert_eq!(
-            wrong(b"n\n# caf\xE9\n"),
-            (2, "the byte E9 is no UTF-8: save the text as UTF-8".into())
+            wrong(b"n\n# caf\xE9\n").1,
+            "the byte E9 is no UTF-8: save the text as UTF-8"
         );
-        assert_eq!(wrong(b"n\n\nb 00\0").0, 3);
-        assert_eq!(wrong(b"n\rn\r\n\xFF").0, 3);
+        assert_eq!(at(b"n\n# caf\xE9\n"), (2, 6));
+        assert_eq!(at("\u{e9}\0".as_bytes()), (1, 2));
+        assert_eq!(at(b"n\n\nb 00\0"), (3, 5));
+        assert_eq!(at(b"n\rn\r\n\xFF"), (3, 1));
         assert!(wrong(b"n\0").1.contains("--binary"));
         assert!(wrong(b"\xFF\xFEn\0").1.contains("UTF-16"));
         assert_eq!(text_of("\u{FEFF}n".as_bytes()), Ok("n".into()));

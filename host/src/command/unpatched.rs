@@ -1,17 +1,17 @@
 //! Notes of what was recorded and is not in the finished code, or defined and not in its object.
 
 use std::collections::HashSet;
-use std::fmt::Write;
 
 use sheet_text::counted;
 use wargnifla::{Arch, Call, CodeBufferFinalized, Label, Unpatched, WhyUnpatched};
 
+use super::diagnostic::{Diagnostic, Place};
 use super::input::Input;
 use super::options::Options;
 
-/// A line for each kind of what finish did not write, and for the constants that it did not pool, with the lines of the sheet that it comes from.
-/// `whose` names the sheet where there are more.
-pub fn notes(whose: &str, input: &Input, finished: &CodeBufferFinalized) -> String {
+/// A note for each kind of what finish did not write, at the first place that it comes from, with the lines of all; for the constants that it did not
+/// pool; and for the definitions that the object, if there is one, leaves out.
+pub fn notes(options: &Options, input: &Input, finished: &CodeBufferFinalized) -> Vec<Diagnostic> {
     let mut groups: Vec<Group> = Vec::new();
     let mut jumps = input.calls_where(|call| matches!(call, Call::Jump { .. }));
     let mut refs = input.calls_where(|call| matches!(call, Call::Ref { .. }));
@@ -28,49 +28,47 @@ pub fn notes(whose: &str, input: &Input, finished: &CodeBufferFinalized) -> Stri
             None => groups.push(Group::new(entry, call)),
         }
     }
-    let mut out = String::new();
-    for group in &groups {
+    let notes = groups.iter().map(|group| {
         let places = input.where_are(&group.calls);
         let what = group.text(finished.arch());
-        let _ = writeln!(out, "note: {whose}{what} ({places})");
-    }
-    out += &unasked_note(whose, input, finished);
+        Diagnostic::note(format!("{what} ({places})")).at(first_place(input, &group.calls))
+    });
     let is_not_kept = |group: &Group| group.why == WhyUnpatched::NotKept;
-    if let Some(note) = input
-        .unsaid_arch()
-        .filter(|_| groups.iter().any(is_not_kept))
-    {
-        let _ = writeln!(out, "{note}");
+    let unsaid = input.unsaid_arch();
+    let unsaid = unsaid.filter(|_| groups.iter().any(is_not_kept));
+    let mut notes: Vec<Diagnostic> = notes.chain(unsaid).collect();
+    notes.extend(unasked_note(input, finished));
+    if options.object.is_some() {
+        notes.extend(definition_notes(input, finished));
     }
-    out
+    notes
 }
 
-/// A note for each definition that the object, if there is one, leaves out, with its line.
-pub fn definition_notes(
-    options: &Options,
-    input: &Input,
-    finished: &CodeBufferFinalized,
-) -> String {
-    if options.object.is_none() {
-        return String::new();
-    }
+/// Where the first of some calls stands.
+fn first_place(input: &Input, calls: &[usize]) -> Option<Place> {
+    let first = calls.first().map(|call| input.place_of(*call, 0));
+    first.map(Place::without_excerpt)
+}
+
+/// A note for each definition that an object leaves out, at its line.
+fn definition_notes(input: &Input, finished: &CodeBufferFinalized) -> Vec<Diagnostic> {
     let left_out = finished.unbound_definitions().map(|(symbol, _)| symbol);
     let left_out: HashSet<_> = left_out.collect();
     let definitions = input.definitions.iter();
     let notes = definitions.filter(|definition| left_out.contains(&definition.symbol));
-    let notes = notes.filter_map(|definition| {
+    let notes = notes.map(|definition| {
         let label = finished.names().text(Label::from_id(definition.label));
         let sentence = format!(
-            "note: the definition of {} is left out of the object, since {label} is bound nowhere",
+            "the definition of {} is left out of the object, since {label} is bound nowhere",
             definition.symbol
         );
-        input.said_at(definition.label_place, &sentence)
+        Diagnostic::note(sentence).at(input.place_at(definition.label_place))
     });
-    notes.map(|note| note + "\n").collect()
+    notes.collect()
 }
 
-/// A line for the constants that no call asks for.
-fn unasked_note(whose: &str, input: &Input, finished: &CodeBufferFinalized) -> String {
+/// A note for the constants that no call asks for.
+fn unasked_note(input: &Input, finished: &CodeBufferFinalized) -> Option<Diagnostic> {
     let constants: Vec<usize> = input
         .calls_where(|call| matches!(call, Call::Constant(_)))
         .collect();
@@ -79,15 +77,16 @@ fn unasked_note(whose: &str, input: &Input, finished: &CodeBufferFinalized) -> S
         .map(|unasked| constants[unasked.id() as usize])
         .collect();
     let (is, them) = match calls.len() {
-        0 => return String::new(),
+        0 => return None,
         1 => ("is", "it"),
         _ => ("are", "them"),
     };
     let constants = counted(calls.len(), "constant");
     let places = input.where_are(&calls);
-    format!(
-        "note: {whose}{constants} {is} not in the code, since no constant-label asks for {them} ({places})\n"
-    )
+    let sentence = format!(
+        "{constants} {is} not in the code, since no constant-label asks for {them} ({places})"
+    );
+    Some(Diagnostic::note(sentence).at(first_place(input, &calls)))
 }
 
 /// Entries of one kind.

@@ -104,12 +104,17 @@ fn a_jump_by_name_stands_where_padding_leaves_it() {
 
 #[test]
 fn malformed_ceilings_are_marked() {
-    let message = |text: &str, sentence: &str| {
+    let message = |text: &str, column: usize, sentence: &str| {
         let output = run(&["-"], text.as_bytes());
-        fails(&output, 2, &format!("standard input:2: {sentence}"));
+        fails(
+            &output,
+            2,
+            &format!("standard input:2:{column}: error: {sentence}"),
+        );
     };
     message(
         "bytes 90\nalign 16 0",
+        10,
         "an align that may spend 0 bytes fits no sheet, whose 0 is the default, 4095: \
          leave MOST out for the default, or leave the align out
     align 16 0
@@ -117,25 +122,28 @@ fn malformed_ceilings_are_marked() {
     );
     message(
         "bytes 90\nalign 16 -3",
+        10,
         "'-3' is no number; one is decimal, or hexadecimal after 0x
     align 16 -3
              ^^",
     );
     message(
         "bytes 90\nalign 16 4294967296",
+        10,
         "'4294967296' is above 4294967295
     align 16 4294967296
              ^^^^^^^^^^",
     );
     message(
         "bytes 90\nalign 16 3 4 # two",
+        12,
         "align takes MULTIPLE and perhaps MOST, and 3 words stand here
     align 16 3 4 # two
                ^",
     );
     let output = run(&["-"], b"bytes 90\nalign 24 7");
     let sentence =
-        "standard input:2: align: number 5, InvalidArgument: the alignment 24 is no power of two
+        "standard input:2:7: error[5]: align: InvalidArgument: the alignment 24 is no power of two
     align 24 7
           ^^";
     fails(&output, 1, sentence);

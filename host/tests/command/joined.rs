@@ -139,7 +139,7 @@ fn one_of_several_may_be_standard_input() {
     fails(
         &output,
         2,
-        "standard input, -, can be one FILE alone; see wargnifla --help",
+        "error: standard input, -, can be one FILE alone; see wargnifla --help",
     );
 }
 
@@ -176,7 +176,7 @@ fn what_is_about_one_sheet_is_not_joined() {
         let page = path("joined-page");
         let arguments = [option, page.to_str().unwrap(), "a", "b"];
         let sentence = format!(
-            "{option} is about one sheet, and can't be given where sheets are joined; see wargnifla --help"
+            "error: {option} is about one sheet, and can't be given where sheets are joined; see wargnifla --help"
         );
         fails(&run(&arguments, b""), 2, &sentence);
         assert!(!page.exists());
@@ -196,7 +196,7 @@ fn binary_sheets_share_numbers() {
 fn an_undefined_symbol_is_marked_where_it_is_named() {
     let (output, names) = run_files("undefined", &[], &["b 90", CALLER, "sorts:"]);
     let message = format!(
-        "{}:3: join: number 29, UnboundSymbol: \
+        "{}:3:20: error[29]: join: UnboundSymbol: \
          relocation 0 of piece 1, at 1 there, names symbol sort, which no piece defines
     o 1 X86CallPLTRel4 sort -4
                        ^^^^
@@ -209,11 +209,11 @@ note: 'define SYMBOL LABEL' in one of the sheets defines a symbol, as does a lab
     let unbound = "label end\nb 90; define sort end\n";
     let (output, names) = run_files("unbound", &[], &[CALLER, unbound]);
     let message = format!(
-        "{}:3: join: number 29, UnboundSymbol: relocation 0 of piece 0, at 1 there, \
+        "{}:3:20: error[29]: join: UnboundSymbol: relocation 0 of piece 0, at 1 there, \
          names symbol sort, which piece 1 defines by label end, which is not bound
     o 1 X86CallPLTRel4 sort -4
                        ^^^^
-{}:2: note: symbol sort is defined here
+{}:2:14: note: symbol sort is defined here
     b 90; define sort end
                  ^^^^",
         names[0], names[1]
@@ -225,11 +225,11 @@ note: 'define SYMBOL LABEL' in one of the sheets defines a symbol, as does a lab
 fn two_definitions_are_both_shown() {
     let (output, names) = run_files("twice", &[], &["b 90", CALLEE, "n\ndefine sort 0\n"]);
     let message = format!(
-        "{}:2: join: number 28, DuplicateSymbol: \
+        "{}:2:8: error[28]: join: DuplicateSymbol: \
          symbol sort is defined twice, by label entry of piece 1 and by label 0 of piece 2
     define sort 0
            ^^^^
-{}:1: note: symbol sort is defined here
+{}:1:8: note: symbol sort is defined here
     define sort entry
            ^^^^",
         names[2], names[1]
@@ -237,7 +237,7 @@ fn two_definitions_are_both_shown() {
     fails(&output, 1, &message);
     let (output, names) = run_files("named-twice", &[], &[CALLER, "sort:", "sort:"]);
     let message = format!(
-        "{}: join: number 28, DuplicateSymbol: \
+        "{}: error[28]: join: DuplicateSymbol: \
          symbol sort is defined twice, by label sort of piece 1 and by label sort of piece 2
 note: a label defines the symbol of its name where nothing else does: \
          give one of the labels another name, or define the symbol",
@@ -250,7 +250,7 @@ note: a label defines the symbol of its name where nothing else does: \
 fn other_refusals_name_their_file_and_line() {
     let (output, names) = run_files("archs", &[], &["b 90", "arch aarch64\nz 4"]);
     let message = format!(
-        "{}: join: number 27, IncompatibleArch: piece 1 is for AArch64, and piece 0 for X64
+        "{}: error[27]: join: IncompatibleArch: piece 1 is for AArch64, and piece 0 for X64
 note: --arch names one architecture for all sheets",
         names[1]
     );
@@ -259,7 +259,7 @@ note: --arch names one architecture for all sheets",
     let callee = "n; l 0; define s0 0";
     let (output, names) = run_files("past-end", &[], &[past_end, callee]);
     let message = format!(
-        "{}:2: join: number 17, InvalidArgument: relocation 0 of piece 0, at 1 there, \
+        "{}:2:3: error[17]: join: InvalidArgument: relocation 0 of piece 0, at 1 there, \
          has a field of 4 bytes, which passes the end of the piece, 4
     o 1 X86PCRel4 s0
       ^",
@@ -268,13 +268,13 @@ note: --arch names one architecture for all sheets",
     fails(&output, 1, &message);
     let far = "z 4\no 0 X86PCRel4 s0 4294967296\n";
     let (output, names) = run_files("far", &[], &[far, callee]);
-    let start = format!("{}:2: join: number 18, TooLarge: ", names[0]);
+    let start = format!("{}:2:15: error[18]: join: TooLarge: ", names[0]);
     assert!(err(&output).starts_with(&start), "{}", err(&output));
     assert!(err(&output).ends_with("    o 0 X86PCRel4 s0 4294967296\n                  ^^\n"));
     let many = file("many.txt", "b 90");
     let output = run(&vec![many.as_str(); 257], b"");
     let message =
-        "join: number 1, InvalidArgument: there are 257 pieces, and at most 256 are joined";
+        "error[1]: join: InvalidArgument: there are 257 pieces, and at most 256 are joined";
     fails(&output, 1, message);
 }
 
@@ -282,7 +282,7 @@ note: --arch names one architecture for all sheets",
 fn a_sheet_that_is_refused_is_named() {
     let (output, names) = run_files("refused", &["--open"], &["b 90", "n; u 0 0 0\n"]);
     assert!(
-        err(&output).starts_with(&format!("{}:1: finish: number 15", names[1])),
+        err(&output).starts_with(&format!("{}:1:8: error[15]: finish: ", names[1])),
         "{}",
         err(&output)
     );
@@ -293,7 +293,7 @@ fn a_sheet_that_is_refused_is_named() {
     );
     let (output, names) = run_files("noted", &[], &["n; l 0; z 4; r 0 0 0", "b 90"]);
     let note = format!(
-        "note: {}: 1 ref is not patched, since no jump stands (line 1)\n",
+        "{}:1:14: note: 1 ref is not patched, since no jump stands (line 1)\n",
         names[0]
     );
     assert_eq!(err(&output), note);
@@ -305,12 +305,13 @@ fn what_no_object_holds_names_its_file() {
     let object = path("no-joined.o");
     let options = ["--object", object.to_str().unwrap()];
     let (output, _) = run_files("ends", &options, &["end:", "b 90; end:"]);
-    let message = "label 0 and label 1 are both named 'end', and an object has one symbol of a name
+    let message =
+        "error: label 0 and label 1 are both named 'end', and an object has one symbol of a name
 note: a name that starts with '.' stays within its piece, and may stand in several";
     fails(&output, 2, message);
     let (output, names) = run_files("sec-rel", &options, &["b 90", "z 4\no 0 X86SecRel s0\n"]);
     let message = format!(
-        "{}:2: write_relas: number 24, InvalidArch: \
+        "{}:2:5: error[24]: write_relas: InvalidArch: \
          relocation 0, at 32 in the finished code, is of kind X86SecRel, which has no ELF type on X64
     o 0 X86SecRel s0
         ^^^^^^^^^",
@@ -319,7 +320,7 @@ note: a name that starts with '.' stays within its piece, and may stand in sever
     fails(&output, 1, &message);
     let (output, names) = run_files("field", &options, &["b 90", "z 4\no 1 Abs4 s0\n"]);
     let message = format!(
-        "{}:2: relocation 0, at 33 in the finished code, \
+        "{}:2:3: error: relocation 0, at 33 in the finished code, \
          has a field of 4 bytes, which passes the end of the code, 36
     o 1 Abs4 s0
       ^",
@@ -339,22 +340,22 @@ fn wrong_definitions_are_marked() {
     };
     wrong(
         "define sort entr\nentry:",
-        "standard input:1: there is no label 'entr'; did you mean 'entry'?
+        "standard input:1:13: error: there is no label 'entr'; did you mean 'entry'?
     define sort entr
                 ^^^^",
     );
     wrong(
         "symbols 3; n\ndefine s3 0",
-        "standard input:2: symbol 3 is out of range: there are 3 symbols
+        "standard input:2:8: error: symbol 3 is out of range: there are 3 symbols
     define s3 0
            ^^",
     );
     wrong(
         "n; define 7 0\ndefine s7 0",
-        "standard input:2: symbol 7 is defined already
+        "standard input:2:8: error: symbol 7 is defined already
     define s7 0
            ^^
-standard input:1: note: it is defined here
+standard input:1:11: note: it is defined here
     n; define 7 0
               ^",
     );

@@ -172,7 +172,7 @@ fn the_page_is_written_by_the_rules_of_all_outputs() {
         let output = run(arguments, "bytes 90");
         assert_eq!(output.status.code(), Some(2));
         let said = String::from_utf8(output.stderr).unwrap();
-        assert_eq!(said, format!("{sentence}; nothing is written\n"));
+        assert_eq!(said, format!("error: {sentence}; nothing is written\n"));
         assert!(!page.exists());
     };
     fails(
@@ -191,6 +191,6 @@ fn the_page_is_written_by_the_rules_of_all_outputs() {
         .unwrap();
     let said = String::from_utf8(output.stderr).unwrap();
     let sentence = "which is the sheet itself; nothing is written\n";
-    assert_eq!(said, format!("--picture names {sheet}, {sentence}"));
+    assert_eq!(said, format!("error: --picture names {sheet}, {sentence}"));
     assert_eq!(fs::read(sheet).unwrap(), b"bytes 90");
 }

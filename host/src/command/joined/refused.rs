@@ -4,51 +4,49 @@ use sheet_text::nearest;
 use wargnifla::{Entry, Error, ExternalName, Joined, ObjectError, RelocTarget};
 
 use crate::command::Failure;
+use crate::command::diagnostic::Diagnostic;
 use crate::command::input::wrong_relocation;
 use crate::command::rule::Rule;
 
 /// A refused join.
 pub fn join(rules: &[Rule], error: &Error) -> Failure {
     let Some(piece) = error.piece() else {
-        return Failure::refused(error.to_string());
+        return Failure::refused(Diagnostic::refusal(error));
     };
-    let mut message = rules[piece].input.said_of_refusal(error);
-    for note in notes(rules, piece, error) {
-        message.push('\n');
-        message += &note;
-    }
-    Failure::refused(message)
+    let message = rules[piece].input.refusal_of_entry(error);
+    Failure::refused(message.with(notes(rules, piece, error)))
 }
 
 /// What helps to mend a refused join.
-fn notes(rules: &[Rule], piece: usize, error: &Error) -> Vec<String> {
+fn notes(rules: &[Rule], piece: usize, error: &Error) -> Vec<Diagnostic> {
     match (error.number(), error.entry()) {
-        (27, _) => vec!["note: --arch names one architecture for all sheets".into()],
+        (27, _) => vec![Diagnostic::note(
+            "--arch names one architecture for all sheets",
+        )],
         (28, Some(Entry::Definition(index))) => {
             let symbol = &rules[piece].input.definitions[index].symbol;
             defined_here(rules, symbol).into_iter().collect()
         }
-        (28, _) => vec![
-            "note: a label defines the symbol of its name where nothing else does: give one of the labels another name, or define the symbol"
-                .into(),
-        ],
+        (28, _) => vec![Diagnostic::note(
+            "a label defines the symbol of its name where nothing else does: give one of the labels another name, or define the symbol",
+        )],
         (29, Some(Entry::Reloc(relocation))) => undefined(rules, piece, relocation),
         _ => Vec::new(),
     }
 }
 
 /// Where a symbol is defined first.
-fn defined_here(rules: &[Rule], symbol: &ExternalName) -> Option<String> {
+fn defined_here(rules: &[Rule], symbol: &ExternalName) -> Option<Diagnostic> {
     rules.iter().find_map(|rule| {
         let mut definitions = rule.input.definitions.iter();
         let definition = definitions.find(|definition| definition.symbol == *symbol)?;
-        let note = format!("note: {symbol} is defined here");
-        rule.input.said_at(definition.symbol_place, &note)
+        let place = rule.input.place_at(definition.symbol_place)?;
+        Some(Diagnostic::note(format!("{symbol} is defined here")).at(place))
     })
 }
 
 /// What is wrong with the definition of a relocation's symbol, or that there is none.
-fn undefined(rules: &[Rule], piece: usize, relocation: usize) -> Vec<String> {
+fn undefined(rules: &[Rule], piece: usize, relocation: usize) -> Vec<Diagnostic> {
     let code = rules[piece].code();
     let RelocTarget::Sym(symbol) = code.relocs()[relocation].target else {
         return Vec::new();
@@ -61,13 +59,12 @@ fn undefined(rules: &[Rule], piece: usize, relocation: usize) -> Vec<String> {
     if let ExternalName::Name(name) = &symbol
         && let Some(near) = nearest(name, defined_names(rules))
     {
-        notes.push(format!("note: did you mean '{near}'?"));
+        notes.push(Diagnostic::note(format!("did you mean '{near}'?")));
     }
-    notes.push(
-        "note: 'define SYMBOL LABEL' in one of the sheets defines a symbol, as does a label of its name; \
-         what is left to the system's linker is named by another kind, such as X86GOTPCRel4"
-            .into(),
-    );
+    notes.push(Diagnostic::note(
+        "'define SYMBOL LABEL' in one of the sheets defines a symbol, as does a label of its name; \
+         what is left to the system's linker is named by another kind, such as X86GOTPCRel4",
+    ));
     notes
 }
 
@@ -89,29 +86,30 @@ pub fn object(rules: &[Rule], whole: &Joined, error: &ObjectError) -> Failure {
     if let ObjectError::Relocations(error) = error {
         return relocations(rules, whole, error);
     }
-    let placed = wrong_relocation(error).and_then(|(relocation, word)| {
+    let place = wrong_relocation(error).and_then(|(relocation, word)| {
         let origin = whole.remaining()[relocation];
         let input = &rules[origin.piece].input;
-        input.said_of_relocation(origin.relocation, word, error)
+        input.place_of_relocation(origin.relocation, word)
     });
-    let mut message = placed.unwrap_or_else(|| error.to_string());
-    if let ObjectError::NameTwice { .. } = error {
-        message +=
-            "\nnote: a name that starts with '.' stays within its piece, and may stand in several";
-    }
-    Failure::unusable(message)
+    let is_name_twice = matches!(error, ObjectError::NameTwice { .. });
+    let note = is_name_twice.then(|| {
+        Diagnostic::note(
+            "a name that starts with '.' stays within its piece, and may stand in several",
+        )
+    });
+    Failure::unusable(Diagnostic::error(error.to_string()).at(place).with(note))
 }
 
 /// Relocations of the whole that can't be written as ELF.
 fn relocations(rules: &[Rule], whole: &Joined, error: &Error) -> Failure {
-    let placed = match error.entry() {
+    let place = match error.entry() {
         Some(Entry::Reloc(relocation)) => {
             let origin = whole.remaining()[relocation];
             let word = if error.number() == 25 { 4 } else { 2 };
             let input = &rules[origin.piece].input;
-            input.said_of_relocation(origin.relocation, word, error)
+            input.place_of_relocation(origin.relocation, word)
         }
         _ => None,
     };
-    Failure::refused(placed.unwrap_or_else(|| error.to_string()))
+    Failure::refused(Diagnostic::refusal(error).at(place))
 }
