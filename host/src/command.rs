@@ -15,6 +15,7 @@ mod rounds;
 mod rule;
 mod source;
 mod unpatched;
+mod width;
 
 use std::env;
 use std::io::{self, ErrorKind, Write};

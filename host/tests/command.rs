@@ -917,3 +917,48 @@ fn a_reader_that_goes_away_is_no_error() {
     assert_eq!(err(&output), "");
     assert_eq!(output.status.code(), Some(0));
 }
+
+#[test]
+fn marks_stand_under_what_is_wrong_behind_wide_characters() {
+    let output = run(
+        &["-"],
+        "n # \u{6f22}\nb 90; b \u{6f22}\u{5b57} # x".as_bytes(),
+    );
+    let message = "standard input:2:9: error: '\u{6f22}' is no hexadecimal digit; bytes are written like 0F 1F 00
+    b 90; b \u{6f22}\u{5b57} # x
+            ^^^^";
+    fails(&output, 2, message);
+}
+
+/// Runs where nothing can be written to standard error.
+#[cfg(target_os = "linux")]
+fn status_with_full_errors(arguments: &[&str]) -> Option<i32> {
+    let full = fs::OpenOptions::new()
+        .write(true)
+        .open("/dev/full")
+        .unwrap();
+    let output = command(arguments)
+        .stdin(Stdio::null())
+        .stderr(full)
+        .output()
+        .unwrap();
+    output.status.code()
+}
+
+#[cfg(target_os = "linux")]
+#[test]
+fn standard_error_that_cannot_be_written_changes_no_status() {
+    let refused = path("full-refused.txt");
+    fs::write(&refused, "bind 3").unwrap();
+    let noted = path("full-noted.txt");
+    fs::write(&noted, "n; l 0; z 4; r 0 0 0").unwrap();
+    let noted = noted.to_str().unwrap();
+    assert_eq!(
+        status_with_full_errors(&[refused.to_str().unwrap()]),
+        Some(1)
+    );
+    assert_eq!(status_with_full_errors(&["--fast"]), Some(2));
+    assert_eq!(status_with_full_errors(&["no/such/file"]), Some(2));
+    assert_eq!(status_with_full_errors(&[noted]), Some(0));
+    assert_eq!(status_with_full_errors(&[noted, noted]), Some(0));
+}

@@ -2,6 +2,8 @@
 
 use sheet_text::{Span, escaped};
 
+use super::width::{is_combining, width};
+
 /// The most characters of a line that are shown before and after what is marked, and of what is marked.
 const MOST_BEFORE: usize = 60;
 const MOST_AFTER: usize = 30;
@@ -17,8 +19,8 @@ pub fn excerpt(text: &str, place: Span) -> Option<String> {
     let marked = shown(&head(rest, MOST_MARKED));
     let line = format!("{before}{marked}{}", shown(&head(after, MOST_AFTER)));
     let blank = before.len() - before.trim_start().len();
-    let mark = "^".repeat(marked.chars().count().max(1));
-    let indent = " ".repeat(before[blank..].chars().count());
+    let mark = "^".repeat(width(&marked).max(1));
+    let indent = " ".repeat(width(&before[blank..]));
     Some(format!("    {}\n    {indent}{mark}\n", line.trim()))
 }
 
@@ -39,6 +41,7 @@ fn tail(text: &str, most: usize) -> String {
 fn shown(text: &str) -> String {
     let character = |c: char| match c {
         _ if c.is_whitespace() => " ".into(),
+        _ if is_combining(c) => c.into(),
         _ => escaped(c),
     };
     text.chars().map(character).collect()
@@ -75,6 +78,26 @@ mod tests {
         assert!(line.chars().count() < 110, "{line}");
         let at = mark.find('^').unwrap();
         assert_eq!(&line[at..at + 2], "0g");
+    }
+
+    #[test]
+    fn marks_stand_under_wide_characters_and_not_under_combining_ones() {
+        let marked = |text: &str, word: &str| {
+            let start = text.find(word).unwrap() as u32;
+            excerpt(text, span(1, start, start + word.len() as u32)).unwrap()
+        };
+        assert_eq!(
+            marked("n \u{6f22}\u{5b57} x", "x"),
+            "    n \u{6f22}\u{5b57} x\n           ^\n"
+        );
+        assert_eq!(
+            marked("n \u{1f600}\u{ff21} x", "\u{1f600}\u{ff21}"),
+            "    n \u{1f600}\u{ff21} x\n      ^^^^\n"
+        );
+        assert_eq!(
+            marked("e\u{301}\u{e9} cafe\u{301}s y", "cafe\u{301}s"),
+            "    e\u{301}\u{e9} cafe\u{301}s y\n       ^^^^^\n"
+        );
     }
 
     #[test]

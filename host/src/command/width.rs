@@ -1,0 +1,177 @@
+//! How many columns of a terminal characters take.
+
+use std::ops::RangeInclusive;
+
+type Ranges = &'static [RangeInclusive<u32>];
+
+/// Marks that are drawn over the character before them: the scripts' common ones, and selectors of variants.
+const COMBINING: Ranges = &[
+    0x0300..=0x036F,
+    0x0483..=0x0489,
+    0x0591..=0x05BD,
+    0x05BF..=0x05BF,
+    0x05C1..=0x05C2,
+    0x05C4..=0x05C5,
+    0x0610..=0x061A,
+    0x064B..=0x065F,
+    0x0670..=0x0670,
+    0x06D6..=0x06DC,
+    0x06DF..=0x06E4,
+    0x06E7..=0x06E8,
+    0x06EA..=0x06ED,
+    0x0900..=0x0902,
+    0x093C..=0x093C,
+    0x0941..=0x0948,
+    0x094D..=0x094D,
+    0x0951..=0x0957,
+    0x0E31..=0x0E31,
+    0x0E34..=0x0E3A,
+    0x0E47..=0x0E4E,
+    0x1AB0..=0x1ACE,
+    0x1DC0..=0x1DFF,
+    0x20D0..=0x20F0,
+    0x302A..=0x302D,
+    0x3099..=0x309A,
+    0xFE00..=0xFE0F,
+    0xFE20..=0xFE2F,
+];
+
+/// East Asian wide and fullwidth characters, and emoji.
+const WIDE: Ranges = &[
+    0x1100..=0x115F,
+    0x231A..=0x231B,
+    0x2329..=0x232A,
+    0x23E9..=0x23EC,
+    0x23F0..=0x23F0,
+    0x23F3..=0x23F3,
+    0x25FD..=0x25FE,
+    0x2614..=0x2615,
+    0x2648..=0x2653,
+    0x267F..=0x267F,
+    0x2693..=0x2693,
+    0x26A1..=0x26A1,
+    0x26AA..=0x26AB,
+    0x26BD..=0x26BE,
+    0x26C4..=0x26C5,
+    0x26CE..=0x26CE,
+    0x26D4..=0x26D4,
+    0x26EA..=0x26EA,
+    0x26F2..=0x26F3,
+    0x26F5..=0x26F5,
+    0x26FA..=0x26FA,
+    0x26FD..=0x26FD,
+    0x2705..=0x2705,
+    0x270A..=0x270B,
+    0x2728..=0x2728,
+    0x274C..=0x274C,
+    0x274E..=0x274E,
+    0x2753..=0x2755,
+    0x2757..=0x2757,
+    0x2795..=0x2797,
+    0x27B0..=0x27B0,
+    0x27BF..=0x27BF,
+    0x2B1B..=0x2B1C,
+    0x2B50..=0x2B50,
+    0x2B55..=0x2B55,
+    0x2E80..=0x303E,
+    0x3041..=0x3247,
+    0x3250..=0x4DBF,
+    0x4E00..=0xA4CF,
+    0xA960..=0xA97F,
+    0xAC00..=0xD7A3,
+    0xF900..=0xFAFF,
+    0xFE10..=0xFE19,
+    0xFE30..=0xFE6F,
+    0xFF01..=0xFF60,
+    0xFFE0..=0xFFE6,
+    0x16FE0..=0x18D08,
+    0x1AFF0..=0x1B2FF,
+    0x1F004..=0x1F004,
+    0x1F0CF..=0x1F0CF,
+    0x1F18E..=0x1F18E,
+    0x1F191..=0x1F19A,
+    0x1F200..=0x1F320,
+    0x1F32D..=0x1F335,
+    0x1F337..=0x1F37C,
+    0x1F37E..=0x1F393,
+    0x1F3A0..=0x1F3CA,
+    0x1F3CF..=0x1F3D3,
+    0x1F3E0..=0x1F3F0,
+    0x1F3F4..=0x1F3F4,
+    0x1F3F8..=0x1F43E,
+    0x1F440..=0x1F440,
+    0x1F442..=0x1F4FC,
+    0x1F4FF..=0x1F53D,
+    0x1F54B..=0x1F54E,
+    0x1F550..=0x1F567,
+    0x1F57A..=0x1F57A,
+    0x1F595..=0x1F596,
+    0x1F5A4..=0x1F5A4,
+    0x1F5FB..=0x1F64F,
+    0x1F680..=0x1F6C5,
+    0x1F6CC..=0x1F6CC,
+    0x1F6D0..=0x1F6D2,
+    0x1F6D5..=0x1F6D7,
+    0x1F6DC..=0x1F6DF,
+    0x1F6EB..=0x1F6EC,
+    0x1F6F4..=0x1F6FC,
+    0x1F7E0..=0x1F7EB,
+    0x1F7F0..=0x1F7F0,
+    0x1F90C..=0x1F93A,
+    0x1F93C..=0x1F945,
+    0x1F947..=0x1F9FF,
+    0x1FA70..=0x1FAFF,
+    0x20000..=0x3FFFD,
+];
+
+/// Whether a character is drawn over the one before it.
+pub fn is_combining(c: char) -> bool {
+    is_in(COMBINING, c)
+}
+
+/// The columns that a text takes.
+pub fn width(text: &str) -> usize {
+    let columns = text.chars().map(|c| match c {
+        ' '..='~' => 1,
+        _ if is_combining(c) => 0,
+        _ if is_in(WIDE, c) => 2,
+        _ => 1,
+    });
+    columns.sum()
+}
+
+/// The ranges rise.
+fn is_in(ranges: Ranges, c: char) -> bool {
+    let c = u32::from(c);
+    let at = ranges.partition_point(|range| *range.end() < c);
+    ranges.get(at).is_some_and(|range| range.contains(&c))
+}
+
+#[cfg(test)]
+mod tests {
+    use super::*;
+
+    #[test]
+    fn ranges_rise() {
+        for ranges in [COMBINING, WIDE] {
+            let ends = ranges.iter().flat_map(|range| [range.start(), range.end()]);
+            assert!(ends.is_sorted());
+            assert!(ranges.windows(2).all(|two| two[0].end() < two[1].start()));
+        }
+    }
+
+    #[test]
+    fn characters_take_no_column_one_or_two() {
+        assert_eq!(width("bind end"), 8);
+        assert_eq!(width("caf\u{e9} \u{3b1}\u{436}\u{2192}"), 8);
+        assert_eq!(width("cafe\u{301}"), 4);
+        assert_eq!(width("\u{0e17}\u{0e35}\u{0e48}"), 1);
+        assert_eq!(
+            width("\u{6f22}\u{5b57}\u{304b}\u{30ca}\u{d55c}\u{ff21}\u{ff01}"),
+            14
+        );
+        assert_eq!(width("\u{ff71}\u{ff9d}"), 2, "halfwidth");
+        assert_eq!(width("\u{1f600}\u{1f680}\u{2705}\u{20000}"), 8);
+        assert_eq!(width("\u{2764}\u{fe0f}"), 1);
+    }
+}
