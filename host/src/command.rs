@@ -6,6 +6,7 @@ mod excerpt;
 mod files;
 mod input;
 mod joined;
+mod kinds;
 mod object;
 mod one;
 mod open;
@@ -22,7 +23,7 @@ use std::io::{self, ErrorKind, Write};
 use std::process::ExitCode;
 
 use diagnostic::Diagnostic;
-use options::{HELP, Options, Request};
+use options::{Options, Request, file_text};
 
 /// Messages for standard error, and the exit status that goes with them.
 struct Failure {
@@ -66,12 +67,12 @@ impl Failure {
 pub fn main() -> ExitCode {
     let done = options::parse(env::args_os().skip(1))
         .map_err(|sentence| {
-            Failure::unusable(Diagnostic::error(format!(
-                "{sentence}; see wargnifla --help"
-            )))
+            let message = format!("{sentence}; see {} --help", own_name());
+            Failure::unusable(Diagnostic::error(message))
         })
         .and_then(|request| match request {
-            Request::Help => print_text(HELP),
+            Request::Help => print_text(&options::help(&own_name())),
+            Request::ListKinds => print_text(&kinds::tables()),
             Request::Version => print_text(concat!("wargnifla ", env!("CARGO_PKG_VERSION"), "\n")),
             Request::Run(options) => run(&options),
         });
@@ -81,6 +82,14 @@ pub fn main() -> ExitCode {
             diagnostic::print_all(&failure.diagnostics);
             ExitCode::from(failure.status)
         }
+    }
+}
+
+/// The command that the user ran: a script that runs this program tells it its own name.
+fn own_name() -> String {
+    match env::var_os("WARGNIFLA_COMMAND") {
+        Some(name) if !name.is_empty() => file_text(&name),
+        _ => "wargnifla".into(),
     }
 }
 

@@ -4,6 +4,9 @@
 mod ceilings;
 #[path = "command/joined.rs"]
 mod joined;
+#[cfg(unix)]
+#[path = "command/names.rs"]
+mod names;
 #[path = "command/texts.rs"]
 mod texts;
 
@@ -19,7 +22,7 @@ const CASE_C: &str =
 
 fn command(arguments: &[&str]) -> Command {
     let mut command = Command::new(env!("CARGO_BIN_EXE_wargnifla"));
-    command.args(arguments);
+    command.args(arguments).env_remove("WARGNIFLA_COMMAND");
     command
 }
 
@@ -900,6 +903,57 @@ fn help_and_version() {
         out(&output),
         concat!("wargnifla ", env!("CARGO_PKG_VERSION"), "\n")
     );
+}
+
+#[test]
+fn options_take_values_in_several_forms_and_each_once() {
+    let file = path("forms.bin");
+    let name = file.to_str().unwrap();
+    let output = run(&[&format!("-o{name}"), "--arch=x86", "-"], b"b 90");
+    assert!(
+        out(&output).contains("finished for X86"),
+        "{}",
+        err(&output)
+    );
+    assert_eq!(fs::read(&file).unwrap(), [0x90]);
+    fails(
+        &run(&["-o", "a", "-o", "b", "-"], b""),
+        2,
+        "error: -o is given twice, with different values; see wargnifla --help",
+    );
+    fails(
+        &run(&["--ful", "-"], b""),
+        2,
+        "error: there is no option --ful (did you mean --full?); see wargnifla --help",
+    );
+}
+
+#[test]
+fn kinds_are_listed() {
+    let output = run(&["--list-kinds"], b"");
+    assert_eq!(err(&output), "");
+    assert_eq!(output.status.code(), Some(0));
+    let text = out(&output);
+    let lines = "label uses
+    code  name                         bytes  architectures
+       0  X86JmpRel32                      4  X86, X64
+       1  X86BranchRel8                    1  X86, X64
+       2  RVJal20                          -  none
+";
+    assert!(text.starts_with(lines), "{text}");
+    let lines = "
+relocations
+    kind  name                         bytes  architectures and ELF types
+       0  Abs4                             4  X86, X64 (R_X86_64_32), AArch64 (R_AARCH64_ABS32)
+       1  Abs8                             8  X86, X64 (R_X86_64_64), AArch64 (R_AARCH64_ABS64)
+       2  X86PCRel4                        4  X86, X64 (R_X86_64_PC32)
+";
+    assert!(text.contains(lines), "{text}");
+    assert!(
+        text.contains("      11  MachOAarch64TlsAdrPage21         4  AArch64\n"),
+        "{text}"
+    );
+    assert_eq!(text.lines().count(), 17 + 28 + 5);
 }
 
 #[test]

@@ -3,41 +3,69 @@
 use std::ffi::{OsStr, OsString};
 use std::path::{Path, PathBuf};
 
-use sheet_text::{escaped, shown};
+use sheet_text::{escaped, nearest, shown};
 use wargnifla::{Arch, Extent, Radix, Style};
 
-pub const HELP: &str = "\
+/// What `--help` prints. The options that a mistyped one is compared with are those that stand here.
+const HELP: &str = "\
 usage: wargnifla [OPTIONS] FILE ..
 
-Records a sheet of calls, finishes it, and shows the code. FILE is a sheet in text or binary form; - is standard input. Several are each finished and
-then joined, in the order given: calls of symbols that one of them defines are filled.
+Records a sheet of calls, finishes it, and shows the code. FILE is a sheet in text or binary
+form; - is standard input. Several are each finished and then joined, in the order given: calls
+of symbols that one of them defines are filled.
 
-  -o FILE                  write the finished code; to - it goes to standard output, in the place of the listing
-  --object FILE            write an ELF object for the system linker, or to -
-  --debug                  put the text's lines into the object, as DWARF
-  --write-sheet FILE       write the calls as a binary sheet, or to -; not where sheets are joined
-  --picture FILE           write a page for a browser that draws the rounds to scale, step by step, or to -; not where sheets are joined
-  --join                   join even one FILE, and so fill its calls of symbols that it defines itself
+How sheets are read
   --arch x86|x64|aarch64   the architecture, whatever the sheet says (x64 if neither says)
-  --symbols N              how many symbols there are, whatever the sheet says (as many as it names if neither says)
-  --rounds                 show what each round of relaxation lengthened, and why, and which alignments it skipped
-  --open                   show how many entries name a label that is not bound, after each call; where one is refused, too
-  --full                   show long runs of bytes, long tables and all rounds whole
-  --hex                    show offsets in hexadecimal
+  --symbols N              how many symbols there are, whatever the sheet says (as many as it
+                           names if neither says)
   --text, --binary         take every FILE for text, or for a binary sheet
+  --join                   join even one FILE, and so fill its calls of symbols that it defines
+
+What is written; to - it goes to standard output, in the place of the listing
+  -o FILE                  the finished code
+  --object FILE            an ELF object for the system linker
+  --debug                  with --object: the text's lines in it, as DWARF
+  --write-sheet FILE       the calls as a binary sheet; not where sheets are joined
+  --picture FILE           a page for a browser that draws the rounds to scale, step by step;
+                           not where sheets are joined
+
+What the listing shows
+  --rounds                 what each round of relaxation lengthened, and why, and which
+                           alignments it skipped
+  --open                   how many entries name a label that is not bound, after each call;
+                           where one is refused, too
+  --full                   long runs of bytes, long tables and all rounds whole
+  --hex                    offsets in hexadecimal
+
+What is shown without a FILE
+  --list-kinds             the codes of label uses and the kinds of relocations
   -h, --help               this text
   -V, --version            the version
 
-Exit status: 0 finished; 1 refused; 2 bad usage, a file that can't be read or written, malformed text, or what fits no object or binary sheet;
-3 an error of this program itself.
-Files are written only where the code is finished. What was recorded and is not in the code is said on standard error.
+Exit status: 0 finished; 1 refused; 2 bad usage, a file that can't be read or written, malformed
+text, or what fits no object or binary sheet; 3 an error of this program itself.
+Files are written only where the code is finished. What was recorded and is not in the code is
+said on standard error.
 ";
+
+/// What `--help` prints for a command of some name.
+pub fn help(command: &str) -> String {
+    HELP.replacen("wargnifla", command, 1)
+}
+
+/// The names of the options that the help lists.
+fn known_options() -> impl Iterator<Item = &'static str> {
+    let lines = HELP.lines().filter(|line| line.starts_with("  -"));
+    let names = lines.filter_map(|line| line.trim_start().split("  ").next());
+    names.flat_map(|names| names.split(", ").filter_map(|name| name.split(' ').next()))
+}
 
 /// What the command is asked to do.
 #[derive(Debug, PartialEq, Eq)]
 pub enum Request {
     Help,
     Version,
+    ListKinds,
     Run(Options),
 }
 
@@ -132,43 +160,148 @@ pub fn parse(arguments: impl IntoIterator<Item = OsString>) -> Result<Request, S
     let mut arguments = arguments.into_iter();
     let mut options = Options::default();
     let mut files = Vec::new();
-    let mut only_files = false;
     while let Some(argument) = arguments.next() {
-        let known = match argument.to_str() {
-            Some(text) if !only_files => text,
-            _ => "",
-        };
-        match known {
-            "-h" | "--help" => return Ok(Request::Help),
-            "-V" | "--version" => return Ok(Request::Version),
-            "-o" => options.output = Some(value("-o", arguments.next())?.into()),
-            "--object" => options.object = Some(value("--object", arguments.next())?.into()),
-            "--debug" => options.debug = true,
-            "--write-sheet" => {
-                options.write_sheet = Some(value("--write-sheet", arguments.next())?.into());
-            }
-            "--picture" => options.picture = Some(value("--picture", arguments.next())?.into()),
-            "--arch" => options.arch = Some(arch(&value("--arch", arguments.next())?)?),
-            "--symbols" => {
-                options.symbols = Some(symbols(&value("--symbols", arguments.next())?)?);
-            }
-            "--join" => options.join = true,
-            "--rounds" => options.rounds = true,
-            "--open" => options.open = true,
-            "--full" => options.full = true,
-            "--hex" => options.hex = true,
-            "--text" => options.form = Some(Form::Text),
-            "--binary" => options.form = Some(Form::Binary),
-            "--" => only_files = true,
-            unknown if unknown.len() > 1 && unknown.starts_with('-') => {
-                return Err(format!("there is no option {}", shown(unknown)));
-            }
-            _ => files.push(argument),
+        if argument == "--" {
+            files.extend(arguments);
+            break;
         }
+        let Some(given) = Given::new(&argument) else {
+            files.push(argument);
+            continue;
+        };
+        if let Some(request) = given.request()? {
+            return Ok(request);
+        }
+        given.set(&mut options, &mut arguments)?;
     }
     options.files = files;
     check(&options)?;
     Ok(Request::Run(options))
+}
+
+/// An option as it is given.
+struct Given {
+    name: String,
+    /// What stands behind `=`, or behind the letter of `-oFILE`.
+    value: Option<OsString>,
+}
+
+impl Given {
+    /// Nothing where the argument is a file.
+    fn new(argument: &OsStr) -> Option<Self> {
+        let bytes = argument.as_encoded_bytes();
+        if bytes.len() < 2 || bytes[0] != b'-' {
+            return None;
+        }
+        let (name, value) = match bytes {
+            [b'-', b'-', ..] => match bytes.iter().position(|byte| *byte == b'=') {
+                Some(at) => (&bytes[..at], Some(&bytes[at + 1..])),
+                None => (bytes, None),
+            },
+            [b'-', b'o', value @ ..] if !value.is_empty() => (&bytes[..2], Some(value)),
+            _ => (bytes, None),
+        };
+        Some(Self {
+            name: String::from_utf8_lossy(name).into(),
+            value: value.map(os_string),
+        })
+    }
+
+    /// What is asked for without files.
+    fn request(&self) -> Result<Option<Request>, String> {
+        let request = match self.name.as_str() {
+            "-h" | "--help" => Request::Help,
+            "-V" | "--version" => Request::Version,
+            "--list-kinds" => Request::ListKinds,
+            _ => return Ok(None),
+        };
+        self.flag().map(|_| Some(request))
+    }
+
+    /// Sets what the option says; its value may be the next of some arguments.
+    fn set(
+        self,
+        options: &mut Options,
+        next: &mut impl Iterator<Item = OsString>,
+    ) -> Result<(), String> {
+        match self.name.as_str() {
+            "-o" => self.set_once(&mut options.output, self.path(next)?),
+            "--object" => self.set_once(&mut options.object, self.path(next)?),
+            "--write-sheet" => self.set_once(&mut options.write_sheet, self.path(next)?),
+            "--picture" => self.set_once(&mut options.picture, self.path(next)?),
+            "--arch" => self.set_once(&mut options.arch, arch(&self.value(next)?)?),
+            "--symbols" => self.set_once(&mut options.symbols, symbols(&self.value(next)?)?),
+            "--text" => self.set_form(&mut options.form, Form::Text),
+            "--binary" => self.set_form(&mut options.form, Form::Binary),
+            "--debug" => self.flag().map(|flag| options.debug = flag),
+            "--join" => self.flag().map(|flag| options.join = flag),
+            "--rounds" => self.flag().map(|flag| options.rounds = flag),
+            "--open" => self.flag().map(|flag| options.open = flag),
+            "--full" => self.flag().map(|flag| options.full = flag),
+            "--hex" => self.flag().map(|flag| options.hex = flag),
+            unknown => Err(no_option(unknown)),
+        }
+    }
+
+    /// True, for an option that takes no value.
+    fn flag(&self) -> Result<bool, String> {
+        match &self.value {
+            None => Ok(true),
+            Some(_) => Err(format!("{} takes no value", self.name)),
+        }
+    }
+
+    fn value(&self, next: &mut impl Iterator<Item = OsString>) -> Result<OsString, String> {
+        let value = self.value.clone().or_else(|| next.next());
+        value.ok_or_else(|| format!("{} needs a value", self.name))
+    }
+
+    fn path(&self, next: &mut impl Iterator<Item = OsString>) -> Result<PathBuf, String> {
+        let path = self.value(next)?;
+        if path.is_empty() {
+            return Err(format!("{} needs the name of a file", self.name));
+        }
+        // It would be written to a file whose name starts with '='.
+        let is_equated = |value: &OsString| value.as_encoded_bytes().starts_with(b"=");
+        if self.name == "-o" && self.value.as_ref().is_some_and(is_equated) {
+            return Err("-o takes a file as -o FILE or -oFILE".into());
+        }
+        Ok(path.into())
+    }
+
+    /// An option may be repeated, but says one thing.
+    fn set_once<T: PartialEq>(&self, place: &mut Option<T>, value: T) -> Result<(), String> {
+        if place.as_ref().is_some_and(|before| *before != value) {
+            return Err(format!(
+                "{} is given twice, with different values",
+                self.name
+            ));
+        }
+        *place = Some(value);
+        Ok(())
+    }
+
+    fn set_form(&self, place: &mut Option<Form>, form: Form) -> Result<(), String> {
+        self.flag()?;
+        self.set_once(place, form)
+            .map_err(|_| "--text and --binary exclude each other".into())
+    }
+}
+
+fn no_option(name: &str) -> String {
+    let meant = nearest(name, known_options());
+    let meant = meant.map_or(String::new(), |meant| format!(" (did you mean {meant}?)"));
+    format!("there is no option {}{meant}", shown(name))
+}
+
+#[cfg(unix)]
+fn os_string(bytes: &[u8]) -> OsString {
+    std::os::unix::ffi::OsStringExt::from_vec(bytes.to_vec())
+}
+
+#[cfg(not(unix))]
+fn os_string(bytes: &[u8]) -> OsString {
+    String::from_utf8_lossy(bytes).into_owned().into()
 }
 
 /// What is wrong with options that are each right.
@@ -193,10 +326,6 @@ fn check(options: &Options) -> Result<(), String> {
         )),
         _ => Ok(()),
     }
-}
-
-fn value(option: &str, argument: Option<OsString>) -> Result<OsString, String> {
-    argument.ok_or_else(|| format!("{option} needs a value"))
 }
 
 fn arch(word: &OsStr) -> Result<Arch, String> {
@@ -255,6 +384,41 @@ mod tests {
     }
 
     #[test]
+    fn values_stand_behind_the_option_or_in_it() {
+        assert_eq!(options("-oout in").output, Some("out".into()));
+        let equal = options("--object=a=b --arch=x64 --symbols=7 in");
+        assert_eq!(equal, options("--object a=b --arch X64 --symbols 7 in"));
+        let twice = options("-o out --arch x64 --text --hex in -oout --arch=X64 --text --hex");
+        assert_eq!(twice, options("-o out --arch x64 --text --hex in"));
+    }
+
+    #[cfg(unix)]
+    #[test]
+    fn values_need_not_be_text() {
+        let argument = |bytes: &[u8]| os_string(bytes);
+        let arguments = [argument(b"--object=\xFF"), argument(b"\xFE")];
+        let Ok(Request::Run(options)) = parse(arguments) else {
+            panic!("an object and a file");
+        };
+        assert_eq!(options.object, Some(argument(b"\xFF").into()));
+        assert_eq!(options.files, [argument(b"\xFE")]);
+        let unknown = parse([argument(b"-\xFF")]).unwrap_err();
+        assert!(unknown.contains("no option -\u{fffd}"), "{unknown}");
+    }
+
+    #[test]
+    fn the_help_lists_what_is_known_in_lines_that_fit_a_terminal() {
+        assert!(HELP.lines().all(|line| line.chars().count() <= 100));
+        assert!(known_options().count() > 15);
+        for name in known_options() {
+            let tried = parsed(&format!("{name} x64 a"));
+            let sentence = tried.err().unwrap_or_default();
+            assert!(!sentence.contains("no option"), "{name}: {sentence}");
+        }
+        assert!(help("./run").starts_with("usage: ./run [OPTIONS] FILE"));
+    }
+
+    #[test]
     fn dash_is_a_file_and_so_is_what_follows_two() {
         assert_eq!(options("-").files, ["-"]);
         assert_eq!(options("-- --full").files, ["--full"]);
@@ -280,7 +444,17 @@ mod tests {
         fails("a b --picture c", "--picture is about one sheet");
         fails("--join a --write-sheet b", "--write-sheet is about one");
         fails("--fast a", "no option --fast");
+        fails("--objct=x a", "no option --objct (did you mean --object?)");
+        fails("--HEX a", "did you mean --hex?");
         fails("a -o", "-o needs a value");
+        fails("a --object= b", "--object needs the name of a file");
+        fails("--hex=1 a", "--hex takes no value");
+        fails("-o=b a", "-o takes a file as -o FILE or -oFILE");
+        fails("--help=1", "--help takes no value");
+        fails("-o a -ob c", "-o is given twice, with different values");
+        fails("--arch x64 --arch=x86 a", "--arch is given twice");
+        fails("--symbols 3 --symbols 4 a", "--symbols is given twice");
+        fails("--text a --binary", "--text and --binary exclude each");
         fails("--arch mips a", "'mips'");
         fails("--symbols -1 a", "'-1'");
     }
