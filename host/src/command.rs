@@ -6,6 +6,7 @@ mod excerpt;
 mod files;
 mod input;
 mod joined;
+mod json;
 mod kinds;
 mod object;
 mod one;
@@ -96,6 +97,7 @@ fn own_name() -> String {
 fn run(options: &Options) -> Result<(), Failure> {
     files::check(options)?;
     match &options.files[..] {
+        _ if options.json => json::run(options),
         [file] if !options.joins() => one::run(options, file),
         _ => joined::run(options),
     }

@@ -3,7 +3,7 @@
 mod refused;
 mod tables;
 
-use wargnifla::{Joined, JoinedRecordings, ListedPiece};
+use wargnifla::{Joined, JoinedRecordings, ListedPiece, join};
 
 use super::options::Options;
 use super::rounds::RoundsReport;
@@ -30,6 +30,11 @@ pub fn run(options: &Options) -> Result<(), Failure> {
         diagnostic::print_all(&unpatched::notes(options, &rule.input, rule.code()));
     }
     Ok(())
+}
+
+/// The finished sheets, joined.
+pub fn whole(rules: &[Rule]) -> Result<Joined, Failure> {
+    join(rules.iter().map(Rule::code)).map_err(|error| refused::join(rules, &error))
 }
 
 fn shown(options: &Options, rules: &[Rule], joined: &JoinedRecordings<'_>) -> String {
@@ -64,7 +69,8 @@ fn of_piece(options: &Options, piece: usize, rule: &Rule) -> String {
     text
 }
 
-fn write_files(options: &Options, rules: &[Rule], whole: &Joined) -> Result<(), Failure> {
+/// Writes what is asked for of joined sheets.
+pub fn write_files(options: &Options, rules: &[Rule], whole: &Joined) -> Result<(), Failure> {
     let code = whole.code();
     let object = object::object(options, rules, whole.bases(), code, |error| {
         refused::object(rules, whole, error)

@@ -43,7 +43,8 @@ fn shown(options: &Options, rule: &Rule) -> String {
     text + &format!("\n{}\n", finished.record())
 }
 
-fn write_files(options: &Options, rule: &Rule, title: &str) -> Result<(), Failure> {
+/// Writes what is asked for of a sheet, whose page has a title.
+pub fn write_files(options: &Options, rule: &Rule, title: &str) -> Result<(), Failure> {
     let Rule {
         input, finished, ..
     } = rule;

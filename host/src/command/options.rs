@@ -36,6 +36,7 @@ What the listing shows
                            where one is refused, too
   --full                   long runs of bytes, long tables and all rounds whole
   --hex                    offsets in hexadecimal
+  --json                   all that is known as one JSON object, in the place of the listing
 
 What is shown without a FILE
   --list-kinds             the codes of label uses and the kinds of relocations
@@ -90,6 +91,7 @@ pub struct Options {
     pub open: bool,
     pub full: bool,
     pub hex: bool,
+    pub json: bool,
     pub form: Option<Form>,
 }
 
@@ -239,6 +241,7 @@ impl Given {
             "--open" => self.flag().map(|flag| options.open = flag),
             "--full" => self.flag().map(|flag| options.full = flag),
             "--hex" => self.flag().map(|flag| options.hex = flag),
+            "--json" => self.flag().map(|flag| options.json = flag),
             unknown => Err(no_option(unknown)),
         }
     }
@@ -324,7 +327,29 @@ fn check(options: &Options) -> Result<(), String> {
         Some((option, _)) if options.joins() => Err(format!(
             "{option} is about one sheet, and can't be given where sheets are joined"
         )),
+        _ if options.json => check_json(options),
         _ => Ok(()),
+    }
+}
+
+/// What can't be given beside `--json`.
+fn check_json(options: &Options) -> Result<(), String> {
+    let is_printed = |path: &Path| is_dash(path.as_os_str());
+    let mut outputs = options.outputs().into_iter();
+    if let Some((option, _)) = outputs.find(|(_, path)| path.is_some_and(is_printed)) {
+        return Err(format!("--json and {option} both write to standard output"));
+    }
+    let of_listing = [
+        ("--rounds", options.rounds),
+        ("--open", options.open),
+        ("--full", options.full),
+        ("--hex", options.hex),
+    ];
+    match of_listing.into_iter().find(|(_, is_given)| *is_given) {
+        Some((option, _)) => Err(format!(
+            "{option} is about the listing, whose place --json takes"
+        )),
+        None => Ok(()),
     }
 }
 
@@ -369,6 +394,7 @@ mod tests {
             open: true,
             full: true,
             hex: true,
+            json: false,
             form: Some(Form::Text),
         };
         assert_eq!(parsed(all), Ok(Request::Run(expected)));
@@ -455,6 +481,8 @@ mod tests {
         fails("--arch x64 --arch=x86 a", "--arch is given twice");
         fails("--symbols 3 --symbols 4 a", "--symbols is given twice");
         fails("--text a --binary", "--text and --binary exclude each");
+        fails("--json -o - a", "--json and -o both write to standard");
+        fails("--json --hex a", "--hex is about the listing");
         fails("--arch mips a", "'mips'");
         fails("--symbols -1 a", "'-1'");
     }

@@ -16,19 +16,37 @@ pub struct Rule {
     pub finished: FinishedRecording,
 }
 
+/// A sheet that is refused, and what was recorded of it.
+pub struct Refused {
+    pub input: Input,
+    pub recording: Recording,
+    pub failure: Failure,
+}
+
 impl Rule {
     pub fn new(options: &Options, file: &OsStr) -> Result<Self, Failure> {
         let input = Input::read(options, file)?;
-        let mut buffer = input.buffer();
-        let finished = assembled(&input, &mut buffer).or_else(|failure| {
-            show_open(options, &input)?;
-            Err(failure)
-        })?;
-        Ok(Self {
-            input,
-            buffer,
-            finished,
+        Self::assemble(input).or_else(|refused| {
+            show_open(options, &refused.input)?;
+            Err(refused.failure)
         })
+    }
+
+    /// Records the sheet and finishes it.
+    pub fn assemble(input: Input) -> Result<Self, Box<Refused>> {
+        let mut buffer = input.buffer();
+        match assembled(&input, &mut buffer) {
+            Ok(finished) => Ok(Self {
+                input,
+                buffer,
+                finished,
+            }),
+            Err(failure) => Err(Box::new(Refused {
+                input,
+                recording: buffer.recording(),
+                failure,
+            })),
+        }
     }
 
     /// The recording as it was before finish.
@@ -43,7 +61,7 @@ impl Rule {
 
     /// Compares the rounds with what finish reports, where they are to be shown.
     pub fn check_rounds(&self, options: &Options) -> Result<(), Failure> {
-        if !options.rounds && options.picture.is_none() {
+        if !options.rounds && !options.json && options.picture.is_none() {
             return Ok(());
         }
         let checked = self.finished.rounds().check(self.code());

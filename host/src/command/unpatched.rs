@@ -13,16 +13,7 @@ use super::options::Options;
 /// pool; and for the definitions that the object, if there is one, leaves out.
 pub fn notes(options: &Options, input: &Input, finished: &CodeBufferFinalized) -> Vec<Diagnostic> {
     let mut groups: Vec<Group> = Vec::new();
-    let mut jumps = input.calls_where(|call| matches!(call, Call::Jump { .. }));
-    let mut refs = input.calls_where(|call| matches!(call, Call::Ref { .. }));
-    let mut uses = input.calls_where(|call| matches!(call, Call::Use { .. }));
-    for entry in finished.unpatched() {
-        // Whatever is not patched, all calls of its kind are not: the nth entry of a kind is the nth call.
-        let call = match entry.call {
-            Call::Jump { .. } => jumps.next(),
-            Call::Ref { .. } => refs.next(),
-            _ => uses.next(),
-        };
+    for (entry, call) in with_calls(input, finished) {
         match groups.iter_mut().find(|group| group.holds(entry)) {
             Some(group) => group.calls.extend(call),
             None => groups.push(Group::new(entry, call)),
@@ -87,6 +78,23 @@ fn unasked_note(input: &Input, finished: &CodeBufferFinalized) -> Option<Diagnos
         "{constants} {is} not in the code, since no constant-label asks for {them} ({places})"
     );
     Some(Diagnostic::note(sentence).at(first_place(input, &calls)))
+}
+
+/// What finish did not write, each with the call that made it.
+pub fn with_calls<'a>(
+    input: &Input,
+    finished: &'a CodeBufferFinalized,
+) -> Vec<(&'a Unpatched, Option<usize>)> {
+    let mut jumps = input.calls_where(|call| matches!(call, Call::Jump { .. }));
+    let mut refs = input.calls_where(|call| matches!(call, Call::Ref { .. }));
+    let mut uses = input.calls_where(|call| matches!(call, Call::Use { .. }));
+    // Whatever is not patched, all calls of its kind are not: the nth entry of a kind is the nth call.
+    let with_call = |entry: &'a Unpatched| match entry.call {
+        Call::Jump { .. } => (entry, jumps.next()),
+        Call::Ref { .. } => (entry, refs.next()),
+        _ => (entry, uses.next()),
+    };
+    finished.unpatched().iter().map(with_call).collect()
 }
 
 /// Entries of one kind.
