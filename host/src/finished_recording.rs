@@ -2,8 +2,8 @@
 
 use std::sync::OnceLock;
 
-use crate::listing::{listing, record};
-use crate::{CodeBufferFinalized, Recording, Rounds, Style};
+use crate::listing::{listing, listing_with_source, record};
+use crate::{CodeBufferFinalized, Recording, Rounds, SourceText, Style};
 
 /// Finished code with the recording that it was made of, to be shown. Made by
 /// [`CodeBuffer::finish_with_recording`](crate::CodeBuffer::finish_with_recording), so that the two belong together.
@@ -75,6 +75,12 @@ impl FinishedRecording {
     #[must_use]
     pub fn listing(&self, style: impl Into<Style>) -> String {
         listing(&self.recording, &self.code, style)
+    }
+
+    /// The same with the lines of the text that the recording comes from above what they made.
+    #[must_use]
+    pub fn listing_with_source(&self, source: &SourceText<'_>, style: impl Into<Style>) -> String {
+        listing_with_source(&self.recording, &self.code, source, style)
     }
 
     /// What finish reports, in one line.

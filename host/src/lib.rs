@@ -71,7 +71,7 @@ pub use ffi::Segment;
 pub use finalized::CodeBufferFinalized;
 pub use finished_recording::FinishedRecording;
 pub use join::{Filled, Joined, Origin, join};
-pub use listing::{Extent, JoinedRecordings, ListedPiece, Radix, Style};
+pub use listing::{Extent, JoinedRecordings, ListedPiece, Radix, SourceText, Style};
 pub use open::OpenLabel;
 pub use picture::Picture;
 pub use recording::{

@@ -1,8 +1,10 @@
 //! The finished code as a listing: what every byte is there for.
 
 mod joined;
+mod source;
 
 pub use joined::{JoinedRecordings, ListedPiece};
+pub use source::SourceText;
 
 use std::collections::HashSet;
 use std::fmt::Write;
@@ -16,6 +18,7 @@ use crate::{
     Unpatched, WhyUnpatched,
 };
 use sheet_text::counted;
+use source::SourceLines;
 
 /// Bytes in a line; x86 padding has lines of 9, the longest NOP.
 const LINE: usize = 8;
@@ -82,7 +85,25 @@ pub(crate) fn listing(
     finished: &CodeBufferFinalized,
     style: impl Into<Style>,
 ) -> String {
-    let style = style.into();
+    listed(recording, finished, None, style.into())
+}
+
+/// Lists finished code, with the lines of the text that it comes from above what they made.
+pub(crate) fn listing_with_source(
+    recording: &Recording,
+    finished: &CodeBufferFinalized,
+    source: &SourceText<'_>,
+    style: impl Into<Style>,
+) -> String {
+    listed(recording, finished, Some(source), style.into())
+}
+
+fn listed(
+    recording: &Recording,
+    finished: &CodeBufferFinalized,
+    source: Option<&SourceText<'_>>,
+    style: Style,
+) -> String {
     let texts = Texts::new(recording, finished, style.offsets);
     let mut rows = written_rows(&texts);
     rows.extend(finished.relocs().iter().map(|reloc| {
@@ -91,7 +112,7 @@ pub(crate) fn listing(
     }));
     rows.extend(unpatched_rows(&texts));
     let mut out = String::from(HEAD);
-    let mut writer = Writer::new(&texts, finished.data(), style, &mut out);
+    let mut writer = Writer::new(&texts, source, finished.data(), style, &mut out);
     writer.rows(rows);
     out
 }
@@ -127,6 +148,8 @@ struct Row {
     bytes: Range<usize>,
     line: usize,
     what: String,
+    /// The event that it shows, by its index.
+    event: Option<usize>,
 }
 
 impl Row {
@@ -135,6 +158,7 @@ impl Row {
             bytes: start as usize..end as usize,
             line: LINE,
             what,
+            event: None,
         }
     }
 }
@@ -178,6 +202,7 @@ fn event_rows(texts: &Texts<'_>, pooled: &Pooled) -> Vec<Row> {
         };
         Row {
             line,
+            event: Some(i),
             ..Row::new(start, end, texts.event(pooled, i, start, end))
         }
     };
@@ -487,6 +512,7 @@ struct Writer<'a> {
     names: &'a Names,
     labels: Vec<(usize, Label)>,
     next_label: usize,
+    source: SourceLines,
     /// All bytes before it are listed.
     cursor: usize,
     style: Style,
@@ -494,7 +520,14 @@ struct Writer<'a> {
 }
 
 impl<'a> Writer<'a> {
-    fn new(texts: &Texts<'a>, data: &'a [u8], style: Style, out: &'a mut String) -> Self {
+    fn new(
+        texts: &Texts<'a>,
+        source: Option<&SourceText<'_>>,
+        data: &'a [u8],
+        style: Style,
+        out: &'a mut String,
+    ) -> Self {
+        let source = source.map(|source| SourceLines::new(texts, source, style.extent));
         let start = texts.base as usize;
         Self {
             data,
@@ -502,6 +535,7 @@ impl<'a> Writer<'a> {
             names: texts.names,
             labels: texts.bound_labels(),
             next_label: 0,
+            source: source.unwrap_or_default(),
             cursor: start,
             style,
             out,
@@ -526,6 +560,11 @@ impl<'a> Writer<'a> {
         // A label at an alignment that came to nothing stands behind it.
         if !row.bytes.is_empty() {
             self.labels_up_to(row.bytes.start);
+            self.source_up_to(row.bytes.start);
+        } else if let Some(event) = row.event {
+            while let Some(line) = self.source.take_for_event(event) {
+                push_line(self.out, line);
+            }
         }
         let overlap = if row.bytes.start < self.cursor {
             " (overlaps the row above)"
@@ -543,14 +582,17 @@ impl<'a> Writer<'a> {
     fn rest(&mut self) {
         self.plain(self.bytes.end);
         self.labels_up_to(self.bytes.end);
+        self.source_up_to(usize::MAX);
     }
 
     /// The bytes from the cursor to `end`, in runs between labels.
     fn plain(&mut self, end: usize) {
         while self.cursor < end {
             self.labels_up_to(self.cursor);
+            self.source_up_to(self.cursor);
             let label = self.labels.get(self.next_label);
             let stop = label.map_or(end, |(offset, _)| end.min(*offset));
+            let stop = self.source.next_start().map_or(stop, |next| stop.min(next));
             self.run(
                 self.cursor..stop,
                 LINE,
@@ -564,9 +606,19 @@ impl<'a> Writer<'a> {
         while let Some(&(at, label)) = self.labels.get(self.next_label)
             && at <= offset
         {
+            while let Some(line) = self.source.take_for_label(label.id()) {
+                push_line(self.out, line);
+            }
             let label = self.names.text(label);
             self.line(Some(at), "", &label);
             self.next_label += 1;
+        }
+    }
+
+    /// The lines of the text whose code starts at an offset or before.
+    fn source_up_to(&mut self, offset: usize) {
+        while let Some(line) = self.source.take_up_to(offset) {
+            push_line(self.out, line);
         }
     }
 
@@ -596,9 +648,13 @@ impl<'a> Writer<'a> {
             self.style.offsets.text(at as CodeOffset)
         });
         let line = format!("{offset:>8}  {bytes:<26}  {what}");
-        self.out.push_str(line.trim_end());
-        self.out.push('\n');
+        push_line(self.out, &line);
     }
+}
+
+fn push_line(out: &mut String, line: &str) {
+    out.push_str(line.trim_end());
+    out.push('\n');
 }
 
 fn hex(bytes: &[u8]) -> String {

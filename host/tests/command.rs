@@ -7,6 +7,8 @@ mod joined;
 #[cfg(unix)]
 #[path = "command/names.rs"]
 mod names;
+#[path = "command/source.rs"]
+mod source;
 #[path = "command/texts.rs"]
 mod texts;
 

@@ -404,6 +404,14 @@ impl Input {
         }
     }
 
+    /// The line of each call and its text; nothing of a binary sheet.
+    pub fn lines(&self) -> Option<Vec<(usize, &str)>> {
+        match &self.source {
+            Source::Text(source) => Some(source.lines()),
+            Source::Binary(_) => None,
+        }
+    }
+
     /// `line 6`, or `call 3` of a binary sheet.
     pub fn where_is(&self, call: usize) -> String {
         self.where_are(&[call])

@@ -3,7 +3,7 @@
 mod refused;
 mod tables;
 
-use wargnifla::{Joined, JoinedRecordings, ListedPiece, join};
+use wargnifla::{Joined, JoinedRecordings, ListedPiece, SourceText, join};
 
 use super::options::Options;
 use super::rounds::RoundsReport;
@@ -39,7 +39,9 @@ pub fn whole(rules: &[Rule]) -> Result<Joined, Failure> {
 
 fn shown(options: &Options, rules: &[Rule], joined: &JoinedRecordings<'_>) -> String {
     let (style, whole) = (options.style(), joined.whole());
-    let mut text = joined.listing(style);
+    let sources = rules.iter().filter_map(|rule| rule.source_text(options));
+    let sources: Vec<SourceText<'_>> = sources.collect();
+    let mut text = joined.listing_with_sources(&sources, style);
     text += &tables::labels(rules, whole, style);
     text += &report::definitions(whole.code(), style);
     text += &tables::relocations(rules, whole, style);

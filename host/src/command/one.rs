@@ -29,7 +29,10 @@ fn shown(options: &Options, rule: &Rule) -> String {
     } = rule;
     let (recording, code) = (rule.recording(), rule.code());
     let style = options.style();
-    let mut text = finished.listing(style);
+    let mut text = match rule.source_text(options) {
+        Some(source) => finished.listing_with_source(&source, style),
+        None => finished.listing(style),
+    };
     text += &report::labels(recording, code, style);
     text += &report::definitions(code, style);
     text += &report::relocations(recording, code, style);

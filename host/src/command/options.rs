@@ -30,11 +30,12 @@ What is written; to - it goes to standard output, in the place of the listing
                            not where sheets are joined
 
 What the listing shows
+  --source                 the lines of the text, each above what it made; not of binary sheets
   --rounds                 what each round of relaxation lengthened, and why, and which
                            alignments it skipped
   --open                   how many entries name a label that is not bound, after each call;
                            where one is refused, too
-  --full                   long runs of bytes, long tables and all rounds whole
+  --full                   long runs of bytes, long lines and tables, and all rounds whole
   --hex                    offsets in hexadecimal
   --json                   all that is known as one JSON object, in the place of the listing
 
@@ -87,6 +88,7 @@ pub struct Options {
     pub picture: Option<PathBuf>,
     pub arch: Option<Arch>,
     pub symbols: Option<u32>,
+    pub source: bool,
     pub rounds: bool,
     pub open: bool,
     pub full: bool,
@@ -237,6 +239,7 @@ impl Given {
             "--binary" => self.set_form(&mut options.form, Form::Binary),
             "--debug" => self.flag().map(|flag| options.debug = flag),
             "--join" => self.flag().map(|flag| options.join = flag),
+            "--source" => self.flag().map(|flag| options.source = flag),
             "--rounds" => self.flag().map(|flag| options.rounds = flag),
             "--open" => self.flag().map(|flag| options.open = flag),
             "--full" => self.flag().map(|flag| options.full = flag),
@@ -340,6 +343,7 @@ fn check_json(options: &Options) -> Result<(), String> {
         return Err(format!("--json and {option} both write to standard output"));
     }
     let of_listing = [
+        ("--source", options.source),
         ("--rounds", options.rounds),
         ("--open", options.open),
         ("--full", options.full),
@@ -379,7 +383,7 @@ mod tests {
 
     #[test]
     fn reads_every_option() {
-        let all = "--arch X86 --symbols 3 --rounds --open --full --hex --text -o out --object object --debug --write-sheet sheet --picture page in";
+        let all = "--arch X86 --symbols 3 --source --rounds --open --full --hex --text -o out --object object --debug --write-sheet sheet --picture page in";
         let expected = Options {
             files: vec!["in".into()],
             join: false,
@@ -390,6 +394,7 @@ mod tests {
             picture: Some("page".into()),
             arch: Some(Arch::X86),
             symbols: Some(3),
+            source: true,
             rounds: true,
             open: true,
             full: true,
@@ -483,6 +488,7 @@ mod tests {
         fails("--text a --binary", "--text and --binary exclude each");
         fails("--json -o - a", "--json and -o both write to standard");
         fails("--json --hex a", "--hex is about the listing");
+        fails("--json --source a", "--source is about the listing");
         fails("--arch mips a", "'mips'");
         fails("--symbols -1 a", "'-1'");
     }

@@ -2,9 +2,10 @@
 
 use std::ffi::OsStr;
 
-use wargnifla::{CodeBuffer, CodeBufferFinalized, FinishedRecording, Recording};
+use wargnifla::{CodeBuffer, CodeBufferFinalized, FinishedRecording, Recording, SourceText};
 
 use super::Failure;
+use super::diagnostic::{Diagnostic, Place};
 use super::input::Input;
 use super::open;
 use super::options::Options;
@@ -26,6 +27,11 @@ pub struct Refused {
 impl Rule {
     pub fn new(options: &Options, file: &OsStr) -> Result<Self, Failure> {
         let input = Input::read(options, file)?;
+        if options.source && !input.is_text() {
+            let sentence = "this is a binary sheet, and --source shows the lines of a text";
+            let message = Diagnostic::error(sentence).at(Place::file(&input.file));
+            return Err(Failure::unusable(message));
+        }
         Self::assemble(input).or_else(|refused| {
             show_open(options, &refused.input)?;
             Err(refused.failure)
@@ -57,6 +63,15 @@ impl Rule {
     /// The finished code.
     pub fn code(&self) -> &CodeBufferFinalized {
         self.finished.code()
+    }
+
+    /// The text that the calls stand in, where it is to be shown.
+    pub fn source_text(&self, options: &Options) -> Option<SourceText<'_>> {
+        let lines = self.input.lines().filter(|_| options.source)?;
+        Some(SourceText {
+            calls: &self.input.calls,
+            lines,
+        })
     }
 
     /// Compares the rounds with what finish reports, where they are to be shown.

@@ -44,6 +44,16 @@ impl TextSource {
         calls.collect()
     }
 
+    /// The line of each call, and its text.
+    pub fn lines(&self) -> Vec<(usize, &str)> {
+        let lines: Vec<&str> = self.text.lines().collect();
+        let calls = (0..self.sources.len()).map(|call| {
+            let line = self.statement(call).line as usize;
+            (line, lines.get(line - 1).copied().unwrap_or_default())
+        });
+        calls.collect()
+    }
+
     pub fn word(&self, place: Span) -> &str {
         let line = self.text.lines().nth(place.line as usize - 1);
         let word = line.and_then(|line| line.get(place.columns()));

@@ -3,8 +3,8 @@
 use std::collections::HashSet;
 
 use super::{
-    COVERED, HEAD, LINE, Row, Style, Texts, Writer, addend_text, mark_covered, unpatched_rows,
-    written_rows,
+    COVERED, HEAD, LINE, Row, SourceText, Style, Texts, Writer, addend_text, mark_covered,
+    unpatched_rows, written_rows,
 };
 use crate::join::Filled;
 use crate::{Error, FinishedRecording, Joined, join};
@@ -63,7 +63,17 @@ impl<'a> JoinedRecordings<'a> {
     /// The joined code as a listing: the pieces in order, with the offsets and the numbers of labels and symbols that they have in the whole.
     #[must_use]
     pub fn listing(&self, style: impl Into<Style>) -> String {
-        listing(&self.pieces, &self.whole, style.into())
+        self.listing_with_sources(&[], style)
+    }
+
+    /// The same with the lines of the texts that the pieces come from above what they made; a piece without a text has none.
+    #[must_use]
+    pub fn listing_with_sources(
+        &self,
+        sources: &[SourceText<'_>],
+        style: impl Into<Style>,
+    ) -> String {
+        listing(&self.pieces, sources, &self.whole, style.into())
     }
 }
 
@@ -85,7 +95,12 @@ impl Joined {
 }
 
 /// Lists pieces and the whole that they were joined to.
-fn listing(pieces: &[ListedPiece<'_>], whole: &Joined, style: Style) -> String {
+fn listing(
+    pieces: &[ListedPiece<'_>],
+    sources: &[SourceText<'_>],
+    whole: &Joined,
+    style: Style,
+) -> String {
     let code = whole.code();
     let mut out = String::from(HEAD);
     for (index, piece) in pieces.iter().enumerate() {
@@ -99,7 +114,8 @@ fn listing(pieces: &[ListedPiece<'_>], whole: &Joined, style: Style) -> String {
                 style.offsets,
             )
         };
-        let mut writer = Writer::new(&texts, code.data(), style, &mut out);
+        let source = sources.get(index);
+        let mut writer = Writer::new(&texts, source, code.data(), style, &mut out);
         writer.line(
             Some(texts.base as usize),
             "",
