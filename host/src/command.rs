@@ -56,6 +56,12 @@ impl Failure {
         Self::new(3, Diagnostic::error(format!("internal error: {sentence}")))
     }
 
+    /// The same, with the messages of another.
+    fn and(mut self, other: Self) -> Self {
+        self.diagnostics.extend(other.diagnostics);
+        self
+    }
+
     fn new(status: u8, diagnostic: Diagnostic) -> Self {
         Self {
             status,

@@ -1,11 +1,13 @@
 //! What finish makes of a recording. After asmkit's core/buffer.rs (see NOTICE).
 
+use std::ops::Range;
+
 use crate::contents::Contents;
 use crate::ffi::Segment;
 use crate::recording::{AsmReloc, Constant, Label, Names};
 use crate::tables::bound;
 use crate::verified::Record;
-use crate::{Arch, CodeOffset, ExternalName, Unpatched};
+use crate::{Arch, CodeOffset, ExternalName, LayoutEvent, Unpatched};
 
 /// A [`crate::CodeBuffer`] once finish has accepted it, or several [joined](crate::join()): the code and what goes with it.
 #[derive(Clone, Debug, PartialEq, Eq)]
@@ -152,6 +154,15 @@ impl CodeBufferFinalized {
     #[must_use]
     pub fn segments(&self) -> &[Segment] {
         &self.segments
+    }
+
+    /// Where an event, by its index in [`Pooled::events`](crate::Pooled::events), came to stand: as recorded, unless jumps were relaxed.
+    #[must_use]
+    pub fn event_range(&self, index: usize, event: &LayoutEvent) -> Range<CodeOffset> {
+        match self.segments.get(index) {
+            Some(segment) => segment.new_start..segment.new_end,
+            None => event.start()..event.end(),
+        }
     }
 
     /// What was accepted and is not in the code: jumps and refs where the architecture keeps none, refs where no jump stands, uses where one does. Of

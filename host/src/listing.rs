@@ -195,7 +195,7 @@ fn unpatched_rows(texts: &Texts<'_>) -> impl Iterator<Item = Row> {
 fn event_rows(texts: &Texts<'_>, pooled: &Pooled) -> Vec<Row> {
     let finished = texts.finished;
     let row = |(i, event): (usize, &LayoutEvent)| {
-        let (start, end) = placed(finished, i, event);
+        let Range { start, end } = finished.event_range(i, event);
         let line = match event.form(end - start) {
             Form::Padding => padding_line(finished.arch()),
             Form::Short | Form::Long => LINE,
@@ -207,18 +207,6 @@ fn event_rows(texts: &Texts<'_>, pooled: &Pooled) -> Vec<Row> {
         }
     };
     pooled.events.iter().enumerate().map(row).collect()
-}
-
-/// Where an event stands in the finished code: as recorded, unless jumps were relaxed.
-fn placed(
-    finished: &CodeBufferFinalized,
-    index: usize,
-    event: &LayoutEvent,
-) -> (CodeOffset, CodeOffset) {
-    match finished.segments().get(index) {
-        Some(segment) => (segment.new_start, segment.new_end),
-        None => (event.start(), event.end()),
-    }
 }
 
 fn padding_line(arch: Arch) -> usize {

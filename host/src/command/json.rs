@@ -26,9 +26,15 @@ pub fn run(options: &Options) -> Result<(), Failure> {
         [file] if !options.joins() => of_one(options, file),
         files => of_joined(options, files),
     };
-    print_text(&object(entries, &done))?;
-    diagnostic::print_all(&done?);
-    Ok(())
+    let printed = print_text(&object(entries, &done));
+    match (done, printed) {
+        (Err(failure), Err(unprinted)) => Err(failure.and(unprinted)),
+        (Err(failure), Ok(())) => Err(failure),
+        (Ok(notes), printed) => {
+            diagnostic::print_all(&notes);
+            printed
+        }
+    }
 }
 
 /// The object, with the notes or the errors that there are.
@@ -84,10 +90,14 @@ fn join_all(sheets: Vec<Sheet>) -> Result<(Vec<Rule>, Joined), Failure> {
     let mut rules = Vec::new();
     let mut failed: Option<Failure> = None;
     for sheet in sheets {
-        match (sheet.finished(), &mut failed) {
-            (Ok(rule), _) => rules.push(rule),
-            (Err(failure), Some(failed)) => failed.diagnostics.extend(failure.diagnostics),
-            (Err(failure), None) => failed = Some(failure),
+        match sheet.finished() {
+            Ok(rule) => rules.push(rule),
+            Err(failure) => {
+                failed = Some(match failed {
+                    Some(before) => before.and(failure),
+                    None => failure,
+                });
+            }
         }
     }
     if let Some(failure) = failed {

@@ -6,8 +6,8 @@ use std::path::{Path, PathBuf};
 use sheet_text::{escaped, nearest, shown};
 use wargnifla::{Arch, Extent, Radix, Style};
 
-/// What `--help` prints. The options that a mistyped one is compared with are those that stand here.
-const HELP: &str = "\
+/// What `--help` prints, and the one list of options: a mistyped one is compared with those that stand here.
+pub const HELP: &str = "\
 usage: wargnifla [OPTIONS] FILE ..
 
 Records a sheet of calls, finishes it, and shows the code. FILE is a sheet in text or binary
@@ -202,7 +202,9 @@ impl Given {
                 Some(at) => (&bytes[..at], Some(&bytes[at + 1..])),
                 None => (bytes, None),
             },
-            [b'-', b'o', value @ ..] if !value.is_empty() => (&bytes[..2], Some(value)),
+            [b'-', b'o', value @ ..] if !value.is_empty() && !lacks_dash(argument) => {
+                (&bytes[..2], Some(value))
+            }
             _ => (bytes, None),
         };
         Some(Self {
@@ -292,6 +294,13 @@ impl Given {
         self.set_once(place, form)
             .map_err(|_| "--text and --binary exclude each other".into())
     }
+}
+
+/// Whether an argument is an option that is written with one dash for two.
+fn lacks_dash(argument: &OsStr) -> bool {
+    let argument = argument.to_string_lossy();
+    let name = argument.split('=').next().unwrap_or_default();
+    known_options().any(|known| known.strip_prefix('-') == Some(name))
 }
 
 fn no_option(name: &str) -> String {
@@ -477,6 +486,8 @@ mod tests {
         fails("--fast a", "no option --fast");
         fails("--objct=x a", "no option --objct (did you mean --object?)");
         fails("--HEX a", "did you mean --hex?");
+        fails("-open a", "no option -open (did you mean --open?)");
+        fails("-object=b a", "no option -object");
         fails("a -o", "-o needs a value");
         fails("a --object= b", "--object needs the name of a file");
         fails("--hex=1 a", "--hex takes no value");

@@ -2,7 +2,7 @@
 
 use std::collections::HashMap;
 
-use super::{Extent, Texts, placed};
+use super::{Extent, Texts};
 use crate::event::LayoutEvent;
 use crate::ffi::Segment;
 use crate::recording::Pooled;
@@ -118,7 +118,7 @@ impl Walk<'_> {
         let made = |_: &&LayoutEvent| LayoutEvent::is_made_by(call, texts.finished.arch());
         let behind_start = |event: &&LayoutEvent| event.start() < self.offset;
         if let Some(event) = next.filter(|event| made(event) || behind_start(event)) {
-            return placed(texts.finished, self.event, event).0;
+            return texts.finished.event_range(self.event, event).start;
         }
         let last = self.event.checked_sub(1);
         let last = last.and_then(|last| self.segments.get(last));

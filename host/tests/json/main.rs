@@ -293,3 +293,22 @@ fn what_takes_the_same_place_is_an_error() {
         assert!(output.stdout.is_empty());
     }
 }
+
+#[cfg(target_os = "linux")]
+#[test]
+fn an_object_that_cannot_be_printed_hides_no_refusal() {
+    let sheet = file("unprinted.txt", "jmp end");
+    let full = fs::OpenOptions::new().write(true).open("/dev/full");
+    let output = Command::new(env!("CARGO_BIN_EXE_wargnifla"))
+        .args(["--json", &sheet])
+        .stdout(full.unwrap())
+        .output()
+        .unwrap();
+    assert_eq!(output.status.code(), Some(1));
+    let said = String::from_utf8(output.stderr).unwrap();
+    assert!(said.contains("error[15]: finish: "), "{said}");
+    assert!(
+        said.contains("error: standard output can't be written"),
+        "{said}"
+    );
+}

@@ -1,8 +1,10 @@
 //! What `--json` prints of one sheet.
 
+use std::ops::Range;
+
 use wargnifla::{
     Arch, AsmReloc, Call, CodeBufferFinalized, Constant, ElfType, ExternalName, Label, LayoutEvent,
-    Names, Recording, RelaxableJump, RelocTarget, Round, Rounds, UNBOUND, Unpatched, WhyUnpatched,
+    Names, Recording, RelocTarget, Round, Rounds, UNBOUND, Unpatched, WhyUnpatched,
 };
 
 use super::value::{Entries, Json};
@@ -202,27 +204,23 @@ fn settled_event(
     index: usize,
     finished: Option<&CodeBufferFinalized>,
 ) -> Entries {
-    let place = finished.map(|code| match code.segments().get(index) {
-        Some(segment) => (segment.new_start, segment.new_end),
-        None => (event.start(), event.end()),
-    });
-    let size = place.map(|(start, end)| end - start);
-    let form = place.map(|(start, end)| match event {
-        LayoutEvent::Jump(_) if end - start > RelaxableJump::SHORT_LEN => "long",
-        LayoutEvent::Jump(_) => "short",
-        _ if event
-            .alignment()
-            .is_some_and(|align| align.padding_at(start).is_skipped()) =>
-        {
-            "skipped"
-        }
-        _ => "padding",
-    });
+    let place = finished.map(|code| code.event_range(index, event));
+    let size = place.as_ref().map(|place| place.end - place.start);
+    let form = place.as_ref().map(|place| form(event, place));
     vec![
-        ("final", place.map(|(start, _)| start).into()),
+        ("final", place.as_ref().map(|place| place.start).into()),
         ("final_size", size.into()),
         ("form", form.into()),
     ]
+}
+
+fn form(event: &LayoutEvent, place: &Range<u32>) -> &'static str {
+    match event.alignment() {
+        Some(alignment) if alignment.padding_at(place.start).is_skipped() => "skipped",
+        Some(_) => "padding",
+        None if place.end - place.start == event.len_at(place.start, true) => "long",
+        None => "short",
+    }
 }
 
 /// A round's bytes and the jumps that it makes long, by their place among the events.
