@@ -438,7 +438,7 @@ fn what_is_not_in_the_code_is_said_with_its_lines() {
     assert_eq!(
         err(&output),
         "standard input: note: call 3: 2 jumps are not kept on X86 (calls 3, 5)\n\
-         note: a binary sheet does not say its architecture: X86 was asked for; try another --arch\n"
+         standard input: note: a binary sheet does not say its architecture: X86 was asked for; try another --arch\n"
     );
     assert!(out(&output).contains("jump to label 0: not kept on X86"));
 }

@@ -27,6 +27,7 @@ pub fn notes(options: &Options, input: &Input, finished: &CodeBufferFinalized) -
     let is_not_kept = |group: &Group| group.why == WhyUnpatched::NotKept;
     let unsaid = input.unsaid_arch();
     let unsaid = unsaid.filter(|_| groups.iter().any(is_not_kept));
+    let unsaid = unsaid.map(|note| note.at(Place::file(&input.file)));
     let mut notes: Vec<Diagnostic> = notes.chain(unsaid).collect();
     notes.extend(unasked_note(input, finished));
     if options.object.is_some() {

@@ -1,8 +1,7 @@
 //! The name by which messages call the command.
 
 use std::fs;
-use std::os::unix::fs::{PermissionsExt, symlink};
-use std::path::Path;
+use std::os::unix::fs::symlink;
 use std::process::{Command, Output};
 
 use super::{command, err, out, path};
@@ -11,16 +10,17 @@ use super::{command, err, out, path};
 fn run_script(arguments: &[&str]) -> Output {
     let top = path("run-script");
     let _ = fs::remove_dir_all(&top);
-    let binary = top.join("target/host/release");
-    fs::create_dir_all(&binary).unwrap();
-    symlink(env!("CARGO_BIN_EXE_wargnifla"), binary.join("wargnifla")).unwrap();
-    let build = top.join("host/build");
-    fs::create_dir_all(build.parent().unwrap()).unwrap();
-    fs::write(&build, "#!/bin/sh\n").unwrap();
-    fs::set_permissions(&build, fs::Permissions::from_mode(0o755)).unwrap();
-    let script = Path::new(env!("CARGO_MANIFEST_DIR")).join("../run");
-    fs::copy(script, top.join("run")).unwrap();
-    Command::new("./run")
+    let link = |original: &str, name: &str| {
+        let place = top.join(name);
+        fs::create_dir_all(place.parent().unwrap()).unwrap();
+        symlink(original, place).unwrap();
+    };
+    link(concat!(env!("CARGO_MANIFEST_DIR"), "/../run"), "run");
+    link("/bin/true", "host/build");
+    let command = env!("CARGO_BIN_EXE_wargnifla");
+    link(command, "target/host/release/wargnifla");
+    Command::new("sh")
+        .args(["-c", "./run \"$@\"", "sh"])
         .args(arguments)
         .current_dir(&top)
         .output()
