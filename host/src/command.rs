@@ -8,6 +8,7 @@ mod input;
 mod joined;
 mod json;
 mod kinds;
+mod mistake;
 mod object;
 mod one;
 mod open;

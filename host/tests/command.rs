@@ -4,6 +4,8 @@
 mod ceilings;
 #[path = "command/joined.rs"]
 mod joined;
+#[path = "command/mistake.rs"]
+mod mistake;
 #[cfg(unix)]
 #[path = "command/names.rs"]
 mod names;

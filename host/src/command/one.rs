@@ -7,10 +7,13 @@ use wargnifla::{Picture, write_sheet};
 use super::options::{Options, title};
 use super::rounds::RoundsReport;
 use super::rule::Rule;
-use super::{Failure, diagnostic, files, object, open, print_text, report, unpatched};
+use super::{Failure, diagnostic, files, mistake, object, open, print_text, report, unpatched};
 
 pub fn run(options: &Options, file: &OsStr) -> Result<(), Failure> {
     let rule = Rule::new(options, file)?;
+    if let Some(mistake) = options.mistake {
+        return mistake::show(mistake, &rule, options);
+    }
     rule.check_rounds(options)?;
     let text = shown(options, &rule);
     write_files(options, &rule, &title(file))?;

@@ -6,6 +6,8 @@ use std::path::{Path, PathBuf};
 use sheet_text::{escaped, nearest, shown};
 use wargnifla::{Arch, Extent, Radix, Style};
 
+use super::mistake::Mistake;
+
 /// What `--help` prints, and the one list of options: a mistyped one is compared with those that stand here.
 pub const HELP: &str = "\
 usage: wargnifla [OPTIONS] FILE ..
@@ -35,6 +37,8 @@ What the listing shows
                            alignments it skipped
   --open                   how many entries name a label that is not bound, after each call;
                            where one is refused, too
+  --mistake KIND           what a mistake writes, wrong on purpose, beside what is right: from-start,
+                           one-round or old-padding
   --full                   long runs of bytes, long lines and tables, and all rounds whole
   --hex                    offsets in hexadecimal
   --json                   all that is known as one JSON object, in the place of the listing
@@ -91,6 +95,7 @@ pub struct Options {
     pub source: bool,
     pub rounds: bool,
     pub open: bool,
+    pub mistake: Option<Mistake>,
     pub full: bool,
     pub hex: bool,
     pub json: bool,
@@ -239,6 +244,7 @@ impl Given {
             "--symbols" => self.set_once(&mut options.symbols, symbols(&self.value(next)?)?),
             "--text" => self.set_form(&mut options.form, Form::Text),
             "--binary" => self.set_form(&mut options.form, Form::Binary),
+            "--mistake" => self.set_once(&mut options.mistake, mistake(&self.value(next)?)?),
             "--debug" => self.flag().map(|flag| options.debug = flag),
             "--join" => self.flag().map(|flag| options.join = flag),
             "--source" => self.flag().map(|flag| options.source = flag),
@@ -334,12 +340,34 @@ fn check(options: &Options) -> Result<(), String> {
     let of_one_sheet = [
         ("--write-sheet", options.write_sheet.is_some()),
         ("--picture", options.picture.is_some()),
+        ("--mistake", options.mistake.is_some()),
     ];
     match of_one_sheet.into_iter().find(|(_, is_given)| *is_given) {
         Some((option, _)) if options.joins() => Err(format!(
             "{option} is about one sheet, and can't be given where sheets are joined"
         )),
+        _ if options.mistake.is_some() => check_mistake(options),
         _ if options.json => check_json(options),
+        _ => Ok(()),
+    }
+}
+
+/// Wrong code is shown alone: it goes into no file, and nothing is said of the right code that it could be taken for.
+fn check_mistake(options: &Options) -> Result<(), String> {
+    let outputs = options
+        .outputs()
+        .map(|(option, path)| (option, path.is_some()));
+    let shown = [
+        ("--json", options.json),
+        ("--source", options.source),
+        ("--rounds", options.rounds),
+        ("--open", options.open),
+    ];
+    let mut others = outputs.into_iter().chain(shown);
+    match others.find(|(_, is_given)| *is_given) {
+        Some((option, _)) => Err(format!(
+            "--mistake only shows code that is wrong on purpose, and can't be given with {option}"
+        )),
         _ => Ok(()),
     }
 }
@@ -370,6 +398,16 @@ fn arch(word: &OsStr) -> Result<Arch, String> {
     let word = word.to_string_lossy();
     Arch::from_name(&word)
         .ok_or_else(|| format!("--arch takes x86, x64 or aarch64, not '{}'", shown(&word)))
+}
+
+fn mistake(word: &OsStr) -> Result<Mistake, String> {
+    let word = word.to_string_lossy();
+    Mistake::from_name(&word).ok_or_else(|| {
+        format!(
+            "--mistake takes from-start, one-round or old-padding, not '{}'",
+            shown(&word)
+        )
+    })
 }
 
 fn symbols(word: &OsStr) -> Result<u32, String> {
@@ -406,12 +444,15 @@ mod tests {
             source: true,
             rounds: true,
             open: true,
+            mistake: None,
             full: true,
             hex: true,
             json: false,
             form: Some(Form::Text),
         };
         assert_eq!(parsed(all), Ok(Request::Run(expected)));
+        let options = options("--mistake one-round --full --hex in");
+        assert_eq!(options.mistake, Some(Mistake::OneRound));
         assert_eq!(parsed("x --help"), Ok(Request::Help));
         assert_eq!(parsed("-V"), Ok(Request::Version));
     }
@@ -474,7 +515,7 @@ mod tests {
 
     #[test]
     fn says_what_is_wrong() {
-        let fails = |arguments, expected: &str| {
+        let fails = |arguments: &str, expected: &str| {
             let sentence = parsed(arguments).unwrap_err();
             assert!(sentence.contains(expected), "{sentence}");
         };
@@ -502,5 +543,20 @@ mod tests {
         fails("--json --source a", "--source is about the listing");
         fails("--arch mips a", "'mips'");
         fails("--symbols -1 a", "'-1'");
+        fails("--mistake typo a", "'typo'");
+        fails("--mistake one-round a b", "--mistake is about one sheet");
+        for other in [
+            "-o b",
+            "--object b",
+            "--write-sheet b",
+            "--picture b",
+            "--source",
+            "--rounds",
+            "--open",
+            "--json",
+        ] {
+            let sentence = format!("can't be given with {}", &other.replace(" b", ""));
+            fails(&format!("--mistake one-round a {other}"), &sentence);
+        }
     }
 }

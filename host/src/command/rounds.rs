@@ -131,7 +131,7 @@ impl<'a> RoundsReport<'a> {
     }
 
     /// An event with where it was recorded and the line that it comes from.
-    fn event(&self, index: usize) -> String {
+    pub fn event(&self, index: usize) -> String {
         let event = &self.pooled.events[index];
         let start = self.style.offsets.text(event.start());
         let what = event.mnemonic();
