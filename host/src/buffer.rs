@@ -454,8 +454,8 @@ impl CodeBuffer {
         })
     }
 
-    /// Records the bytes just appended as a jump that finish may resize; [`Self::put_jump`] appends them, too. Accepted unread unless the architecture is
-    /// X64; what finish did not write can be asked of its record, [`CodeBufferFinalized::unpatched`].
+    /// Records the bytes just appended as a jump that finish may resize; [`Self::put_jump`] appends them, too. Accepted unread unless the
+    /// architecture is X64; what finish did not write can be asked of its record, [`CodeBufferFinalized::unpatched`].
     ///
     /// ```
     /// use wargnifla::{Arch, CodeBuffer, Condition, RelaxableJump};
@@ -484,9 +484,9 @@ impl CodeBuffer {
         })
     }
 
-    /// Appends a jump to a label that finish fills: `jmp` without a condition, else `jcc`. On X64 it is recorded as by [`Self::record_relaxable_jump`],
-    /// and finish makes it short where it can. On X86 it stays long, and its displacement is a use of [`LabelUse::X86JmpRel32`]. AArch64 has no such
-    /// jump and refuses it; [`Self::use_label_at_offset`] shows a branch there.
+    /// Appends a jump to a label that finish fills: `jmp` without a condition, else `jcc`. On X64 it is recorded as by
+    /// [`Self::record_relaxable_jump`], and finish makes it short where it can. On X86 it stays long, and its displacement is a use of
+    /// [`LabelUse::X86JmpRel32`]. AArch64 has no such jump and refuses it; [`Self::use_label_at_offset`] shows a branch there.
     ///
     /// A refused jump leaves nothing behind, neither bytes nor a use. As of other calls, the numbers 7, 8, 11 and 12 end the recording.
     ///

@@ -3,7 +3,8 @@
 //! [`CodeBuffer`] owns the tables of a recording and lends them to the C functions of libwargnifla.a, which record calls and finish the code. Names
 //! are those of asmkit's core/buffer.rs (see NOTICE), of which the verified library is a port. A refusal is an [`Error`]: its number by documents 01
 //! and 02, its name ([`Refusal`]), and a sentence that says what is wrong and where. Buffers share nothing: threads may each have their own. Finished
-//! buffers are joined into one by [`join`](join()), and written as objects for the system linker by [`CodeBufferFinalized::object`].
+//! buffers are joined into one by [`join`](join()), and written as objects for the system linker by [`CodeBufferFinalized::object`]. What is to be
+//! shown is finished by [`CodeBuffer::finish_with_recording`]: a [`FinishedRecording`] has a listing, its rounds and a [`Picture`].
 //!
 //! ```
 //! use wargnifla::{Arch, CodeBuffer};

@@ -4,8 +4,8 @@
 use std::collections::BTreeSet;
 
 use wargnifla::{
-    Arch, Call, CodeBuffer, Condition, Constant, Error, Label, LabelUse, MOST_CODE, MOST_ENTRIES,
-    RelaxableJump, Reloc, RelocTarget, write_sheet,
+    Arch, Call, CodeBuffer, Condition, Constant, Error, Extent, FinishedRecording, Label, LabelUse,
+    MOST_CODE, MOST_ENTRIES, RelaxableJump, Reloc, RelocTarget, UNBOUND, write_sheet,
 };
 
 use crate::random::Random;
@@ -197,7 +197,11 @@ impl Pair {
         if let Err(error) = &single {
             self.refused.insert(error.number());
         }
-        let queued = self.queued.finish();
+        let queued = self.queued.finish_with_recording();
+        if let Ok(finished) = &queued {
+            is_shown(finished);
+        }
+        let queued = queued.map(FinishedRecording::into_code);
         assert!(queued.as_ref().ok() == single.as_ref().ok());
         assert_eq!(
             queued.err().map(|e| plain(&e)),
@@ -494,6 +498,19 @@ fn by_sheet(buffer: &mut CodeBuffer, call: &Call) -> Result<Option<u32>, Error> 
         Ok(sheet) => buffer.run_sheet(&sheet).map(|()| None),
         Err(_) => buffer.call(call).map(|()| None),
     }
+}
+
+/// Whatever was recorded can be shown, and its rounds are those that finish reports.
+fn is_shown(finished: &FinishedRecording) {
+    finished.rounds().check(finished.code()).unwrap();
+    if finished.recorded().len() > 100_000 {
+        return;
+    }
+    let listing = finished.listing(Extent::Full);
+    let labels = finished.code().label_offsets().iter();
+    let bound = labels.filter(|offset| **offset != UNBOUND).count();
+    let rows = listing.lines().filter(|line| line.contains("  label "));
+    assert!(rows.count() >= bound, "{listing}");
 }
 
 fn answer(result: Result<Option<u32>, Error>) -> Result<(), String> {

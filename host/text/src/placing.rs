@@ -53,8 +53,8 @@ impl<C, A: Fn(TextCall, &mut Vec<C>) -> Result<(), String>> Placing<C, A> {
     }
 }
 
-/// The long form of a jump that starts at an offset, its displacement open, and the call that has finish fill it: on X64 a jump, which finish may shorten,
-/// else a use, which AArch64 refuses.
+/// The long form of a jump that starts at an offset, its displacement open, and the call that has finish fill it: on X64 a jump, which finish may
+/// shorten, else a use, which AArch64 refuses.
 pub fn long_jump<B>(
     arch: Arch,
     start: u32,
