@@ -167,6 +167,7 @@ impl CodeBufferFinalized {
 
     /// What was accepted and is not in the code: jumps and refs where the architecture keeps none, refs where no jump stands, uses where one does. Of
     /// joined code its pieces know.
+    #[must_use]
     pub fn unpatched(&self) -> &[Unpatched] {
         &self.unpatched
     }

@@ -66,16 +66,15 @@ impl Joined {
         &self.bases
     }
 
-    /// The number in the whole of a label of a piece, which is given by its index.
-    ///
-    /// # Panics
-    ///
-    /// Panics if there is no such piece, or it has no such label.
+    /// The number in the whole of a label of a piece, which is given by its index; nothing if there is no such piece, or it has no such label.
     #[must_use]
-    pub fn label(&self, piece: usize, label: Label) -> Label {
-        let (first, next) = (self.first_label(piece), self.first_label(piece + 1));
-        assert!(label.id() < next - first, "piece {piece} has no {label:?}");
-        Label::from_id(first + label.id())
+    pub fn label(&self, piece: usize, label: Label) -> Option<Label> {
+        let (first, next) = match *self.first_labels.get(piece..)? {
+            [first, next, ..] => (first, next),
+            _ => return None,
+        };
+        let number = first.checked_add(label.id())?;
+        (number < next).then_some(Label::from_id(number))
     }
 
     /// The number that the first label of a piece has, if it has any.
@@ -132,7 +131,8 @@ impl Joined {
 /// let whole = join([&caller.finish()?, &callee.finish()?])?;
 /// assert_eq!(whole.bases(), [0, 32]);
 /// assert_eq!(whole.code().data()[..5], [0xE8, 27, 0, 0, 0]);
-/// assert_eq!(whole.code().label_offset(whole.label(1, entry)), Some(32));
+/// let entry = whole.label(1, entry).unwrap();
+/// assert_eq!(whole.code().label_offset(entry), Some(32));
 /// # Ok(())
 /// # }
 /// ```

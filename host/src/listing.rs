@@ -53,6 +53,7 @@ pub enum Radix {
 
 impl Radix {
     /// An offset in writing.
+    #[must_use]
     pub fn text(self, offset: CodeOffset) -> String {
         match self {
             Self::Decimal => offset.to_string(),

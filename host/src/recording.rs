@@ -39,11 +39,13 @@ impl Names {
     }
 
     /// The name of a label or symbol, if it has one.
+    #[must_use]
     pub fn get(&self, target: impl Into<RelocTarget>) -> Option<&str> {
         self.0.get(&target.into()).map(String::as_str)
     }
 
     /// A label or symbol as messages have it: `label end`, or `label 0` where it has no name.
+    #[must_use]
     pub fn text(&self, target: impl Into<RelocTarget>) -> String {
         let target = target.into();
         match self.get(target) {
@@ -53,6 +55,7 @@ impl Names {
     }
 
     /// What joined pieces share a symbol by: its name, if it has one, else its number.
+    #[must_use]
     pub fn external_name(&self, symbol: Sym) -> ExternalName {
         match self.get(symbol) {
             Some(name) => name.into(),
@@ -214,7 +217,7 @@ pub struct LabelRef {
 }
 
 /// A relocation.
-#[derive(Clone, Copy, Debug, PartialEq, Eq)]
+#[derive(Clone, Copy, Debug, PartialEq, Eq, Hash)]
 pub struct AsmReloc {
     /// Where it applies.
     pub offset: CodeOffset,
@@ -295,6 +298,10 @@ impl Recording {
     }
 
     /// The recording as finish lays it out: constants pooled after the code, in the order of asking.
+    ///
+    /// # Panics
+    ///
+    /// May panic if its entries were changed since it was taken from a buffer.
     #[must_use]
     pub fn pooled(&self) -> Pooled {
         let mut pooled = Pooled {
@@ -343,11 +350,15 @@ impl Pooled {
     #[must_use]
     pub fn owner(&self, event: usize) -> Option<Constant> {
         let recorded = self.events.len() - self.constants.len();
-        let index = event.checked_sub(recorded)?;
-        Some(self.constants[index].constant)
+        let pooled = self.constants.get(event.checked_sub(recorded)?)?;
+        Some(pooled.constant)
     }
 
     /// An event, by its index, as a message names it: `the jump`, `the alignment to 16`, `the alignment to 64 for constant 0`.
+    ///
+    /// # Panics
+    ///
+    /// Panics if there is no such event.
     #[must_use]
     pub fn event_name(&self, event: usize) -> String {
         let name = self.events[event].name();

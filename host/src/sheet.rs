@@ -103,23 +103,27 @@ impl<'a> Sheet<'a> {
     }
 
     /// The number of calls.
+    #[must_use]
     pub fn len(&self) -> usize {
         self.kinds.len()
     }
 
     /// Whether the sheet has no calls.
+    #[must_use]
     pub fn is_empty(&self) -> bool {
         self.kinds.is_empty()
     }
 
     /// Whether every kind is one of document 01.
+    #[must_use]
     pub fn has_known_kinds(&self) -> bool {
         self.kinds.iter().all(|kind| (1..=10).contains(kind))
     }
 
-    /// What the call at an index is named in the text form, if its kind is known.
+    /// What the call at an index is named in the text form, if there is one and its kind is known.
+    #[must_use]
     pub fn name(&self, index: usize) -> Option<&'static str> {
-        let kind = usize::from(self.kinds[index]);
+        let kind = usize::from(*self.kinds.get(index)?);
         CALL_NAMES.get(kind.checked_sub(1)?).copied()
     }
 
@@ -128,12 +132,16 @@ impl<'a> Sheet<'a> {
         std::array::from_fn(|i| u32::from_le_bytes(words[i]))
     }
 
-    /// The call at an index below [`Sheet::len`].
+    /// The call at an index.
     ///
     /// # Errors
     ///
-    /// Says how it breaks its form.
+    /// Says how it breaks its form, or that there is none.
     pub fn call(&self, index: usize) -> Result<Call, String> {
+        if index >= self.len() {
+            let calls = counted(self.len(), "call");
+            return Err(format!("there is no call {index} in a sheet of {calls}"));
+        }
         let words = self.words(index);
         let [a, b, c, d] = words;
         let (call, used) = match self.kinds[index] {
@@ -374,6 +382,16 @@ mod tests {
         let sentence = Sheet::read(&bytes).err().unwrap();
         assert!(sentence.contains("4042322161 calls"), "{sentence}");
         assert!(Sheet::read(&[0, 0, 0]).is_err());
+    }
+
+    #[test]
+    fn calls_past_the_last_are_none() {
+        let sheet = write_sheet(&[Call::NewLabel]).unwrap();
+        let sheet = Sheet::read(&sheet).unwrap();
+        assert_eq!((sheet.name(0), sheet.name(1)), (Some("label"), None));
+        let none = "there is no call 1 in a sheet of 1 call";
+        assert_eq!(sheet.call(1), Err(none.into()));
+        assert!(sheet.call(usize::MAX).is_err());
     }
 
     #[test]

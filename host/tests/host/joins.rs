@@ -80,8 +80,20 @@ fn labels_are_numbered_on_and_move() {
     let whole = joined(&["n; n; b 90; l 1", "n; b 90; l 0", "n; n; l 1"]);
     let code = whole.code();
     assert_eq!(code.label_offsets(), [UNBOUND, 1, 33, UNBOUND, 64]);
-    assert_eq!(whole.label(0, label(1)), label(1));
-    assert_eq!(whole.label(2, label(1)), label(4));
+    assert_eq!(whole.label(0, label(1)), Some(label(1)));
+    assert_eq!(whole.label(2, label(1)), Some(label(4)));
+    let unknown = [
+        (0, 2),
+        (0, u32::MAX),
+        (1, 1),
+        (2, 2),
+        (3, 0),
+        (4, 0),
+        (usize::MAX, 0),
+    ];
+    for (piece, number) in unknown {
+        assert_eq!(whole.label(piece, label(number)), None, "{piece} {number}");
+    }
     let named = joined(&["a: b 90; .x: b 90", "a:", "n"]);
     let names: Vec<_> = named.code().names().labels().collect();
     assert_eq!(names, [(label(0), "a"), (label(1), ".x"), (label(2), "a")]);
@@ -278,12 +290,6 @@ fn what_names_an_unknown_label_is_left_out_of_the_whole() {
     assert_eq!(whole.code().definitions(), []);
     let names: Vec<_> = whole.code().names().labels().collect();
     assert_eq!(names, [(label(3), "end")]);
-}
-
-#[test]
-#[should_panic = "piece 0 has no Label(1)"]
-fn a_label_of_another_piece_is_not_taken_for_ones_own() {
-    let _ = joined(&["n", "n"]).label(0, label(1));
 }
 
 #[test]

@@ -3,7 +3,7 @@
 use std::fmt;
 
 /// A processor architecture that a recording can be for.
-#[derive(Clone, Copy, Debug, PartialEq, Eq, Hash)]
+#[derive(Clone, Copy, Debug, PartialEq, Eq, PartialOrd, Ord, Hash)]
 pub enum Arch {
     /// 32-bit x86.
     X86 = 1,
@@ -61,7 +61,7 @@ impl fmt::Display for Arch {
 }
 
 /// The condition of a `jcc`: the low nibble of its opcode.
-#[derive(Clone, Copy, Debug, PartialEq, Eq, Hash)]
+#[derive(Clone, Copy, Debug, PartialEq, Eq, PartialOrd, Ord, Hash)]
 #[allow(missing_docs, reason = "the names are Intel's, and explain themselves")]
 pub enum Condition {
     O,
@@ -203,7 +203,7 @@ impl fmt::Display for Reach {
 }
 
 /// How a field holds the offset of a label.
-#[derive(Clone, Copy, Debug, PartialEq, Eq, Hash)]
+#[derive(Clone, Copy, Debug, PartialEq, Eq, PartialOrd, Ord, Hash)]
 #[non_exhaustive]
 pub enum LabelUse {
     /// 32-bit displacement, relative to the end of the field.
@@ -323,7 +323,7 @@ impl fmt::Display for LabelUse {
 }
 
 /// Kinds of relocations, in asmkit's order.
-#[derive(Clone, Copy, Debug, PartialEq, Eq, Hash)]
+#[derive(Clone, Copy, Debug, PartialEq, Eq, PartialOrd, Ord, Hash)]
 #[allow(
     missing_docs,
     non_camel_case_types,

@@ -10,7 +10,10 @@ pub fn labels(rules: &[Rule], whole: &Joined, style: Style) -> String {
     let code = whole.code();
     let all = rules.iter().enumerate().flat_map(|(piece, rule)| {
         let recorded = (0..).map(Label::from_id).zip(&rule.recording().labels);
-        recorded.map(move |(label, recorded)| (piece, whole.label(piece, label), *recorded))
+        recorded.filter_map(move |(label, recorded)| {
+            let label = whole.label(piece, label)?;
+            Some((piece, label, *recorded))
+        })
     });
     let lines: Vec<String> = all
         .map(|(piece, label, recorded)| {

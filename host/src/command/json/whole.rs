@@ -41,15 +41,15 @@ fn labels((rules, whole): &Made) -> impl Iterator<Item = Json> {
     let code = whole.code();
     rules.iter().enumerate().flat_map(move |(piece, rule)| {
         let recorded = (0..).map(Label::from_id).zip(&rule.recording().labels);
-        recorded.map(move |(label, recorded)| {
-            let label = whole.label(piece, label);
-            Json::object([
+        recorded.filter_map(move |(label, recorded)| {
+            let label = whole.label(piece, label)?;
+            Some(Json::object([
                 ("number", label.id().into()),
                 ("name", code.names().get(label).into()),
                 ("piece", piece.into()),
                 ("recorded", bound(*recorded)),
                 ("final", code.label_offset(label).into()),
-            ])
+            ]))
         })
     })
 }
