@@ -32,7 +32,7 @@ const TAIL = EVENTS.reduce((rest, event) => rest - event.gap - event.length, DAT
 const STEPS = steps();
 const LONGEST = longest();
 
-// As recorded, every round, finished. A step's changes lead to it from the step before.
+// As recorded, every round, finished. A step's changes lead to it from the step before, by rising events.
 function steps() {
     const all = [{ sentence: DATA.recorded, changes: new Map(), grown: new Set(), left: 0 }];
     let last = 0;
@@ -162,6 +162,26 @@ function isSkipped({ spent, needed }) {
 function canBeSkipped(event) {
     const { isJump, multiple, most } = EVENTS[event];
     return !isJump && most < multiple - 1;
+}
+
+// Each step up to one in which an event starts elsewhere than in the step before, from where to where, and what changed in front of it. What stands in
+// front of a place that did not move has no part in that.
+function moves(event, upTo) {
+    const all = [];
+    let { start } = EVENTS[event];
+    for (let step = 1; step <= upTo; step++) {
+        const causes = [];
+        let by = 0;
+        for (const [other, change] of STEPS[step].changes) {
+            if (other >= event) break;
+            by += change;
+            causes.push({ event: other, by: change });
+            if (by === 0) causes.length = 0;
+        }
+        if (by !== 0) all.push({ step, from: start, to: start + by, causes });
+        start += by;
+    }
+    return all;
 }
 
 // The events between a jump and its label: from the first up to, without it, the second.

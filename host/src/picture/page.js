@@ -41,7 +41,7 @@ function draw() {
 }
 
 function choose() {
-    const pick = hovered ?? chosen, belongs = pick === null ? new Set() : belonging(pick);
+    const pick = hovered ?? chosen, belongs = pick === null ? new Set() : belonging(layout, pick);
     drawing.choose(pick, belongs);
     marked?.classList.remove("on");
     marked = rows.get(pick);

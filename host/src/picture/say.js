@@ -51,9 +51,10 @@ function element(name, text, ...children) {
     return made;
 }
 
-function list(items, noun) {
+// A list of some items, of many the first ones, each worded as text or as parts of an entry.
+function list(items, noun, worded) {
     const shown = items.length > MOST_SAID + 1 ? items.slice(0, MOST_SAID) : items;
-    const entries = shown.map(item => typeof item === "string" ? element("li", item) : element("li", "", ...item));
+    const entries = shown.map(item => element("li", "", ...[worded(item)].flat()));
     if (shown.length < items.length) entries.push(element("li", `\u2026 ${count(items.length - shown.length, `more ${noun}`)}`));
     return element("ul", "", ...entries);
 }
@@ -89,10 +90,36 @@ function changesUpTo(event, step) {
     return step === 0 ? [] : EVENTS[event].changes.filter(change => change.round <= number);
 }
 
+// `jmp recorded at 5 (line 11) grew by 3`.
+function causeText({ event, by }) {
+    return `${eventText(event)} ${by < 0 ? "shrank" : "grew"} by ${Math.abs(by)}`;
+}
+
 // `jmp recorded at 5 (line 11) grew by 3 after round 1`.
-function changeText({ event, by, round, left }) {
+function changeText(change) {
+    const { round, left } = change;
     const when = left > 0 ? `in rounds ${round - left - 1} to ${round}` : `after round ${round - 1}`;
-    return `${eventText(event)} ${by < 0 ? "shrank" : "grew"} by ${Math.abs(by)} ${when}`;
+    return `${causeText(change)} ${when}`;
+}
+
+function stepText(step) {
+    const { number } = STEPS[step];
+    return number === undefined ? "as recorded" : `in round ${number}`;
+}
+
+// `Its start moved from 18 in round 1 to 22 in round 2, since`, and what changed in front.
+function moveText({ step, from, to, causes }) {
+    const head = `Its start moved from ${offset(from)} ${stepText(step - 1)} to ${offset(to)} ${stepText(step)}, since`;
+    return [element("p", head), list(causes, "change", causeText)];
+}
+
+// What moved the start of an alignment, and so changed what it needs.
+function movedText(layout, event) {
+    const all = moves(event, layout.step);
+    if (all.length === 0) return layout.step === 0 ? [] : [element("p", "Nothing in front of it has moved it.")];
+    const latest = all.length > MOST_SAID + 1 ? all.slice(-MOST_SAID) : all;
+    const earlier = all.length > latest.length ? [element("p", `\u2026 ${count(all.length - latest.length, "earlier move")}`)] : [];
+    return [...earlier, ...latest.flatMap(moveText)];
 }
 
 // Why the distance of a jump is not what it was in round 1.
@@ -104,7 +131,7 @@ function history(layout, jump) {
     const own = changesUpTo(jump, layout.step).reduce((sum, change) => sum + change.by, 0);
     const first = isAhead(jump) ? layout.distance(jump) - grown : layout.distance(jump) + grown + own;
     const head = `${first} in round 1; since then, between the jump and its label,`;
-    return [element("p", head), list(changes.map(changeText), "change")];
+    return [element("p", head), list(changes, "change", changeText)];
 }
 
 function crossedText(jump) {
@@ -142,11 +169,12 @@ function paddingText(padding) {
     return spent === 0 ? "no padding" : `${count(spent, "byte")} of padding`;
 }
 
-// `align 8 3 recorded at 9 (line 6): 2 bytes of padding; in round 1: skipped, 5 needed`.
+// `align 8 3 recorded at 9 (line 6): 2 bytes of padding; in round 1: skipped, 5 needed`, and what moved it since the step before.
 function turnText(layout, event) {
     const before = STEPS[layout.step - 1]?.number;
     const then = before === undefined ? "" : `; in round ${before}: ${paddingText(layout.paddingBefore(event))}`;
-    return `${eventText(event)}: ${paddingText(layout.padding(event))}${then}`;
+    const moved = moves(event, layout.step).filter(move => move.step === layout.step).flatMap(moveText);
+    return [`${eventText(event)}: ${paddingText(layout.padding(event))}${then}`, ...moved];
 }
 
 function sayPadding(layout, event) {
@@ -156,10 +184,7 @@ function sayPadding(layout, event) {
         ? `skipped at ${offset(start)}: ${padding.needed} needed, at most ${EVENTS[event].most}`
         : `${paddingText(padding)}, from ${offset(start)} to ${offset(end)}`;
     const now = `${spends}; ${first}${EVENTS[event].length} recorded.`;
-    const changes = changesUpTo(event, layout.step).map(changeText);
-    const said = [element("h2", eventText(event)), element("p", now)];
-    if (changes.length > 0) said.push(element("p", "What moved in front of it changed what it needs:"), list(changes, "change"));
-    return [...said, element("p", crossedByText(event))];
+    return [element("h2", eventText(event)), element("p", now), ...movedText(layout, event), element("p", crossedByText(event))];
 }
 
 // The pooled constant that a label is made for, if it is made for one.
@@ -174,8 +199,8 @@ function sayLabel(layout, label) {
     const title = `${labelText(label)} at ${offset(layout.label(label))}${pushed}`;
     const said = [element("h2", title), ...sayConstant(label)];
     if (from.length === 0) return [...said, element("p", "No jump goes to it.")];
-    const entries = from.map(jump => `${eventText(jump)}: distance ${layout.distance(jump)}, ${stateText(layout.state(jump))}`);
-    return [...said, element("p", `${count(from.length, "jump")} to it:`), list(entries, "jump")];
+    const entry = jump => `${eventText(jump)}: distance ${layout.distance(jump)}, ${stateText(layout.state(jump))}`;
+    return [...said, element("p", `${count(from.length, "jump")} to it:`), list(from, "jump", entry)];
 }
 
 // What happens in a step, in general.
@@ -193,13 +218,10 @@ function lesson(layout) {
 function sayStep(layout) {
     const { grown, left } = layout.current;
     const said = left > 0 ? [element("p", `${count(left, "round")} before this one are left out of this page; their changes are added up.`)] : [];
-    const turns = layout.turns().map(event => turnText(layout, event));
-    if (turns.length > 0) said.push(list(turns, "alignment"));
-    const reasons = [...grown].map(jump => {
-        const text = `${eventText(jump)}: ${verdict(layout, jump)}`;
-        return [text, ...history(layout, jump)];
-    });
-    if (reasons.length > 0) said.push(list(reasons, "jump"));
+    const turns = layout.turns();
+    if (turns.length > 0) said.push(list(turns, "alignment", event => turnText(layout, event)));
+    const reason = jump => [`${eventText(jump)}: ${verdict(layout, jump)}`, ...history(layout, jump)];
+    if (grown.size > 0) said.push(list([...grown], "jump", reason));
     return said;
 }
 
@@ -210,8 +232,8 @@ function say(layout, pick) {
     return EVENTS[event].isJump ? sayJump(layout, event) : sayPadding(layout, event);
 }
 
-// What stands out with a choice: of a jump what it crosses and its label, of padding the jumps that cross it, of a label the jumps to it.
-function belonging(pick) {
+// What stands out with a choice: of a jump what it crosses and its label, of padding the jumps that cross it and what moved it, of a label the jumps to it.
+function belonging(layout, pick) {
     const event = eventOf(pick), label = labelOf(pick), picks = new Set([pick]);
     if (label !== null) {
         for (const jump of jumps()) if (EVENTS[jump].label === label) picks.add(`event${jump}`);
@@ -221,6 +243,8 @@ function belonging(pick) {
         picks.add(`label${EVENTS[event].label}`);
     } else if (event !== null) {
         for (const jump of crossedBy(event)) picks.add(`event${jump}`);
+        const last = moves(event, layout.step).at(-1);
+        if (last?.step === layout.step) for (const cause of last.causes) picks.add(`event${cause.event}`);
     }
     return picks;
 }

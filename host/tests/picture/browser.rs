@@ -56,19 +56,24 @@ pub fn lines(browser: &Path, page: &str, address: &str, script: &str) -> Vec<Str
     noted(&dom(browser, &with_script(page, script), address)).remove(0)
 }
 
-/// Opens pages in frames of one, which takes less time than to open each, and runs a script at the end of each.
+/// Opens pages in frames of one, so many pixels wide, which takes less time than to open each, and runs a script at the end of each.
 ///
 /// # Panics
 ///
 /// As [`lines`].
-pub fn lines_of_all(browser: &Path, pages: &[String], script: &str) -> Vec<Vec<String>> {
+pub fn lines_of_all(
+    browser: &Path,
+    pages: &[String],
+    width: u32,
+    script: &str,
+) -> Vec<Vec<String>> {
     let frames: String = pages
         .iter()
         .map(|page| {
             let page = with_script(page, script)
                 .replace('&', "&amp;")
                 .replace('"', "&quot;");
-            format!("<iframe width=\"1200\" height=\"1000\" srcdoc=\"{page}\"></iframe>\n")
+            format!("<iframe width=\"{width}\" height=\"1000\" srcdoc=\"{page}\"></iframe>\n")
         })
         .collect();
     let collect = "addEventListener('load', () => {

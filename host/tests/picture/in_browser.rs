@@ -3,12 +3,17 @@
 use std::iter::repeat_with;
 
 use wargnifla::{
-    Arch, Change, CodeBuffer, Lengthened, Recording, Round, Rounds, Turn, read_text, symbols_named,
+    Arch, Change, CodeBuffer, Lengthened, Recording, Round, Rounds, Segment, Turn, read_text,
+    symbols_named,
 };
 
 use crate::browser::{find, lines, lines_of_all};
 use crate::random::Random;
 use crate::{MIXED, chain, page, sheet, sheets};
+
+/// The width of a page on a desk and on a phone, in pixels.
+const WIDE: u32 = 1200;
+const NARROW: u32 = 360;
 
 /// What scripts of these tests share.
 const TOOLS: &str = "
@@ -99,6 +104,57 @@ impl Expected {
         changed.count()
     }
 
+    /// By how much a round makes each event longer, from the one before or from what was recorded.
+    fn changes_of(&self, round: usize) -> Vec<i64> {
+        let mut by = vec![0; self.rounds.first().len()];
+        if round == 1 {
+            let old = |segment: &Segment| i64::from(segment.old_end - segment.old_start);
+            let new = |segment: &Segment| i64::from(segment.new_end - segment.new_start);
+            let first = self.rounds.first().iter();
+            return first.map(|segment| new(segment) - old(segment)).collect();
+        }
+        let changes = self.rounds.changes();
+        for change in changes.filter(|change| change.round as usize == round) {
+            by[change.event] = change.by.into();
+        }
+        by
+    }
+
+    /// Why an event starts elsewhere in a round than in the step before: what changed between it and the last place in front that stays.
+    fn moved(&self, event: usize, round: usize) -> Vec<String> {
+        let changes = &self.changes_of(round)[..event];
+        let total: i64 = changes.iter().sum();
+        if total == 0 {
+            return Vec::new();
+        }
+        let starts = (1..round).fold(
+            self.recording.pooled().events[event].start(),
+            |at, before| {
+                let by: i64 = self.changes_of(before)[..event].iter().sum();
+                (i64::from(at) + by) as u32
+            },
+        );
+        let before = match round {
+            1 => "as recorded".into(),
+            _ => format!("in round {}", round - 1),
+        };
+        let after = i64::from(starts) + total;
+        let head =
+            format!("Its start moved from {starts} {before} to {after} in round {round}, since");
+        let (mut causes, mut left) = (Vec::new(), total);
+        for by in changes.iter().rev().filter(|by| **by != 0) {
+            let verb = if *by < 0 { "shrank" } else { "grew" };
+            causes.push(format!(" {verb} by {}", by.abs()));
+            left -= by;
+            if left == 0 {
+                break;
+            }
+        }
+        causes.push(head);
+        causes.reverse();
+        causes
+    }
+
     /// The sentence of each step, the first one cut, with the arcs of each state and the padding that changed.
     fn walk(&self) -> Vec<String> {
         let jumps = self.recording.jumps().count();
@@ -112,7 +168,10 @@ impl Expected {
                 jumps - long - grown,
                 self.changed(number)
             ));
-            lines.extend(round.turns.iter().map(|turn| turned(turn, number)));
+            for turn in &round.turns {
+                lines.push(turned(turn, number));
+                lines.extend(self.moved(turn.event, number));
+            }
             for step in &round.lengthened {
                 lines.push(format!(
                     "{} at {} less its own end at {} is {}, outside -128..127: it becomes long.",
@@ -190,15 +249,20 @@ fn drawn(random: &mut Random) -> String {
 /// Whether some jump grows because of another, and no list of the page is cut.
 fn is_worth_it(text: &str) -> bool {
     const MOST_SAID: usize = 13;
-    let rounds = Expected::new(text).rounds;
+    let expected = Expected::new(text);
+    let rounds = &expected.rounds;
     let mut steps = rounds.rounds().iter().flat_map(|round| &round.lengthened);
-    let is_cut = |round: &Round| {
+    let is_cut = |(number, round): (usize, &Round)| {
         let mut histories = round.lengthened.iter().map(|step| step.crossed.len());
+        let turns = round.turns.iter();
+        let mut moves = turns.map(|turn| expected.moved(turn.event, number).len());
         round.lengthened.len() > MOST_SAID
             || round.turns.len() > MOST_SAID
             || histories.any(|changes| changes > MOST_SAID)
+            || moves.any(|lines| lines > 1 + MOST_SAID)
     };
-    steps.any(|step| !step.crossed.is_empty()) && !rounds.rounds().iter().any(is_cut)
+    let mut numbered = (1..).zip(rounds.rounds());
+    steps.any(|step| !step.crossed.is_empty()) && !numbered.any(is_cut)
 }
 
 /// Compares what was noted on a walk with what is expected of it.
@@ -239,7 +303,7 @@ fn steps_show_what_the_rounds_did() {
             .map(|(i, text)| (format!("drawn {i}"), text)),
     );
     let pages: Vec<String> = sheets.iter().map(|(_, text)| page(text)).collect();
-    let noted = lines_of_all(&browser, &pages, &script);
+    let noted = lines_of_all(&browser, &pages, WIDE, &script);
     assert_eq!(noted.len(), sheets.len());
     for ((name, text), noted) in sheets.iter().zip(noted) {
         compare(name, &noted, &Expected::new(text));
@@ -307,7 +371,8 @@ fn padding_and_label_of_a_constant_are_explained() {
     let noted = lines(&browser, &page, "step=2&pick=label0", &script);
     let expected = [
         "label weights at 64Constant 0 stands here, 64 bytes.No jump goes to it.",
-        "align 64 for constant 02 bytes of padding, from 62 to 64; 58 recorded.No jump crosses it.",
+        "align 64 for constant 02 bytes of padding, from 62 to 64; 58 recorded.Its start moved from 70 as recorded to 62 in round 1, since\
+         je recorded at 3 (line 13) shrank by 4jne recorded at 60 (line 25) shrank by 4No jump crosses it.",
     ];
     assert_eq!(noted, expected);
 }
@@ -328,19 +393,67 @@ fn an_alignment_that_is_skipped_is_explained() {
     let noted = lines(&browser, &page, "step=1&pick=event2", &script);
     let crossed = "Crossed by je recorded at 0 (line 12), jle recorded at 6 (line 13); \
                    what it grows by is added to their distance.";
+    let shrank = "Its start moved from 26 as recorded to 18 in round 1, since\
+                  je recorded at 0 (line 12) shrank by 4jle recorded at 6 (line 13) shrank by 4";
     let expected = [
         "2",
         &format!(
-            "align 32 10 recorded at 26 (line 15)skipped at 18: 14 needed, at most 10; 6 recorded.{crossed}"
+            "align 32 10 recorded at 26 (line 15)skipped at 18: 14 needed, at most 10; 6 recorded.{shrank}{crossed}"
         ),
         "1",
         &format!(
             "align 32 10 recorded at 26 (line 15)10 bytes of padding, from 22 to 32; 0 in round 1, 6 recorded.\
-             What moved in front of it changed what it needs:align 32 10 recorded at 26 (line 15) grew by 10 after round 1{crossed}"
+             {shrank}Its start moved from 18 in round 1 to 22 in round 2, sinceje recorded at 0 (line 12) grew by 4{crossed}"
         ),
         "false",
     ];
     assert_eq!(noted, expected);
+}
+
+#[test]
+fn padding_names_what_moved_it_and_nothing_in_front_of_what_stays() {
+    let Some(browser) = find() else { return };
+    let script = format!(
+        "{TOOLS}
+        const moved = () => by('#detail p, #detail ul li').map(line => line.textContent).filter(line => !/rossed by|No jump/.test(line)).join(' / ');
+        note(moved());
+        note(on());
+        location.hash = 'step=1&pick=event1';
+        fromAddress();
+        note(moved());"
+    );
+    // What the first alignment ends on stays where it is, so that jmp, in front of it, has no part in what moves the second.
+    let text = "jmp far; zeros 3; align 16; jne far; zeros 5; align 8; zeros 128; far:";
+    let noted = lines(&browser, &page(text), "step=2&pick=event3", &script);
+    let expected = [
+        "5 bytes of padding, from 27 to 32; 1 in round 1, 5 recorded. / Its start moved from 27 as recorded to 23 in round 1, since / \
+         jne recorded at 16 (line 1) shrank by 4 / Its start moved from 23 in round 1 to 27 in round 2, since / jne recorded at 16 (line 1) grew by 4",
+        "event0 event2 event3",
+        "11 bytes of padding, from 5 to 16; 8 recorded. / Its start moved from 8 as recorded to 5 in round 1, since / \
+         jmp recorded at 0 (line 1) shrank by 3",
+    ];
+    assert_eq!(noted, expected);
+}
+
+#[test]
+fn the_panel_has_room_for_all_that_it_says_and_rows_of_buttons_have_gaps() {
+    let Some(browser) = find() else { return };
+    let script = format!(
+        "{TOOLS}
+        press('ArrowRight');
+        press('ArrowRight');
+        const panel = document.getElementById('detail');
+        note(panel.scrollHeight <= panel.clientHeight);
+        const boxes = by('.bar button').map(button => button.getBoundingClientRect());
+        const rows = [...new Set(boxes.map(box => box.top))];
+        note(rows.length);
+        note(rows.every((top, i) => i === 0 || top - rows[i - 1] >= boxes[0].height + 4));"
+    );
+    let pages = [page(&sheet("ceiling"))];
+    let narrow = lines_of_all(&browser, &pages, NARROW, &script);
+    assert_eq!(narrow, [["true", "3", "true"]]);
+    let wide = lines_of_all(&browser, &pages, WIDE, &script);
+    assert_eq!(wide, [["true", "1", "true"]]);
 }
 
 #[test]
