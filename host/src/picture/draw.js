@@ -128,29 +128,49 @@ class Drawing {
     }
 
     labels() {
-        const { x, shows } = this.frame;
-        const bound = [...DATA.labels.keys()].filter(label => DATA.labels[label] !== 0);
-        const placed = bound.map(label => [this.layout.label(label), label]).filter(([at]) => shows(x(at), x(at)));
+        const { x } = this.frame;
+        this.together = this.labelsInView();
         // Where there are too many to name, one row names some of them.
-        const isCrowded = placed.length > MOST_NAMES;
+        const isCrowded = this.together.length > MOST_NAMES;
         const rows = Array(isCrowded ? 1 : NAME_ROWS).fill(-Infinity), room = isCrowded ? 30 : 5;
-        for (const [at, label] of placed.sort((a, b) => a[0] - b[0])) {
-            const half = labelName(label).length * LETTER / 2 + room;
+        for (const labels of this.together) {
+            const at = this.layout.label(labels[0]), name = namesOf(labels);
+            const half = name.length * LETTER / 2 + room;
             const row = rows.findIndex(end => end < x(at) - half);
             if (row >= 0) rows[row] = x(at) + half;
-            if (row >= 0 || !isCrowded) this.label(label, at, row);
+            this.label(labels, at, name, row);
         }
     }
 
-    // A label's tick, with its name if it has a row.
-    label(label, at, row) {
+    // The labels in view by rising offset, those together that fall on one pixel.
+    labelsInView() {
+        const { x, shows } = this.frame, together = new Map();
+        const placed = boundLabels().map(label => [this.layout.label(label), label]).filter(([at]) => shows(x(at), x(at)));
+        for (const [at, label] of placed.sort((a, b) => a[0] - b[0])) {
+            const pixel = Math.round(x(at));
+            if (!together.has(pixel)) together.set(pixel, []);
+            together.get(pixel).push(label);
+        }
+        return [...together.values()];
+    }
+
+    // The further labels that are drawn with one.
+    beside(label) {
+        const labels = this.together.find(labels => labels.includes(label)) ?? [];
+        return labels.filter(other => other !== label);
+    }
+
+    // The tick of some labels, with their names if it has a row.
+    label(labels, at, name, row) {
         const { x } = this.frame, y = NAMES + row * ROW, bottom = row < 0 ? BOTTOM + 8 : y - 11;
-        const group = this.choice(`label${label}`, "label", `${labelText(label)} at ${offset(at)}`);
+        const further = labels.length > 1 ? ` and ${count(labels.length - 1, "further label")}` : "";
+        const group = this.choice(`label${labels[0]}`, "label", `${labelText(labels[0])} at ${offset(at)}${further}`);
+        group.picks = labels.map(label => `label${label}`);
         this.add("path", { class: "tick", d: `M${x(at)} ${TOP - 4}V${bottom}` }, group);
         this.add("path", { class: "hit", d: `M${x(at)} ${TOP}V${bottom}` }, group);
-        this.push(label, at, group);
+        this.push(labels[0], at, group);
         if (row < 0) return;
-        this.add("text", { class: "name", x: x(at), y }, group, labelName(label));
+        this.add("text", { class: "name", x: x(at), y }, group, name);
         this.bottom = Math.max(this.bottom, y + 6);
     }
 
@@ -215,8 +235,9 @@ class Drawing {
     choose(pick, belongs) {
         this.svg.classList.toggle("choosing", pick !== null);
         for (const element of this.svg.querySelectorAll(".choice")) {
-            element.classList.toggle("on", belongs.has(element.dataset.pick));
-            element.classList.toggle("chosen", element.dataset.pick === pick);
+            const picks = element.picks ?? [element.dataset.pick];
+            element.classList.toggle("on", picks.some(pick => belongs.has(pick)));
+            element.classList.toggle("chosen", picks.includes(pick));
         }
         this.overlay.replaceChildren();
         const event = eventOf(pick);

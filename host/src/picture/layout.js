@@ -199,6 +199,10 @@ function isAhead(jump) {
     return DATA.labels[EVENTS[jump].label][0] > jump;
 }
 
+function boundLabels() {
+    return [...DATA.labels.keys()].filter(label => DATA.labels[label] !== 0);
+}
+
 function jumps() {
     return [...EVENTS.keys()].filter(event => EVENTS[event].isJump);
 }

@@ -5,6 +5,7 @@ const WIDEST = 8000000;
 const MOST_PRINTED = 12;
 const PRINTED_WIDTH = 1000;
 const PRINTED_BYTES = 640;
+const MOST_SUGGESTED = 50;
 
 const view = document.getElementById("view");
 const room = document.getElementById("room");
@@ -12,6 +13,9 @@ const svg = document.getElementById("strip");
 const sentence = document.getElementById("sentence");
 const detail = document.getElementById("detail");
 const slider = document.getElementById("at");
+const finder = document.getElementById("find");
+const found = document.getElementById("found");
+const byName = new Map(boundLabels().map(label => [labelName(label), label]));
 const rows = new Map([...document.querySelectorAll("tr[data-pick]")].map(row => [row.dataset.pick, row]));
 const layout = new Layout();
 let marked;
@@ -46,7 +50,7 @@ function choose() {
     marked?.classList.remove("on");
     marked = rows.get(pick);
     marked?.classList.add("on");
-    detail.replaceChildren(...say(layout, pick));
+    detail.replaceChildren(...say(layout, pick, drawing));
 }
 
 function go(step) {
@@ -111,6 +115,29 @@ function reveal(pick) {
     draw();
 }
 
+// Names that have what is looked for in them, as many as a reader wants to see.
+function suggest() {
+    const names = [];
+    for (const name of byName.keys()) {
+        if (names.length < MOST_SUGGESTED && name.includes(finder.value)) names.push(name);
+    }
+    found.replaceChildren(...names.map(name => new Option(name, name)));
+}
+
+// Chooses the label whose name or number is looked for.
+function find() {
+    const wanted = finder.value.trim(), label = byName.get(wanted) ?? byName.get(`label ${wanted}`);
+    finder.setCustomValidity("");
+    if (label !== undefined) {
+        hovered = null;
+        chosen = `label${label}`;
+        reveal(chosen);
+    } else if (wanted !== "") {
+        finder.setCustomValidity(`No bound label is called ${wanted}.`);
+        finder.reportValidity();
+    }
+}
+
 const BUTTONS = {
     first: () => go(0),
     back: () => go(layout.step - 1),
@@ -134,8 +161,9 @@ const KEYS = {
 };
 
 function press(event) {
-    if (event.ctrlKey || event.altKey || event.metaKey) return;
-    const pick = pickOf(event.target);
+    if (event.ctrlKey || event.altKey || event.metaKey || event.target === finder) return;
+    const pick = pickOf(event.target), isButton = event.target instanceof HTMLButtonElement;
+    if (isButton && (event.key === "Enter" || event.key === " ")) return;
     if (pick !== null && (event.key === "Enter" || event.key === " ")) select(pick);
     else if (event.key in KEYS) KEYS[event.key]();
     else return;
@@ -196,15 +224,24 @@ function start() {
     for (const [id, action] of Object.entries(BUTTONS)) document.getElementById(id).addEventListener("click", action);
     slider.max = STEPS.length - 1;
     slider.addEventListener("input", () => go(Number(slider.value)));
+    document.getElementById("with-labels").hidden = byName.size === 0;
+    finder.addEventListener("input", () => {
+        finder.setCustomValidity("");
+        suggest();
+    });
+    finder.addEventListener("focus", suggest);
+    finder.addEventListener("change", find);
     document.addEventListener("keydown", press);
     document.addEventListener("click", event => {
         const pick = pickOf(event.target);
         if (pick === null) return;
+        const isInPanel = detail.contains(event.target);
         select(pick);
+        if (isInPanel) detail.focus();
         if (event.target.closest("tr") !== null && chosen !== null) reveal(pick);
     });
     document.addEventListener("pointerover", event => {
-        if (event.pointerType === "mouse") hover(pickOf(event.target));
+        if (event.pointerType === "mouse") hover(detail.contains(event.target) ? null : pickOf(event.target));
     });
     svg.addEventListener("focusin", event => hover(pickOf(event.target)));
     svg.addEventListener("focusout", () => hover(null));

@@ -1,6 +1,7 @@
 // What is said of a step, an event or a label, in the words of --rounds.
 
 const MOST_SAID = 12;
+const MOST_LETTERS = 24;
 
 function count(number, noun) {
     return `${number} ${noun}${number === 1 ? "" : "s"}`;
@@ -17,6 +18,13 @@ function labelText(label) {
 // As it stands at its tick: the name alone, if it has one.
 function labelName(label) {
     return DATA.labels[label][2] ?? labelText(label);
+}
+
+// `a, b +3`, as some labels stand at one tick.
+function namesOf(labels) {
+    let text = labelName(labels[0]), named = 1;
+    while (named < labels.length && text.length + labelName(labels[named]).length < MOST_LETTERS) text += `, ${labelName(labels[named++])}`;
+    return named < labels.length ? `${text} +${labels.length - named}` : text;
 }
 
 // `jmp recorded at 5 (line 11)`.
@@ -193,14 +201,27 @@ function sayConstant(label) {
     return own.map(([number, , size]) => element("p", `Constant ${number} stands here, ${count(size, "byte")}.`));
 }
 
-function sayLabel(layout, label) {
+// The labels that one is drawn with, to be chosen in its place.
+function sayBeside(layout, labels) {
+    if (labels.length === 0) return [];
+    const entry = label => {
+        const button = element("button", `${labelText(label)} at ${offset(layout.label(label))}`);
+        button.type = "button";
+        button.dataset.pick = `label${label}`;
+        return button;
+    };
+    return [element("p", "Further labels at this tick:"), list(labels, "label", entry)];
+}
+
+function sayLabel(layout, label, beside) {
     const from = jumps().filter(jump => EVENTS[jump].label === label);
-    const by = layout.pushed(label), pushed = layout.step > 1 && by !== 0 ? `, pushed by ${by} since the step before` : "";
+    const push = layout.pushed(label), pushed = layout.step > 1 && push !== 0 ? `, pushed by ${push} since the step before` : "";
     const title = `${labelText(label)} at ${offset(layout.label(label))}${pushed}`;
-    const said = [element("h2", title), ...sayConstant(label)];
-    if (from.length === 0) return [...said, element("p", "No jump goes to it.")];
     const entry = jump => `${eventText(jump)}: distance ${layout.distance(jump)}, ${stateText(layout.state(jump))}`;
-    return [...said, element("p", `${count(from.length, "jump")} to it:`), list(from, "jump", entry)];
+    const by = from.length === 0
+        ? [element("p", "No jump goes to it.")]
+        : [element("p", `${count(from.length, "jump")} to it:`), list(from, "jump", entry)];
+    return [element("h2", title), ...sayConstant(label), ...by, ...sayBeside(layout, beside)];
 }
 
 // What happens in a step, in general.
@@ -225,9 +246,9 @@ function sayStep(layout) {
     return said;
 }
 
-function say(layout, pick) {
+function say(layout, pick, drawing) {
     const event = eventOf(pick), label = labelOf(pick);
-    if (label !== null) return sayLabel(layout, label);
+    if (label !== null) return sayLabel(layout, label, drawing.beside(label));
     if (event === null) return [element("p", lesson(layout)), ...sayStep(layout)];
     return EVENTS[event].isJump ? sayJump(layout, event) : sayPadding(layout, event);
 }

@@ -457,6 +457,88 @@ fn the_panel_has_room_for_all_that_it_says_and_rows_of_buttons_have_gaps() {
 }
 
 #[test]
+fn all_of_many_labels_can_be_chosen() {
+    let Some(browser) = find() else { return };
+    let script = format!(
+        "{TOOLS}
+        note(by('#strip .label').length);
+        const choosable = new Set(by('#strip .label').map(label => label.dataset.pick));
+        note([...Array(100).keys()].every(label => choosable.has(`label${{label}}`)));
+        const finder = document.getElementById('find');
+        const look = name => {{
+            finder.value = name;
+            finder.dispatchEvent(new Event('input'));
+            finder.dispatchEvent(new Event('change'));
+        }};
+        look('l77');
+        note(by('#detail h2')[0].textContent);
+        note(on());
+        note(by('#found option').map(option => option.value).join(' '));
+        look('none');
+        note(finder.validationMessage);
+        look('l1');
+        note(by('#found option').length);
+        note(finder.validationMessage);
+        finder.dispatchEvent(new KeyboardEvent('keydown', {{ key: 'ArrowRight', bubbles: true }}));
+        note(said());"
+    );
+    let labels: String = (0..100).map(|i| format!("l{i}: zeros 10\n")).collect();
+    let noted = lines(&browser, &page(&labels), "", &script);
+    let expected = [
+        "100",
+        "true",
+        "label l77 at 770",
+        "label77",
+        "l77",
+        "No bound label is called none.",
+        "11",
+        "",
+        "as recorded: 1000 bytes, 0 jumps, 0 alignments",
+    ];
+    assert_eq!(noted, expected);
+}
+
+#[test]
+fn further_labels_at_one_place_are_named_and_can_be_chosen() {
+    let Some(browser) = find() else { return };
+    let script = format!(
+        "{TOOLS}
+        note(by('#strip .label .name').map(name => name.textContent).join(' | '));
+        note(by('#strip .label').map(label => label.getAttribute('aria-label')).join(' | '));
+        picked('label0').dispatchEvent(new MouseEvent('click', {{ bubbles: true }}));
+        const further = by('#detail button');
+        note(further.map(button => button.textContent).join(' | '));
+        further[1].dispatchEvent(new PointerEvent('pointerover', {{ bubbles: true, pointerType: 'mouse' }}));
+        note(by('#detail h2')[0].textContent);
+        further[1].click();
+        note(by('#detail h2')[0].textContent);
+        note(document.activeElement.id);
+        note(on());
+        note(by('#strip .label.chosen').length);
+        location.hash = 'step=1&pick=label17';
+        fromAddress();
+        note(by('#detail li').map(item => item.textContent).join(' | '));"
+    );
+    let many: String = (0..20).map(|i| format!("m{i}: ")).collect();
+    let text = format!("a: b: c: jmp c\nzeros 100\n{many} bytes C3");
+    let noted = lines(&browser, &page(&text), "step=1", &script);
+    let names = "a, b, c | m0, m1, m2, m3, m4, m5 +14";
+    let further: String = (0..12).map(|i| format!("label m{i} at 102 | ")).collect();
+    let expected = [
+        names,
+        "label a at 0 and 2 further labels | label m0 at 102 and 19 further labels",
+        "label b at 0 | label c at 0",
+        "label a at 0",
+        "label c at 0",
+        "detail",
+        "event0 label0",
+        "1",
+        &format!("{further}… 7 more labels"),
+    ];
+    assert_eq!(noted, expected);
+}
+
+#[test]
 fn two_thousand_jumps_stay_within_bounds() {
     let Some(browser) = find() else { return };
     let script = format!(
