@@ -2,6 +2,7 @@
 //! those of [`Rounds`]; the scripts beside this file only draw and word them.
 
 mod data;
+mod fields;
 mod markup;
 mod parts;
 mod still;
@@ -116,6 +117,16 @@ impl<'a> Picture<'a> {
             1 => notes.push("1 jump or field was recorded and is not in the code.".into()),
             many => notes.push(format!(
                 "{many} jumps and fields were recorded and are not in the code."
+            )),
+        }
+        let len = self.finished.total_size() as u64;
+        let relocs = self.finished.relocs().iter();
+        let ends = relocs.map(|reloc| u64::from(reloc.offset) + u64::from(reloc.kind.field_size()));
+        match ends.filter(|end| *end > len).count() {
+            0 => {}
+            1 => notes.push("1 relocation passes the end of the code, and is not drawn.".into()),
+            many => notes.push(format!(
+                "{many} relocations pass the end of the code, and are not drawn."
             )),
         }
         let paragraph = |note: String| format!("<p class=\"note\">{}</p>\n", escaped(&note));

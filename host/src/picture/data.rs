@@ -1,14 +1,15 @@
 //! What the scripts draw from, as JSON: events and labels as recorded, then of each round what it changed.
 
+use super::fields::{self, Field};
 use super::markup::{array, string};
 use super::parts::place;
 use super::{Picture, Placed};
 use crate::event::LayoutEvent;
 use crate::ffi::Segment;
 use crate::listing::Radix;
-use crate::recording::Names;
+use crate::recording::{Names, Pooled};
 use crate::rounds::{Change, Round, Rounds};
-use crate::{CodeOffset, Label, LabelUse, UNBOUND};
+use crate::{Label, UNBOUND};
 use sheet_text::{counted, shown};
 
 /// Rounds and changes that a page may have before the rounds between are left out.
@@ -20,6 +21,7 @@ pub fn data(picture: &Picture<'_>, placed: &Placed) -> String {
     let kept = kept_rounds(picture.rounds);
     let hex = picture.style.offsets == Radix::Hexadecimal;
     let first = picture.rounds.first().iter().map(length);
+    let [kinds, fields] = fields::entries(&fields(picture, placed));
     let entries = [
         ("hex", hex.to_string()),
         ("recorded", string(&recorded_text(picture, placed))),
@@ -29,7 +31,8 @@ pub fn data(picture: &Picture<'_>, placed: &Placed) -> String {
         ("events", events(picture, placed)),
         ("labels", labels(picture, placed)),
         ("constants", constants(placed)),
-        ("fields", fields(picture, placed)),
+        kinds,
+        fields,
         ("first", array(first)),
         ("rounds", rounds(picture.rounds, kept)),
         ("of", picture.rounds.rounds().len().to_string()),
@@ -100,32 +103,31 @@ fn name(names: &Names, label: u32) -> Option<String> {
     Some(string(&shown(name)))
 }
 
-/// `[constant, label, size]`, in the order of their alignments.
+/// `[events before, constant, label, size]`, each behind an alignment of its own.
 fn constants(placed: &Placed) -> String {
-    let constants = placed.pooled.constants.iter();
-    array(constants.map(|entry| array([entry.constant.id(), entry.label.id(), entry.size])))
+    let Pooled {
+        events, constants, ..
+    } = &placed.pooled;
+    let first = events.len() - constants.len() + 1;
+    array((first..).zip(constants).map(|(before, entry)| {
+        let (constant, label) = (entry.constant.id(), entry.label.id());
+        array([before as u32, constant, label, entry.size])
+    }))
 }
 
-/// `[events before, bytes behind them, size, label, kind]` of each field that finish filled.
-fn fields(picture: &Picture<'_>, placed: &Placed) -> String {
-    let entry = |offset: CodeOffset, kind: LabelUse, label: Label| {
-        let (before, past) = place(&placed.segments, offset);
-        array([
-            before.to_string(),
-            past.to_string(),
-            kind.patch_size().to_string(),
-            label.id().to_string(),
-            string(&kind.to_string()),
-        ])
-    };
+/// The fields with their places, those past the end left out.
+fn fields(picture: &Picture<'_>, placed: &Placed) -> Vec<(usize, u32, Field)> {
     let recording = picture.recording;
-    if recording.has_jump() {
-        let refs = recording.refs.iter();
-        array(refs.map(|field| entry(field.offset, field.kind, field.label)))
-    } else {
-        let uses = recording.uses.iter();
-        array(uses.map(|field| entry(field.offset, field.kind, field.label)))
-    }
+    let relocs = recording.relocs.iter();
+    let relocs = relocs.map(|reloc| Field::left(reloc, &recording.names));
+    let fields = fields::filled(recording).into_iter().chain(relocs);
+    fields
+        .filter(|field| field.is_within(placed.pooled.len))
+        .map(|field| {
+            let (before, past) = place(&placed.segments, field.offset);
+            (before, past, field)
+        })
+        .collect()
 }
 
 fn length(segment: &Segment) -> u32 {

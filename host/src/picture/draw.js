@@ -3,12 +3,12 @@
 const MARGIN = 30;
 const STRIP = 36;
 const LETTER = 6.6;
-const WITH_FIELDS = new Set(DATA.fields.map(([before]) => before));
+const WITH_FIELDS = new Set(FIELDS.map(field => field.before));
 const NAME_ROWS = 3;
 const MOST_NAMES = 60;
 const ROW = 15;
-const ABOVE = jumps().some(isAhead) ? 150 : 8;
-const BELOW = jumps().some(jump => !isAhead(jump)) ? 110 : 0;
+const ABOVE = jumps().some(isAhead) || labelFields().some(isFieldAhead) ? 150 : 8;
+const BELOW = jumps().some(jump => !isAhead(jump)) || labelFields().some(field => !isFieldAhead(field)) ? 110 : 0;
 const TOP = 12 + ABOVE;
 const BOTTOM = TOP + STRIP;
 const BACK = BOTTOM + 36;
@@ -73,12 +73,12 @@ class Drawing {
         if (to > from) this.add("rect", { class: "block run", x: from, y: TOP, width: to - from, height: STRIP });
     }
 
-    // How long the runs between events are, but for those that have fields.
+    // How long the runs between events are, but for those that have fields and for constants.
     runs() {
         let end = 0;
-        for (let event = 0; event <= POOL; event++) {
+        for (let event = 0; event <= EVENTS.length; event++) {
             const start = event < EVENTS.length ? this.layout.start(event) : this.layout.len;
-            if (!WITH_FIELDS.has(event)) this.inside(end, start, count(start - end, "byte"), "quiet");
+            if (!WITH_FIELDS.has(event) && !POOLED.has(event - 1)) this.inside(end, start, count(start - end, "byte"), "quiet");
             end = this.layout.ends[event];
         }
     }
@@ -109,22 +109,29 @@ class Drawing {
     }
 
     fields() {
-        for (const [before, past, size, label, kind] of DATA.fields) {
-            const from = this.layout.at(before, past), { x, shows } = this.frame;
-            if (!shows(x(from), x(from + size)) || !this.isNew("field", Math.round(x(from)))) continue;
-            const group = this.add("g", { class: "field" });
-            this.block("field", from, from + size, group);
-            this.add("title", {}, group, `${kind} at ${offset(from)}: ${labelText(label)}`);
-        }
+        for (const field of FIELDS.keys()) this.field(field);
+    }
+
+    field(index) {
+        const { x, shows } = this.frame, { size, label, holds } = FIELDS[index];
+        const start = this.layout.fieldStart(index), from = x(start + size / 2);
+        const to = label < 0 ? from : x(this.layout.label(label));
+        if (!shows(Math.min(x(start), to), Math.max(x(start + size), to))) return;
+        const kind = holds === "linker" ? "left" : "filled";
+        if (!this.isNew(kind, Math.round(from), Math.round(to))) return;
+        const group = this.choice(`field${index}`, `field ${kind}`, fieldText(this.layout, index));
+        this.block(`field ${kind}`, start, start + size, group);
+        this.inside(start, start + size, FIELDS[index].symbol ?? labelName(label), "strong", group);
+        if (label >= 0) this.arc(index, kind, isFieldAhead(index), from, to, group);
     }
 
     constants() {
-        DATA.constants.forEach(([number, , size], index) => {
-            const from = this.layout.ends[POOL + index], { x, shows } = this.frame;
-            if (!shows(x(from), x(from + size)) || !this.isNew("constant", Math.round(x(from)))) return;
+        for (const [before, number, , size] of DATA.constants) {
+            const from = this.layout.at(before, 0), { x, shows } = this.frame;
+            if (!shows(x(from), x(from + size)) || !this.isNew("constant", Math.round(x(from)))) continue;
             this.block("constant", from, from + size, this.svg);
             this.inside(from, from + size, `constant ${number}`, "reversed");
-        });
+        }
     }
 
     labels() {
@@ -210,12 +217,18 @@ class Drawing {
         const group = this.choice(`event${index}`, `event ${state}`, `${eventText(index)}, ${stateText(state)}, to ${labelText(EVENTS[index].label)}`);
         this.block(`jump ${state}`, start, end, group);
         this.inside(start, end, EVENTS[index].what, "strong", group);
-        const path = isAhead(index) ? arcAbove(index, from, to) : arcBelow(index, from, to);
-        this.add("path", { class: `arc ${state}`, d: path }, group);
+        this.arc(index, state, isAhead(index), from, to, group);
+        const edge = isAhead(index) ? TOP - 13 : BOTTOM + 1;
+        if (state === "grown") this.add("path", { class: "mark", d: `M${from} ${edge}l5 6l-5 6l-5 -6z` }, group);
+    }
+
+    // An arc from a jump or field to its label, with a head where there is room for one.
+    arc(index, kind, isAhead, from, to, group) {
+        const path = isAhead ? arcAbove(index, from, to) : arcBelow(index, from, to);
+        this.add("path", { class: `arc ${kind}`, d: path }, group);
         this.add("path", { class: "hit", d: path }, group);
-        const edge = isAhead(index) ? TOP : BOTTOM, away = isAhead(index) ? -1 : 1;
-        if (this.frame.scale >= 0.5) this.add("path", { class: `head ${state}`, d: `M${to} ${edge}l-4 ${7 * away}h8z` }, group);
-        if (state === "grown") this.add("path", { class: "mark", d: `M${from} ${edge + 7 * away - 6}l5 6l-5 6l-5 -6z` }, group);
+        if (this.frame.scale < 0.5) return;
+        this.add("path", { class: `head ${kind}`, d: isAhead ? `M${to} ${TOP}l-4 -7h8z` : `M${to} ${BOTTOM}l-4 7h8z` }, group);
     }
 
     // By how much events are longer or shorter than in the step before.
@@ -257,17 +270,17 @@ class Drawing {
 }
 
 // Farther arcs are higher, up to what there is room for. Neighbours differ a little, so that one does not hide the other.
-function rise(jump, from, to, room) {
+function rise(index, from, to, room) {
     const far = 1 - Math.exp(-Math.abs(to - from) / (1.5 * room));
-    return 14 + (room - 14) * far * (1 - 0.09 * (jump % 4));
+    return 14 + (room - 14) * far * (1 - 0.09 * (index % 4));
 }
 
-function arcAbove(jump, from, to) {
-    const top = TOP - rise(jump, from, to, ABOVE) * 4 / 3;
+function arcAbove(index, from, to) {
+    const top = TOP - rise(index, from, to, ABOVE) * 4 / 3;
     return `M${from} ${TOP}C${from} ${top} ${to} ${top} ${to} ${TOP}`;
 }
 
-function arcBelow(jump, from, to) {
-    const bottom = BACK + rise(jump, from, to, BELOW) * 4 / 3;
+function arcBelow(index, from, to) {
+    const bottom = BACK + rise(index, from, to, BELOW) * 4 / 3;
     return `M${from} ${BOTTOM}V${BACK}C${from} ${bottom} ${to} ${bottom} ${to} ${BACK}V${BOTTOM}`;
 }

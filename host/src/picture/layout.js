@@ -9,8 +9,9 @@
 // code, len  bytes recorded, without and with the pool
 // events     [what, start, length, label or -1, where it comes from], those of the pool last; of an alignment multiple and most follow
 // labels     [events before it, bytes behind them, name], or 0 if it is not bound
-// constants  [number, label, size], one for each event of the pool
-// fields     [events before it, bytes behind them, size, label, kind]
+// constants  [events before it, number, label, size], each behind an alignment of its own
+// kinds      [name, size, what the field holds: how many bytes behind its start distances count from, "pages", "low bits", "join" or "linker"]
+// fields     [events before it, bytes behind them, kind, label or -1, addend, symbol]
 // first      the length of each event in round 1
 // rounds     [number, sentence, [event, by how much longer than in the entry before, ..], [event that becomes long, ..]]
 // of         how many rounds there were
@@ -27,7 +28,11 @@ const EVENTS = DATA.events.map(([what, start, length, label, place, multiple, mo
     changes: [],
     lengthened: 0,
 }));
-const POOL = EVENTS.length - DATA.constants.length;
+const POOLED = new Set(DATA.constants.map(([before]) => before - 1));
+const FIELDS = DATA.fields.map(([before, past, kind, label, addend, symbol]) => {
+    const [name, size, holds] = DATA.kinds[kind];
+    return { before, past, name, size, holds, label, addend, symbol };
+});
 const TAIL = EVENTS.reduce((rest, event) => rest - event.gap - event.length, DATA.len);
 const STEPS = steps();
 const LONGEST = longest();
@@ -108,6 +113,11 @@ class Layout {
 
     label(label) {
         const [before, past] = DATA.labels[label];
+        return this.at(before, past);
+    }
+
+    fieldStart(field) {
+        const { before, past } = FIELDS[field];
         return this.at(before, past);
     }
 
@@ -199,8 +209,19 @@ function isAhead(jump) {
     return DATA.labels[EVENTS[jump].label][0] > jump;
 }
 
+// Whether a field's label stands behind it.
+function isFieldAhead(field) {
+    const { before, past, label } = FIELDS[field], [labelBefore, labelPast] = DATA.labels[label];
+    return labelBefore === before ? labelPast > past : labelBefore > before;
+}
+
 function boundLabels() {
     return [...DATA.labels.keys()].filter(label => DATA.labels[label] !== 0);
+}
+
+// The fields that name a label.
+function labelFields() {
+    return [...FIELDS.keys()].filter(field => FIELDS[field].label >= 0);
 }
 
 function jumps() {

@@ -108,8 +108,8 @@ function select(pick) {
 
 // Scrolls the strip to what was chosen elsewhere.
 function reveal(pick) {
-    const event = eventOf(pick), label = labelOf(pick);
-    const byte = event !== null ? layout.start(event) : layout.label(label);
+    const event = eventOf(pick), field = fieldOf(pick);
+    const byte = event !== null ? layout.start(event) : field !== null ? layout.fieldStart(field) : layout.label(labelOf(pick));
     const x = MARGIN + byte * scale - view.scrollLeft;
     if (x < 0 || x > view.clientWidth) view.scrollLeft += x - view.clientWidth / 2;
     draw();
@@ -127,7 +127,6 @@ function suggest() {
 // Chooses the label whose name or number is looked for.
 function find() {
     const wanted = finder.value.trim(), label = byName.get(wanted) ?? byName.get(`label ${wanted}`);
-    finder.setCustomValidity("");
     if (label !== undefined) {
         hovered = null;
         chosen = `label${label}`;
@@ -216,15 +215,27 @@ function prepareToPrint() {
     document.getElementById("printed").replaceChildren(...figures);
 }
 
+// What the code has none of is left out of the legend.
+function showLegend() {
+    const isLeft = field => field.holds === "linker";
+    const has = {
+        skipped: [...EVENTS.keys()].some(canBeSkipped),
+        padding: EVENTS.some(event => !event.isJump),
+        fields: !FIELDS.every(isLeft),
+        left: FIELDS.some(isLeft),
+        constants: DATA.constants.length > 0,
+        labels: byName.size > 0,
+    };
+    for (const [name, isThere] of Object.entries(has)) document.getElementById(`with-${name}`).hidden = !isThere;
+    for (const entry of document.getElementsByClassName("with-jumps")) entry.hidden = jumps().length === 0;
+}
+
 function start() {
     document.getElementById("rounds").hidden = false;
-    document.getElementById("with-skipped").hidden = ![...EVENTS.keys()].some(canBeSkipped);
-    document.getElementById("with-fields").hidden = DATA.fields.length === 0;
-    document.getElementById("with-constants").hidden = DATA.constants.length === 0;
+    showLegend();
     for (const [id, action] of Object.entries(BUTTONS)) document.getElementById(id).addEventListener("click", action);
     slider.max = STEPS.length - 1;
     slider.addEventListener("input", () => go(Number(slider.value)));
-    document.getElementById("with-labels").hidden = byName.size === 0;
     finder.addEventListener("input", () => {
         finder.setCustomValidity("");
         suggest();

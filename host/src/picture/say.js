@@ -1,7 +1,8 @@
-// What is said of a step, an event or a label, in the words of --rounds.
+// What is said of a step, an event, a label or a field, in the words of --rounds.
 
 const MOST_SAID = 12;
 const MOST_LETTERS = 24;
+const PAGE = 4096;
 
 function count(number, noun) {
     return `${number} ${noun}${number === 1 ? "" : "s"}`;
@@ -30,7 +31,7 @@ function namesOf(labels) {
 // `jmp recorded at 5 (line 11)`.
 function eventText(event) {
     const { what, start, place } = EVENTS[event];
-    if (event >= POOL) return what;
+    if (POOLED.has(event)) return what;
     return `${what} recorded at ${offset(start)}${place ? ` (${place})` : ""}`;
 }
 
@@ -38,7 +39,7 @@ function stateText(state) {
     return { recorded: "not yet sized", short: "short", grown: "out of reach in this round", long: "long" }[state];
 }
 
-// What a pick stands for: the index of an event or of a label, or null if it stands for none.
+// What a pick stands for: the index of an event, a label or a field, or null if it stands for none.
 function eventOf(pick) {
     return pick !== null && pick.startsWith("event") ? Number(pick.slice(5)) : null;
 }
@@ -47,9 +48,12 @@ function labelOf(pick) {
     return pick !== null && pick.startsWith("label") ? Number(pick.slice(5)) : null;
 }
 
+function fieldOf(pick) {
+    return pick !== null && pick.startsWith("field") ? Number(pick.slice(5)) : null;
+}
+
 function isKnown(pick) {
-    const event = eventOf(pick), label = labelOf(pick);
-    return event !== null ? event in EVENTS : label !== null && Boolean(DATA.labels[label]);
+    return eventOf(pick) in EVENTS || fieldOf(pick) in FIELDS || Boolean(DATA.labels[labelOf(pick)]);
 }
 
 function element(name, text, ...children) {
@@ -195,10 +199,42 @@ function sayPadding(layout, event) {
     return [element("h2", eventText(event)), element("p", now), ...movedText(layout, event), element("p", crossedByText(event))];
 }
 
+// What a field holds of a target.
+function holdsText(holds, start, target) {
+    switch (holds) {
+        case "pages":
+            return `distance ${count(Math.floor(target / PAGE) - Math.floor(start / PAGE), "page")}`;
+        case "low bits":
+            return `low 12 bits ${offset((target % PAGE + PAGE) % PAGE)}`;
+        case "join":
+            return `filled with ${target - start}`;
+        case "linker":
+            return "left for the linker";
+        default:
+            return `distance ${target - start - holds}`;
+    }
+}
+
+// `A64Branch19 at 8: label 2 at 16, distance 8`.
+function fieldText(layout, field) {
+    const { name, holds, label, addend, symbol } = FIELDS[field], start = layout.fieldStart(field);
+    const names = symbol === undefined ? [] : [symbol];
+    if (label >= 0) names.push(`${labelText(label)} at ${offset(layout.label(label))}`);
+    if (addend !== 0) names.push(`addend ${addend}`);
+    const target = label >= 0 ? layout.label(label) + addend : addend;
+    return `${name} at ${offset(start)}: ${names.join(", ")}, ${holdsText(holds, start, target)}`;
+}
+
+function sayField(layout, field) {
+    const { name, size, holds } = FIELDS[field];
+    const by = { join: "The join filled it.", linker: "The system linker fills it." }[holds] ?? "Finish fills it where the code comes to stand.";
+    return [element("h2", `${name}, ${count(size, "byte")}`), element("p", `${fieldText(layout, field)}.`), element("p", by)];
+}
+
 // The pooled constant that a label is made for, if it is made for one.
 function sayConstant(label) {
-    const own = DATA.constants.filter(([, of]) => of === label);
-    return own.map(([number, , size]) => element("p", `Constant ${number} stands here, ${count(size, "byte")}.`));
+    const own = DATA.constants.filter(([, , of]) => of === label);
+    return own.map(([, number, , size]) => element("p", `Constant ${number} stands here, ${count(size, "byte")}.`));
 }
 
 // The labels that one is drawn with, to be chosen in its place.
@@ -221,7 +257,9 @@ function sayLabel(layout, label, beside) {
     const by = from.length === 0
         ? [element("p", "No jump goes to it.")]
         : [element("p", `${count(from.length, "jump")} to it:`), list(from, "jump", entry)];
-    return [element("h2", title), ...sayConstant(label), ...by, ...sayBeside(layout, beside)];
+    const fields = labelFields().filter(field => FIELDS[field].label === label);
+    const named = fields.length === 0 ? [] : [element("p", `Named by ${count(fields.length, "field")}:`), list(fields, "field", field => fieldText(layout, field))];
+    return [element("h2", title), ...sayConstant(label), ...by, ...named, ...sayBeside(layout, beside)];
 }
 
 // What happens in a step, in general.
@@ -249,15 +287,20 @@ function sayStep(layout) {
 function say(layout, pick, drawing) {
     const event = eventOf(pick), label = labelOf(pick);
     if (label !== null) return sayLabel(layout, label, drawing.beside(label));
+    if (fieldOf(pick) !== null) return sayField(layout, fieldOf(pick));
     if (event === null) return [element("p", lesson(layout)), ...sayStep(layout)];
     return EVENTS[event].isJump ? sayJump(layout, event) : sayPadding(layout, event);
 }
 
-// What stands out with a choice: of a jump what it crosses and its label, of padding the jumps that cross it and what moved it, of a label the jumps to it.
+// What stands out with a choice: of a jump what it crosses and its label, of padding the jumps that cross it and what moved it, of a label
+// the jumps to it and the fields that name it, of a field its label.
 function belonging(layout, pick) {
-    const event = eventOf(pick), label = labelOf(pick), picks = new Set([pick]);
+    const event = eventOf(pick), label = labelOf(pick), field = fieldOf(pick), picks = new Set([pick]);
     if (label !== null) {
         for (const jump of jumps()) if (EVENTS[jump].label === label) picks.add(`event${jump}`);
+        for (const field of labelFields()) if (FIELDS[field].label === label) picks.add(`field${field}`);
+    } else if (field !== null) {
+        picks.add(`label${FIELDS[field].label}`);
     } else if (event !== null && EVENTS[event].isJump) {
         const [from, to] = crossed(event);
         for (let other = from; other < to; other++) picks.add(`event${other}`);

@@ -370,7 +370,8 @@ fn padding_and_label_of_a_constant_are_explained() {
     let page = page(&sheet("wide-constant"));
     let noted = lines(&browser, &page, "step=2&pick=label0", &script);
     let expected = [
-        "label weights at 64Constant 0 stands here, 64 bytes.No jump goes to it.",
+        "label weights at 64Constant 0 stands here, 64 bytes.No jump goes to it.\
+         Named by 1 field:X86JmpRel32 at 11: label weights at 64, distance 49",
         "align 64 for constant 02 bytes of padding, from 62 to 64; 58 recorded.Its start moved from 70 as recorded to 62 in round 1, since\
          je recorded at 3 (line 13) shrank by 4jne recorded at 60 (line 25) shrank by 4No jump crosses it.",
     ];
@@ -536,6 +537,57 @@ fn further_labels_at_one_place_are_named_and_can_be_chosen() {
         &format!("{further}… 7 more labels"),
     ];
     assert_eq!(noted, expected);
+}
+
+#[test]
+fn fields_have_arcs_to_their_labels_and_say_what_they_hold() {
+    let Some(browser) = find() else { return };
+    let script = format!(
+        "{TOOLS}
+        note(`${{arcs('filled')}} filled, ${{arcs('left')}} left, ${{by('#strip .block.field').length}} fields`);
+        note(by('.legend li').filter(entry => !entry.hidden).map(entry => entry.textContent).join(' | '));
+        for (const field of by('#strip .field')) if (field.dataset.pick) note(field.getAttribute('aria-label'));
+        picked('field0').dispatchEvent(new MouseEvent('click', {{ bubbles: true }}));
+        note(`${{on()}}: ${{detail()}}`);
+        press('Escape');
+        picked('label0').dispatchEvent(new MouseEvent('click', {{ bubbles: true }}));
+        note(`${{on()}}: ${{detail()}}`);"
+    );
+    let noted = lines_of_all(
+        &browser,
+        &[page(&sheet("aarch64")), page(&sheet("hello-aarch64"))],
+        WIDE,
+        &script,
+    );
+    let aarch64 = [
+        "4 filled, 0 left, 4 fields",
+        "padding | other bytes | field and its label",
+        "A64Adrp21 at 0: label 1 at 4387, distance 1 page",
+        "A64AddAbsLo12 at 4: label 1 at 4387, low 12 bits 291",
+        "A64Branch19 at 8: label 2 at 16, distance 8",
+        "A64Branch26 at 12: label 0 at 0, distance -12",
+        "field0: A64Adrp21, 4 bytesA64Adrp21 at 0: label 1 at 4387, distance 1 page.Finish fills it where the code comes to stand.",
+        "field3 label0: label 0 at 0No jump goes to it.Named by 1 field:A64Branch26 at 12: label 0 at 0, distance -12",
+    ];
+    let adrp = "relocation Aarch64AdrPrelPgHi21 at 4: label .hello at 32, left for the linker";
+    let add = "relocation Aarch64AddAbsLo12Nc at 8: label .hello at 32, left for the linker";
+    let of_field = format!(
+        "field0 label0: relocation Aarch64AdrPrelPgHi21, 4 bytes{adrp}.The system linker fills it."
+    );
+    let of_label = format!(
+        "field0 field1 label0: label .hello at 32Constant 0 stands here, 14 bytes.No jump goes to it.Named by 2 fields:{adrp}{add}"
+    );
+    let hello = [
+        "0 filled, 2 left, 3 fields",
+        "padding | other bytes | relocation, left for the linker | constant",
+        adrp,
+        add,
+        "relocation Arm64Call at 12: symbol puts, left for the linker",
+        &of_field,
+        &of_label,
+    ];
+    assert_eq!(noted[0], aarch64);
+    assert_eq!(noted[1], hello);
 }
 
 #[test]

@@ -96,6 +96,22 @@ fn alignments_have_their_multiple_and_the_most_that_they_spend() {
 }
 
 #[test]
+fn fields_have_their_kinds_places_and_targets() {
+    let with_jump = page("jmp end; bytes 90 90 90 90; ref 6 end X86JmpRel32 3; end: zeros 4");
+    let data = "\"kinds\":[[\"X86JmpRel32\",4,4]],\"fields\":[[1,1,0,0,3]]";
+    assert!(with_jump.contains(data), "{with_jump}");
+    let linked = page(&sheet("hello-aarch64"));
+    let data = "\"kinds\":[[\"relocation Aarch64AdrPrelPgHi21\",4,\"linker\"],[\"relocation Aarch64AddAbsLo12Nc\",4,\"linker\"],\
+                [\"relocation Arm64Call\",4,\"linker\"]],\"fields\":[[0,4,0,0,0],[0,8,1,0,0],[0,12,2,-1,0,\"symbol puts\"]]";
+    assert!(linked.contains(data), "{linked}");
+    let without = page("bytes 90 90; end: ref 0 end X86BranchRel8; use 1 end X86BranchRel8");
+    assert!(without.contains("\"fields\":[[0,1,0,0,0]]"), "{without}");
+    let past = page("symbols puts; bytes 90; relocation 7 Abs8 puts; relocation 0 Abs4 puts");
+    assert!(past.contains("\"fields\":[]"), "{past}");
+    assert!(past.contains("2 relocations pass the end of the code, and are not drawn."));
+}
+
+#[test]
 fn without_a_jump_the_page_says_that_nothing_was_relaxed() {
     for text in ["", "bytes 90", "arch aarch64; align 8; zeros 4", "arch x86"] {
         let page = page(text);
