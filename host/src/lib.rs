@@ -74,7 +74,7 @@ pub use finished_recording::FinishedRecording;
 pub use join::{Filled, Joined, Origin, join};
 pub use listing::{Extent, JoinedRecordings, ListedPiece, Radix, SourceText, Style};
 pub use open::OpenLabel;
-pub use picture::Picture;
+pub use picture::{JoinedPicture, Picture};
 pub use recording::{
     AsmConstant, AsmFixup, AsmReloc, Constant, Label, LabelRef, Names, Pooled, PooledConstant,
     Recording, RelocTarget, Sym,

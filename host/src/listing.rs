@@ -71,6 +71,13 @@ pub struct Style {
     pub offsets: Radix,
 }
 
+impl Style {
+    /// Whether offsets are hexadecimal.
+    pub(crate) fn is_hex(self) -> bool {
+        self.offsets == Radix::Hexadecimal
+    }
+}
+
 impl From<Extent> for Style {
     fn from(extent: Extent) -> Self {
         Self {

@@ -3,7 +3,9 @@
 
 mod data;
 mod fields;
+mod joined;
 mod markup;
+mod notes;
 mod parts;
 mod still;
 mod table;
@@ -14,6 +16,7 @@ use crate::listing::record;
 use crate::recording::{Pooled, Recording};
 use crate::{CodeBufferFinalized, FinishedRecording, Rounds, Style};
 use data::data;
+pub use joined::JoinedPicture;
 use markup::escaped;
 
 const STYLE: &str = include_str!("picture/page.css");
@@ -91,46 +94,64 @@ impl<'a> Picture<'a> {
     /// The page, as the text of an HTML file.
     #[must_use]
     pub fn page(&self) -> String {
-        let placed = Placed::new(self);
+        let placed = Placed::new(self.recording, self.finished);
+        let page = Page {
+            title: self.title,
+            subject: "rounds of relaxation",
+            record: &record(self.recording, self.finished),
+            notes: self.notes(),
+            beside: format!(
+                include_str!("picture/beside.html"),
+                still = still::still(&placed),
+                table = table::table(self, &placed),
+            ),
+            data: data(self, &placed),
+        };
+        page.html()
+    }
+
+    fn notes(&self) -> Vec<String> {
+        let relaxed = match self.recording.has_jump() {
+            true => None,
+            false => Some("Nothing was relaxed: there is no jump to relax.".into()),
+        };
+        let relaxed = relaxed.into_iter();
+        relaxed
+            .chain(notes::not_in_code([self.finished]))
+            .chain(notes::not_drawn(self.finished))
+            .collect()
+    }
+}
+
+/// The parts of a page.
+struct Page<'a> {
+    title: &'a str,
+    /// What it is about.
+    subject: &'a str,
+    /// What finish or join reports.
+    record: &'a str,
+    /// What a reader should know before the first look.
+    notes: Vec<String>,
+    /// What stands below the drawing and needs no script.
+    beside: String,
+    /// What the scripts draw from.
+    data: String,
+}
+
+impl Page<'_> {
+    fn html(&self) -> String {
+        let paragraph = |note: &String| format!("<p class=\"note\">{}</p>\n", escaped(note));
         format!(
             include_str!("picture/page.html"),
             title = escaped(self.title),
+            subject = self.subject,
             style = STYLE,
-            record = escaped(&record(self.recording, self.finished)),
-            notes = self.notes(),
-            still = still::still(&placed),
-            table = table::table(self, &placed),
-            data = data(self, &placed),
+            record = escaped(self.record),
+            notes = self.notes.iter().map(paragraph).collect::<String>(),
+            beside = self.beside,
+            data = self.data,
             scripts = SCRIPTS.concat(),
         )
-    }
-
-    /// What a reader should know before the first look.
-    fn notes(&self) -> String {
-        let mut notes = Vec::new();
-        if !self.recording.has_jump() {
-            notes.push("Nothing was relaxed: there is no jump to relax.".into());
-        }
-        let unpatched = self.finished.unpatched().iter();
-        match unpatched.filter(|entry| !entry.filled).count() {
-            0 => {}
-            1 => notes.push("1 jump or field was recorded and is not in the code.".into()),
-            many => notes.push(format!(
-                "{many} jumps and fields were recorded and are not in the code."
-            )),
-        }
-        let len = self.finished.total_size() as u64;
-        let relocs = self.finished.relocs().iter();
-        let ends = relocs.map(|reloc| u64::from(reloc.offset) + u64::from(reloc.kind.field_size()));
-        match ends.filter(|end| *end > len).count() {
-            0 => {}
-            1 => notes.push("1 relocation passes the end of the code, and is not drawn.".into()),
-            many => notes.push(format!(
-                "{many} relocations pass the end of the code, and are not drawn."
-            )),
-        }
-        let paragraph = |note: String| format!("<p class=\"note\">{}</p>\n", escaped(&note));
-        notes.into_iter().map(paragraph).collect()
     }
 }
 
@@ -143,16 +164,16 @@ struct Placed {
 }
 
 impl Placed {
-    fn new(picture: &Picture<'_>) -> Self {
-        let pooled = picture.recording.pooled();
-        let segments = match picture.finished.segments() {
+    fn new(recording: &Recording, finished: &CodeBufferFinalized) -> Self {
+        let pooled = recording.pooled();
+        let segments = match finished.segments() {
             [] => pooled.events.iter().map(as_recorded).collect(),
             settled => settled.to_vec(),
         };
         Self {
             pooled,
             segments,
-            len: picture.finished.total_size() as u32,
+            len: finished.total_size() as u32,
         }
     }
 }

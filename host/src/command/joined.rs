@@ -3,9 +3,9 @@
 mod refused;
 mod tables;
 
-use wargnifla::{Joined, JoinedRecordings, ListedPiece, SourceText, join};
+use wargnifla::{Joined, JoinedPicture, JoinedRecordings, ListedPiece, SourceText, join};
 
-use super::options::Options;
+use super::options::{Options, titles};
 use super::rounds::RoundsReport;
 use super::rule::Rule;
 use super::{Failure, diagnostic, files, object, open, print_text, report, unpatched};
@@ -16,11 +16,7 @@ pub fn run(options: &Options) -> Result<(), Failure> {
     rules
         .iter()
         .try_for_each(|rule| rule.check_rounds(options))?;
-    let pieces = rules.iter().map(|rule| ListedPiece {
-        title: &rule.input.file,
-        finished: &rule.finished,
-    });
-    let joined = JoinedRecordings::new(pieces).map_err(|error| refused::join(&rules, &error))?;
+    let joined = recordings(&rules)?;
     let text = shown(options, &rules, &joined);
     write_files(options, &rules, joined.whole())?;
     if !options.writes_standard_output() {
@@ -30,6 +26,15 @@ pub fn run(options: &Options) -> Result<(), Failure> {
         diagnostic::print_all(&unpatched::notes(options, &rule.input, rule.code()));
     }
     Ok(())
+}
+
+/// The finished sheets, joined, with their recordings.
+fn recordings(rules: &[Rule]) -> Result<JoinedRecordings<'_>, Failure> {
+    let pieces = rules.iter().map(|rule| ListedPiece {
+        title: &rule.input.file,
+        finished: &rule.finished,
+    });
+    JoinedRecordings::new(pieces).map_err(|error| refused::join(rules, &error))
 }
 
 /// The finished sheets, joined.
@@ -77,5 +82,16 @@ pub fn write_files(options: &Options, rules: &[Rule], whole: &Joined) -> Result<
     let object = object::object(options, rules, whole.bases(), code, |error| {
         refused::object(rules, whole, error)
     })?;
-    files::write(options, [code.data(), &object, &[], &[]])
+    let page = match &options.picture {
+        Some(_) => page(options, rules)?,
+        None => String::new(),
+    };
+    files::write(options, [code.data(), &object, &[], page.as_bytes()])
+}
+
+fn page(options: &Options, rules: &[Rule]) -> Result<String, Failure> {
+    let places: Vec<_> = rules.iter().map(|rule| rule.input.event_places()).collect();
+    let (title, joined) = (titles(&options.files), recordings(rules)?);
+    let picture = JoinedPicture::new(&title, &joined).places(&places);
+    Ok(picture.style(options.style()).page())
 }

@@ -28,8 +28,8 @@ What is written; to - it goes to standard output, in the place of the listing
   --object FILE            an ELF object for the system linker
   --debug                  with --object: the text's lines in it, as DWARF
   --write-sheet FILE       the calls as a binary sheet; not where sheets are joined
-  --picture FILE           a page for a browser that draws the rounds to scale, step by step;
-                           not where sheets are joined
+  --picture FILE           a page for a browser that draws the rounds to scale, step by step, or
+                           joined sheets
 
 What the listing shows
   --source                 the lines of the text, each above what it made; not of binary sheets
@@ -156,6 +156,17 @@ pub fn title(file: &OsStr) -> String {
     match Path::new(file).file_name() {
         Some(name) if !is_dash(file) => file_text(name),
         _ => input_text(file),
+    }
+}
+
+/// What a page about several files is called.
+pub fn titles(files: &[OsString]) -> String {
+    const MOST: usize = 3;
+    let shown = if files.len() > MOST { MOST - 1 } else { MOST };
+    let names: Vec<String> = files.iter().take(shown).map(|file| title(file)).collect();
+    match files.len() - names.len() {
+        0 => names.join(", "),
+        left => format!("{} and {left} more", names.join(", ")),
     }
 }
 
@@ -339,7 +350,6 @@ fn check(options: &Options) -> Result<(), String> {
     }
     let of_one_sheet = [
         ("--write-sheet", options.write_sheet.is_some()),
-        ("--picture", options.picture.is_some()),
         ("--mistake", options.mistake.is_some()),
     ];
     match of_one_sheet.into_iter().find(|(_, is_given)| *is_given) {
@@ -514,6 +524,14 @@ mod tests {
     }
 
     #[test]
+    fn pages_are_called_by_their_files() {
+        let called = |files: &str| titles(&options(files).files);
+        assert_eq!(called("x/a -"), "a, standard input");
+        assert_eq!(called("a b c"), "a, b, c");
+        assert_eq!(called("a b c d"), "a, b and 2 more");
+    }
+
+    #[test]
     fn says_what_is_wrong() {
         let fails = |arguments: &str, expected: &str| {
             let sentence = parsed(arguments).unwrap_err();
@@ -522,7 +540,7 @@ mod tests {
         fails("", "FILE is missing");
         fails("- a -", "standard input, -, can be one FILE alone");
         fails("a --debug", "--debug is about an object");
-        fails("a b --picture c", "--picture is about one sheet");
+        fails("a b --write-sheet c", "--write-sheet is about one sheet");
         fails("--join a --write-sheet b", "--write-sheet is about one");
         fails("--fast a", "no option --fast");
         fails("--objct=x a", "no option --objct (did you mean --object?)");

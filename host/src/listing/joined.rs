@@ -54,6 +54,12 @@ impl<'a> JoinedRecordings<'a> {
         Ok(Self { pieces, whole })
     }
 
+    /// The pieces, in the order of joining.
+    #[must_use]
+    pub fn pieces(&self) -> &[ListedPiece<'a>] {
+        &self.pieces
+    }
+
     /// What the pieces were joined to.
     #[must_use]
     pub fn whole(&self) -> &Joined {

@@ -6,10 +6,9 @@ use super::parts::place;
 use super::{Picture, Placed};
 use crate::event::LayoutEvent;
 use crate::ffi::Segment;
-use crate::listing::Radix;
-use crate::recording::{Names, Pooled};
+use crate::recording::{Names, Pooled, Recording};
 use crate::rounds::{Change, Round, Rounds};
-use crate::{Label, UNBOUND};
+use crate::{CodeOffset, Label, UNBOUND};
 use sheet_text::{counted, shown};
 
 /// Rounds and changes that a page may have before the rounds between are left out.
@@ -19,14 +18,12 @@ const MOST_CHANGES: usize = 131_072;
 /// An object for the scripts; layout.js says what its entries are.
 pub fn data(picture: &Picture<'_>, placed: &Placed) -> String {
     let kept = kept_rounds(picture.rounds);
-    let hex = picture.style.offsets == Radix::Hexadecimal;
     let first = picture.rounds.first().iter().map(length);
     let [kinds, fields] = fields::entries(&fields(picture, placed));
-    let entries = [
-        ("hex", hex.to_string()),
+    object([
+        ("hex", picture.style.is_hex().to_string()),
         ("recorded", string(&recorded_text(picture, placed))),
         ("finished", string(&finished_text(placed))),
-        ("code", picture.recording.code_len.to_string()),
         ("len", placed.pooled.len.to_string()),
         ("events", events(picture, placed)),
         ("labels", labels(picture, placed)),
@@ -36,7 +33,12 @@ pub fn data(picture: &Picture<'_>, placed: &Placed) -> String {
         ("first", array(first)),
         ("rounds", rounds(picture.rounds, kept)),
         ("of", picture.rounds.rounds().len().to_string()),
-    ];
+        ("pieces", array([0; 0])),
+    ])
+}
+
+/// An object of JSON.
+pub fn object<const ENTRIES: usize>(entries: [(&str, String); ENTRIES]) -> String {
     let entries = entries.map(|(name, value)| format!("\"{name}\":{value}"));
     format!("{{{}}}", entries.join(","))
 }
@@ -47,60 +49,85 @@ fn recorded_text(picture: &Picture<'_>, placed: &Placed) -> String {
         0 => String::new(),
         pool => format!(", and {} of pool behind", counted(pool as usize, "byte")),
     };
-    let jumps = picture.recording.jumps().count();
-    let alignments = picture.recording.events.iter();
-    let alignments = alignments.filter_map(LayoutEvent::alignment).count();
     format!(
-        "as recorded: {}, {}, {}{pool}",
+        "as recorded: {}, {}{pool}",
         counted(code as usize, "byte"),
-        counted(jumps, "jump"),
-        counted(alignments, "alignment")
+        events_text([picture.recording])
     )
+}
+
+/// `2 jumps, 1 alignment`, of some recordings together.
+pub fn events_text<'a>(recordings: impl IntoIterator<Item = &'a Recording>) -> String {
+    let (mut jumps, mut alignments) = (0, 0);
+    for recording in recordings {
+        jumps += recording.jumps().count();
+        let events = recording.events.iter();
+        alignments += events.filter_map(LayoutEvent::alignment).count();
+    }
+    let (jumps, alignments) = (counted(jumps, "jump"), counted(alignments, "alignment"));
+    format!("{jumps}, {alignments}")
 }
 
 fn finished_text(placed: &Placed) -> String {
     format!("finished: {}", counted(placed.len as usize, "byte"))
 }
 
-/// `["jmp", start, length, label, "line 6"]`, or `["align 8 3", start, length, -1, "line 6", multiple, most]`.
 fn events(picture: &Picture<'_>, placed: &Placed) -> String {
-    array(placed.pooled.events.iter().enumerate().map(|(i, event)| {
-        let label = event.label().map(|label| label.id().to_string());
-        let ceiling = event.alignment().map(|align| [align.align, align.most]);
-        let mut what = event.mnemonic();
-        if let Some(constant) = placed.pooled.owner(i) {
-            what += &format!(" for constant {}", constant.id());
-        }
+    let pooled = &placed.pooled;
+    array(pooled.events.iter().enumerate().map(|(i, entry)| {
         let place = picture.places.get(i).map_or("", String::as_str);
-        let entries = [
-            string(&what),
-            event.start().to_string(),
-            event.recorded_len().to_string(),
-            label.unwrap_or("-1".into()),
-            string(place),
-        ];
-        let ceiling = ceiling.into_iter().flatten().map(|word| word.to_string());
-        array(entries.into_iter().chain(ceiling))
+        let (start, len) = (entry.start(), entry.recorded_len());
+        event(entry, &what(pooled, i), start, len, entry.label(), place)
     }))
 }
 
-/// `[events before, bytes behind them, name]`, without a name if it has none; 0 if it is not bound.
+/// What an event is, by its index: `jmp`, `align 64 for constant 0`.
+pub fn what(pooled: &Pooled, event: usize) -> String {
+    let what = pooled.events[event].mnemonic();
+    match pooled.owner(event) {
+        Some(constant) => format!("{what} for constant {}", constant.id()),
+        None => what,
+    }
+}
+
+/// `["jmp", start, length, label, "line 6"]`, or `["align 8 3", start, length, -1, "line 6", multiple, most]`.
+pub fn event(
+    event: &LayoutEvent,
+    what: &str,
+    start: CodeOffset,
+    len: u32,
+    label: Option<Label>,
+    place: &str,
+) -> String {
+    let label = label.map(|label| label.id().to_string());
+    let ceiling = event.alignment().map(|align| [align.align, align.most]);
+    let entries = [
+        string(what),
+        start.to_string(),
+        len.to_string(),
+        label.unwrap_or("-1".into()),
+        string(place),
+    ];
+    let ceiling = ceiling.into_iter().flatten().map(|word| word.to_string());
+    array(entries.into_iter().chain(ceiling))
+}
+
 fn labels(picture: &Picture<'_>, placed: &Placed) -> String {
     let labels = (0..).zip(&placed.pooled.labels);
-    array(labels.map(|(label, offset)| match *offset {
-        UNBOUND => "0".into(),
-        offset => {
-            let (before, past) = place(&placed.segments, offset);
-            let mut entries = vec![before.to_string(), past.to_string()];
-            entries.extend(name(&picture.recording.names, label));
-            array(entries)
-        }
+    array(labels.map(|(number, offset)| {
+        let place = (*offset != UNBOUND).then(|| place(&placed.segments, *offset));
+        label(place, &picture.recording.names, Label::from_id(number))
     }))
 }
 
-fn name(names: &Names, label: u32) -> Option<String> {
-    let name = names.get(Label::from_id(label))?;
-    Some(string(&shown(name)))
+/// `[events before, bytes behind them, name]`, without a name if it has none; 0 if it has no place.
+pub fn label(place: Option<(usize, u32)>, names: &Names, label: Label) -> String {
+    let Some((before, past)) = place else {
+        return "0".into();
+    };
+    let mut entries = vec![before.to_string(), past.to_string()];
+    entries.extend(names.get(label).map(|name| string(&shown(name))));
+    array(entries)
 }
 
 /// `[events before, constant, label, size]`, each behind an alignment of its own.

@@ -9,7 +9,8 @@ const MOST_NAMES = 60;
 const ROW = 15;
 const ABOVE = jumps().some(isAhead) || labelFields().some(isFieldAhead) ? 150 : 8;
 const BELOW = jumps().some(jump => !isAhead(jump)) || labelFields().some(field => !isFieldAhead(field)) ? 110 : 0;
-const TOP = 12 + ABOVE;
+const PIECE_ROW = IS_JOINED ? 18 : 0;
+const TOP = 12 + PIECE_ROW + ABOVE;
 const BOTTOM = TOP + STRIP;
 const BACK = BOTTOM + 36;
 const NAMES = BACK + BELOW + 16;
@@ -30,7 +31,9 @@ class Drawing {
         this.seen = new Set();
         this.bottom = NAMES;
         svg.replaceChildren();
+        this.spans = IS_JOINED ? PIECES : [{ start: 0, end: layout.len, first: 0, next: EVENTS.length }];
         this.ground();
+        this.pieces();
         this.runs();
         this.fields();
         this.constants();
@@ -69,17 +72,36 @@ class Drawing {
 
     ground() {
         const { x, width } = this.frame;
-        const from = Math.max(x(0), -10), to = Math.min(x(this.layout.len), width + 10);
-        if (to > from) this.add("rect", { class: "block run", x: from, y: TOP, width: to - from, height: STRIP });
+        for (const { start, end } of this.spans) {
+            const from = Math.max(x(start), -10), to = Math.min(x(end), width + 10);
+            if (to > from) this.add("rect", { class: "block run", x: from, y: TOP, width: to - from, height: STRIP });
+        }
+    }
+
+    // A bracket over each piece of joined code, with its name.
+    pieces() {
+        const { x, shows, width } = this.frame;
+        PIECES.forEach(({ start, end }, index) => {
+            if (!shows(x(start), x(end)) || !this.isNew("piece", Math.round(x(start)), Math.round(x(end)))) return;
+            const group = this.choice(`piece${index}`, "piece", pieceText(index));
+            this.add("path", { class: "bracket", d: `M${x(start)} ${TOP}V${PIECE_ROW}H${x(end)}V${TOP}` }, group);
+            this.add("path", { class: "hit", d: `M${x(start)} ${PIECE_ROW - 6}H${x(end)}` }, group);
+            const left = Math.max(x(start), 0), room = Math.min(x(end), width) - left;
+            const name = [pieceText(index), `piece ${index}`, `${index}`].find(text => text.length * LETTER + 6 < room);
+            if (name !== undefined) this.add("text", { class: "piece-name", x: left + 3, y: PIECE_ROW - 5 }, group, name);
+        });
     }
 
     // How long the runs between events are, but for those that have fields and for constants.
     runs() {
-        let end = 0;
-        for (let event = 0; event <= EVENTS.length; event++) {
-            const start = event < EVENTS.length ? this.layout.start(event) : this.layout.len;
-            if (!WITH_FIELDS.has(event) && !POOLED.has(event - 1)) this.inside(end, start, count(start - end, "byte"), "quiet");
-            end = this.layout.ends[event];
+        for (const { start, end, first, next } of this.spans) {
+            let from = start;
+            for (let event = first; event <= next; event++) {
+                const to = event < next ? this.layout.start(event) : end;
+                const isConstant = event > first && POOLED.has(event - 1);
+                if (!WITH_FIELDS.has(event) && !isConstant) this.inside(from, to, count(to - from, "byte"), "quiet");
+                from = this.layout.ends[event];
+            }
         }
     }
 
@@ -117,11 +139,11 @@ class Drawing {
         const start = this.layout.fieldStart(index), from = x(start + size / 2);
         const to = label < 0 ? from : x(this.layout.label(label));
         if (!shows(Math.min(x(start), to), Math.max(x(start + size), to))) return;
-        const kind = holds === "linker" ? "left" : "filled";
+        const kind = { join: "joined", linker: "left" }[holds] ?? "filled";
         if (!this.isNew(kind, Math.round(from), Math.round(to))) return;
         const group = this.choice(`field${index}`, `field ${kind}`, fieldText(this.layout, index));
         this.block(`field ${kind}`, start, start + size, group);
-        this.inside(start, start + size, FIELDS[index].symbol ?? labelName(label), "strong", group);
+        this.inside(start, start + size, targetName(index), "strong", group);
         if (label >= 0) this.arc(index, kind, isFieldAhead(index), from, to, group);
     }
 

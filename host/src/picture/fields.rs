@@ -1,14 +1,15 @@
-//! Fields that name labels or symbols, as the scripts have them: those that finish fills, and those that are left for the system linker.
+//! Fields that name labels or symbols, as the scripts have them: those that finish or join fills, and those that are left for the system linker.
 
 use super::markup::{array, string};
 use crate::recording::{AsmReloc, Label, Names, Recording, RelocTarget};
 use crate::{CodeOffset, LabelUse, Reloc};
 
 /// A field.
+#[derive(Clone)]
 pub struct Field {
     pub offset: CodeOffset,
     pub kind: Kind,
-    /// The label that it names.
+    /// The label that it names, or that defines its symbol.
     pub label: Option<Label>,
     pub addend: i64,
     /// The symbol that it names, as messages have it.
@@ -19,6 +20,7 @@ pub struct Field {
 #[derive(Clone, Copy, PartialEq, Eq)]
 pub enum Kind {
     Finish(LabelUse),
+    Join(Reloc),
     Linker(Reloc),
 }
 
@@ -26,14 +28,14 @@ impl Kind {
     fn name(self) -> String {
         match self {
             Self::Finish(kind) => kind.to_string(),
-            Self::Linker(kind) => format!("relocation {kind}"),
+            Self::Join(kind) | Self::Linker(kind) => format!("relocation {kind}"),
         }
     }
 
     pub fn size(self) -> u32 {
         match self {
             Self::Finish(kind) => kind.patch_size(),
-            Self::Linker(kind) => kind.field_size(),
+            Self::Join(kind) | Self::Linker(kind) => kind.field_size(),
         }
     }
 
@@ -45,6 +47,7 @@ impl Kind {
                 (None, LabelUse::A64Adrp21) => string("pages"),
                 (None, _) => string("low bits"),
             },
+            Self::Join(_) => string("join"),
             Self::Linker(_) => string("linker"),
         }
     }

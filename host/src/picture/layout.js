@@ -4,9 +4,9 @@
 // counts how far a skipped alignment is from its multiple.
 //
 // hex        whether offsets are hexadecimal
-// recorded   the sentence of the first step
+// recorded   the sentence of the first step, the only one of joined code
 // finished   the sentence of the last step
-// code, len  bytes recorded, without and with the pool
+// len        bytes recorded, with the pool, or joined
 // events     [what, start, length, label or -1, where it comes from], those of the pool last; of an alignment multiple and most follow
 // labels     [events before it, bytes behind them, name], or 0 if it is not bound
 // constants  [events before it, number, label, size], each behind an alignment of its own
@@ -15,19 +15,34 @@
 // first      the length of each event in round 1
 // rounds     [number, sentence, [event, by how much longer than in the entry before, ..], [event that becomes long, ..]]
 // of         how many rounds there were
+// pieces     [start, end, the first event in it or behind it, name, what finish reports], of joined code; of other code there are none
 const DATA = JSON.parse(document.getElementById("data").textContent);
 
 const SHORT = 2;
 const FARTHEST_BACK = -128;
 const FARTHEST_AHEAD = 127;
 
+const PIECES = DATA.pieces.map(([start, end, first, name, record], index) => ({
+    start, end, first, name, record,
+    next: DATA.pieces[index + 1]?.[2] ?? DATA.events.length,
+}));
+const IS_JOINED = PIECES.length > 0;
+
 const EVENTS = DATA.events.map(([what, start, length, label, place, multiple, most], index) => ({
     what, start, length, label, place, multiple, most,
+    // What its alignment counts from.
+    base: 0,
     isJump: label >= 0,
     gap: start - (index > 0 ? DATA.events[index - 1][1] + DATA.events[index - 1][2] : 0),
     changes: [],
     lengthened: 0,
 }));
+PIECES.forEach(({ start, first, next }, piece) => {
+    for (const event of EVENTS.slice(first, next)) {
+        event.base = start;
+        event.place = [`piece ${piece}`, event.place].filter(Boolean).join(", ");
+    }
+});
 const POOLED = new Set(DATA.constants.map(([before]) => before - 1));
 const FIELDS = DATA.fields.map(([before, past, kind, label, addend, symbol]) => {
     const [name, size, holds] = DATA.kinds[kind];
@@ -37,9 +52,10 @@ const TAIL = EVENTS.reduce((rest, event) => rest - event.gap - event.length, DAT
 const STEPS = steps();
 const LONGEST = longest();
 
-// As recorded, every round, finished. A step's changes lead to it from the step before, by rising events.
+// As recorded, every round, finished; of joined code the whole alone. A step's changes lead to it from the step before, by rising events.
 function steps() {
     const all = [{ sentence: DATA.recorded, changes: new Map(), grown: new Set(), left: 0 }];
+    if (IS_JOINED) return all;
     let last = 0;
     for (const [number, sentence, flat, grown] of DATA.rounds) {
         const changes = last === 0 ? fromRecorded() : pairs(flat);
@@ -154,14 +170,14 @@ class Layout {
     }
 
     state(jump) {
-        if (this.step === 0) return "recorded";
+        if (this.step === 0 && !IS_JOINED) return "recorded";
         if (this.current.grown.has(jump)) return "grown";
         return this.lengths[jump] > SHORT ? "long" : "short";
     }
 }
 
 function paddingAt(event, end, spent) {
-    const { multiple } = EVENTS[event], past = (end - spent) % multiple;
+    const { base, multiple } = EVENTS[event], past = (end - spent - base) % multiple;
     return { spent, needed: past === 0 ? 0 : multiple - past };
 }
 

@@ -106,11 +106,17 @@ function select(pick) {
     choose();
 }
 
+// Where what a pick stands for starts.
+function startOf(pick) {
+    if (eventOf(pick) !== null) return layout.start(eventOf(pick));
+    if (fieldOf(pick) !== null) return layout.fieldStart(fieldOf(pick));
+    if (pieceOf(pick) !== null) return PIECES[pieceOf(pick)].start;
+    return layout.label(labelOf(pick));
+}
+
 // Scrolls the strip to what was chosen elsewhere.
 function reveal(pick) {
-    const event = eventOf(pick), field = fieldOf(pick);
-    const byte = event !== null ? layout.start(event) : field !== null ? layout.fieldStart(field) : layout.label(labelOf(pick));
-    const x = MARGIN + byte * scale - view.scrollLeft;
+    const x = MARGIN + startOf(pick) * scale - view.scrollLeft;
     if (x < 0 || x > view.clientWidth) view.scrollLeft += x - view.clientWidth / 2;
     draw();
 }
@@ -215,24 +221,27 @@ function prepareToPrint() {
     document.getElementById("printed").replaceChildren(...figures);
 }
 
-// What the code has none of is left out of the legend.
-function showLegend() {
-    const isLeft = field => field.holds === "linker";
+// What the code has none of is left out of the legend, and what there is one step of has no buttons for steps.
+function showParts() {
+    const holds = new Set(FIELDS.map(field => field.holds)), hasJumps = jumps().length > 0;
     const has = {
         skipped: [...EVENTS.keys()].some(canBeSkipped),
         padding: EVENTS.some(event => !event.isJump),
-        fields: !FIELDS.every(isLeft),
-        left: FIELDS.some(isLeft),
+        fields: FIELDS.some(({ holds }) => holds !== "join" && holds !== "linker"),
+        calls: holds.has("join"),
+        left: holds.has("linker"),
         constants: DATA.constants.length > 0,
         labels: byName.size > 0,
     };
     for (const [name, isThere] of Object.entries(has)) document.getElementById(`with-${name}`).hidden = !isThere;
-    for (const entry of document.getElementsByClassName("with-jumps")) entry.hidden = jumps().length === 0;
+    for (const element of document.querySelectorAll(".with-jumps")) element.hidden = !hasJumps;
+    for (const element of document.querySelectorAll(".with-rounds")) element.hidden = IS_JOINED || !hasJumps;
+    for (const element of document.querySelectorAll(".with-steps")) element.hidden = IS_JOINED;
 }
 
 function start() {
     document.getElementById("rounds").hidden = false;
-    showLegend();
+    showParts();
     for (const [id, action] of Object.entries(BUTTONS)) document.getElementById(id).addEventListener("click", action);
     slider.max = STEPS.length - 1;
     slider.addEventListener("input", () => go(Number(slider.value)));

@@ -28,18 +28,29 @@ function namesOf(labels) {
     return named < labels.length ? `${text} +${labels.length - named}` : text;
 }
 
-// `jmp recorded at 5 (line 11)`.
+// `jmp recorded at 5 (line 11)`, or `jmp at 5 (line 11)` of joined code.
 function eventText(event) {
     const { what, start, place } = EVENTS[event];
     if (POOLED.has(event)) return what;
-    return `${what} recorded at ${offset(start)}${place ? ` (${place})` : ""}`;
+    return `${what} ${IS_JOINED ? "at" : "recorded at"} ${offset(start)}${place ? ` (${place})` : ""}`;
+}
+
+// As it stands in a field: the name of its symbol or label alone.
+function targetName(field) {
+    const { label, symbol } = FIELDS[field];
+    return symbol === undefined ? labelName(label) : symbol.replace("symbol ", "");
+}
+
+// `piece 1: callee.txt`.
+function pieceText(piece) {
+    return `piece ${piece}: ${PIECES[piece].name}`;
 }
 
 function stateText(state) {
     return { recorded: "not yet sized", short: "short", grown: "out of reach in this round", long: "long" }[state];
 }
 
-// What a pick stands for: the index of an event, a label or a field, or null if it stands for none.
+// What a pick stands for: the index of an event, a label, a field or a piece, or null if it stands for none.
 function eventOf(pick) {
     return pick !== null && pick.startsWith("event") ? Number(pick.slice(5)) : null;
 }
@@ -52,8 +63,12 @@ function fieldOf(pick) {
     return pick !== null && pick.startsWith("field") ? Number(pick.slice(5)) : null;
 }
 
+function pieceOf(pick) {
+    return pick !== null && pick.startsWith("piece") ? Number(pick.slice(5)) : null;
+}
+
 function isKnown(pick) {
-    return eventOf(pick) in EVENTS || fieldOf(pick) in FIELDS || Boolean(DATA.labels[labelOf(pick)]);
+    return eventOf(pick) in EVENTS || fieldOf(pick) in FIELDS || pieceOf(pick) in PIECES || Boolean(DATA.labels[labelOf(pick)]);
 }
 
 function element(name, text, ...children) {
@@ -87,13 +102,14 @@ function verdict(layout, jump) {
         case "grown":
             return `${sentence}, outside ${range}: it becomes long.`;
         default:
-            return `${sentence}; it is long, ${count(layout.lengths[jump], "byte")}, ${since(jump)}, and reaches every label.`;
+            return `${sentence}; it is long, ${count(layout.lengths[jump], "byte")}${since(jump)}, and reaches every label.`;
     }
 }
 
 function since(jump) {
     const { lengthened } = EVENTS[jump];
-    return lengthened > 0 ? `since round ${lengthened} found it out of reach` : "since a round that this page leaves out";
+    if (IS_JOINED) return "";
+    return lengthened > 0 ? `, since round ${lengthened} found it out of reach` : ", since a round that this page leaves out";
 }
 
 // The changes of an event up to a step, but for those between the recording and round 1.
@@ -195,7 +211,7 @@ function sayPadding(layout, event) {
     const spends = isSkipped(padding)
         ? `skipped at ${offset(start)}: ${padding.needed} needed, at most ${EVENTS[event].most}`
         : `${paddingText(padding)}, from ${offset(start)} to ${offset(end)}`;
-    const now = `${spends}; ${first}${EVENTS[event].length} recorded.`;
+    const now = IS_JOINED ? `${spends}.` : `${spends}; ${first}${EVENTS[event].length} recorded.`;
     return [element("h2", eventText(event)), element("p", now), ...movedText(layout, event), element("p", crossedByText(event))];
 }
 
@@ -262,8 +278,22 @@ function sayLabel(layout, label, beside) {
     return [element("h2", title), ...sayConstant(label), ...by, ...named, ...sayBeside(layout, beside)];
 }
 
+// The fields in a piece that the join filled.
+function callsIn(layout, piece) {
+    const { start, end } = PIECES[piece];
+    const isIn = field => FIELDS[field].holds === "join" && layout.fieldStart(field) >= start && layout.fieldStart(field) < end;
+    return [...FIELDS.keys()].filter(isIn);
+}
+
+function sayPiece(layout, piece) {
+    const { start, end, record } = PIECES[piece], calls = callsIn(layout, piece);
+    const filled = calls.length === 0 ? [] : [element("p", "The join filled"), list(calls, "field", field => fieldText(layout, field))];
+    return [element("h2", pieceText(piece)), element("p", `From ${offset(start)} to ${offset(end)}; ${record}.`), ...filled];
+}
+
 // What happens in a step, in general.
 function lesson(layout) {
+    if (IS_JOINED) return "Each piece was finished alone. The join set it behind the one before, and filled calls of symbols that a piece defines.";
     if (layout.step === 0) {
         if (DATA.of === 0) return "Nothing moves: finish fills fields where they stand, and sets constants behind the code.";
         return "Each jump has room for its longest form. Round 1 takes every jump for short and makes all padding anew.";
@@ -288,19 +318,23 @@ function say(layout, pick, drawing) {
     const event = eventOf(pick), label = labelOf(pick);
     if (label !== null) return sayLabel(layout, label, drawing.beside(label));
     if (fieldOf(pick) !== null) return sayField(layout, fieldOf(pick));
+    if (pieceOf(pick) !== null) return sayPiece(layout, pieceOf(pick));
     if (event === null) return [element("p", lesson(layout)), ...sayStep(layout)];
     return EVENTS[event].isJump ? sayJump(layout, event) : sayPadding(layout, event);
 }
 
 // What stands out with a choice: of a jump what it crosses and its label, of padding the jumps that cross it and what moved it, of a label
-// the jumps to it and the fields that name it, of a field its label.
+// the jumps to it and the fields that name it, of a field its label, of a piece its events and the calls in it.
 function belonging(layout, pick) {
-    const event = eventOf(pick), label = labelOf(pick), field = fieldOf(pick), picks = new Set([pick]);
+    const event = eventOf(pick), label = labelOf(pick), field = fieldOf(pick), piece = pieceOf(pick), picks = new Set([pick]);
     if (label !== null) {
         for (const jump of jumps()) if (EVENTS[jump].label === label) picks.add(`event${jump}`);
         for (const field of labelFields()) if (FIELDS[field].label === label) picks.add(`field${field}`);
     } else if (field !== null) {
         picks.add(`label${FIELDS[field].label}`);
+    } else if (piece !== null) {
+        for (let event = PIECES[piece].first; event < PIECES[piece].next; event++) picks.add(`event${event}`);
+        for (const field of callsIn(layout, piece)) picks.add(`field${field}`).add(`label${FIELDS[field].label}`);
     } else if (event !== null && EVENTS[event].isJump) {
         const [from, to] = crossed(event);
         for (let other = from; other < to; other++) picks.add(`event${other}`);

@@ -10,7 +10,7 @@ use crate::{CodeOffset, UNBOUND};
 use sheet_text::counted;
 
 /// Rows that the table may have before it is cut, and bytes of a row.
-const MOST_ROWS: usize = 200;
+pub const MOST_ROWS: usize = 200;
 const MOST_BYTES: usize = 16;
 
 /// The rows of the table, and how many are left out.

@@ -172,15 +172,11 @@ fn definitions_do_not_go_into_a_binary_sheet() {
 
 #[test]
 fn what_is_about_one_sheet_is_not_joined() {
-    for option in ["--write-sheet", "--picture"] {
-        let page = path("joined-page");
-        let arguments = [option, page.to_str().unwrap(), "a", "b"];
-        let sentence = format!(
-            "error: {option} is about one sheet, and can't be given where sheets are joined; see wargnifla --help"
-        );
-        fails(&run(&arguments, b""), 2, &sentence);
-        assert!(!page.exists());
-    }
+    let written = path("joined-sheet");
+    let arguments = ["--write-sheet", written.to_str().unwrap(), "a", "b"];
+    let sentence = "error: --write-sheet is about one sheet, and can't be given where sheets are joined; see wargnifla --help";
+    fails(&run(&arguments, b""), 2, sentence);
+    assert!(!written.exists());
 }
 
 #[test]

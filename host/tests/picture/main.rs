@@ -2,6 +2,7 @@
 
 mod browser;
 mod in_browser;
+mod joined;
 mod pages;
 #[path = "../host/random.rs"]
 mod random;
@@ -64,6 +65,20 @@ fn printed(arguments: &[&str], text: &str) -> String {
 
 fn page(text: &str) -> String {
     printed(&["--picture", "-"], text)
+}
+
+/// The page of texts that are joined, the last of them as standard input.
+fn joined_page(texts: &[(&str, &str)]) -> String {
+    let ((_, last), others) = texts.split_last().unwrap();
+    let files = others.iter().map(|(name, text)| {
+        let file = path(name);
+        fs::write(&file, text).unwrap();
+        file.to_str().unwrap().to_owned()
+    });
+    let files: Vec<String> = files.collect();
+    let mut arguments = vec!["--join", "--picture", "-"];
+    arguments.extend(files.iter().map(String::as_str));
+    printed(&arguments, last)
 }
 
 /// Jumps of which each crosses the next alone, so that one grows in every round, from the last to the first.
