@@ -59,7 +59,7 @@ class Drawing {
 
     // A group that can be chosen by pointer and by keyboard.
     choice(pick, kind, name) {
-        return this.add("g", { class: `choice ${kind}`, "data-pick": pick, tabindex: 0, role: "button", "aria-label": name });
+        return this.add("g", { class: `choice ${kind}`, "data-pick": pick, tabindex: -1, role: "button", "aria-label": name });
     }
 
     // Whether nothing like this was drawn at the same pixels: where bytes are narrow, what falls together is drawn once.

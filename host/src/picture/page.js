@@ -41,7 +41,37 @@ function draw() {
     drawing = new Drawing(svg, layout, frame(scale, view.scrollLeft, width));
     drawing.size(HEIGHT);
     choose();
-    if (focused !== null) svg.querySelector(`[data-pick="${focused}"]`)?.focus({ preventScroll: true });
+    const choices = inOrder();
+    const kept = choices.find(choice => choice.dataset.pick === focused);
+    enterAt(kept ?? choices.find(choice => choice.classList.contains("chosen")) ?? choices[0]);
+    kept?.focus({ preventScroll: true });
+}
+
+// What can be chosen in view, by where it starts.
+function inOrder() {
+    const placed = [...svg.querySelectorAll(".choice")].map(choice => [startOf(choice.dataset.pick), choice]);
+    return placed.sort((a, b) => a[0] - b[0]).map(([, choice]) => choice);
+}
+
+// Makes a choice the one that Tab leads to.
+function enterAt(choice) {
+    svg.querySelector("[tabindex='0']")?.setAttribute("tabindex", -1);
+    choice?.setAttribute("tabindex", 0);
+}
+
+// Leads from what has the focus in the drawing to the next or the one before, and scrolls on where that is out of view.
+function moveFocus(by) {
+    const isFocused = choice => choice === document.activeElement;
+    let choices = inOrder(), next = choices[choices.findIndex(isFocused) + by];
+    if (next === undefined) {
+        view.scrollLeft += by * view.clientWidth / 2;
+        draw();
+        choices = inOrder();
+        next = choices[choices.findIndex(isFocused) + by];
+    }
+    if (next === undefined) return;
+    enterAt(next);
+    next.focus({ preventScroll: true });
 }
 
 function choose() {
@@ -170,6 +200,8 @@ function press(event) {
     const pick = pickOf(event.target), isButton = event.target instanceof HTMLButtonElement;
     if (isButton && (event.key === "Enter" || event.key === " ")) return;
     if (pick !== null && (event.key === "Enter" || event.key === " ")) select(pick);
+    else if (svg.contains(event.target) && event.key === "ArrowDown") moveFocus(1);
+    else if (svg.contains(event.target) && event.key === "ArrowUp") moveFocus(-1);
     else if (event.key in KEYS) KEYS[event.key]();
     else return;
     event.preventDefault();
@@ -206,6 +238,8 @@ function printedStep(layout, left) {
     const before = left > 0 ? [element("p", `${count(left, "step")} between are not printed.`)] : [];
     const drawing = new Drawing(strip, layout, printedFrame(layout));
     drawing.size(drawing.bottom);
+    strip.setAttribute("role", "img");
+    strip.setAttribute("aria-label", `The code to scale, ${layout.current.sentence}`);
     return element("figure", "", ...before, element("figcaption", layout.current.sentence), strip, ...sayStep(layout));
 }
 
@@ -239,9 +273,17 @@ function showParts() {
     for (const element of document.querySelectorAll(".with-steps")) element.hidden = IS_JOINED;
 }
 
+// A row of the table can be chosen by keyboard, too.
+function makeButton(row) {
+    const cell = row.lastElementChild, button = element("button", cell.textContent);
+    button.type = "button";
+    cell.replaceChildren(button);
+}
+
 function start() {
     document.getElementById("rounds").hidden = false;
     showParts();
+    for (const row of rows.values()) makeButton(row);
     for (const [id, action] of Object.entries(BUTTONS)) document.getElementById(id).addEventListener("click", action);
     slider.max = STEPS.length - 1;
     slider.addEventListener("input", () => go(Number(slider.value)));

@@ -591,6 +591,51 @@ fn fields_have_arcs_to_their_labels_and_say_what_they_hold() {
 }
 
 #[test]
+fn all_can_be_reached_by_keyboard_and_has_a_name() {
+    let Some(browser) = find() else { return };
+    let script = format!(
+        "{TOOLS}
+        const type = key => document.activeElement.dispatchEvent(new KeyboardEvent('keydown', {{ key, bubbles: true }}));
+        const entries = () => by('#strip [tabindex=\"0\"]').map(choice => choice.dataset.pick).join(' ');
+        note(entries());
+        by('#strip [tabindex=\"0\"]')[0].focus();
+        const order = [document.activeElement.dataset.pick];
+        for (let i = 0; i < 20; i++) {{
+            type('ArrowDown');
+            if (document.activeElement.dataset.pick !== order.at(-1)) order.push(document.activeElement.dataset.pick);
+        }}
+        note(order.join(' '));
+        type('ArrowUp');
+        note(entries());
+        type('Enter');
+        note(by('#strip .chosen').map(choice => choice.dataset.pick).join(' '));
+        type('ArrowRight');
+        note(`${{document.activeElement.dataset.pick}} in ${{said().split(':')[0]}}`);
+        type('Escape');
+        const inTable = document.querySelector('tr[data-pick=event1] button');
+        inTable.focus();
+        inTable.click();
+        note(`${{on()}} / ${{inTable.textContent}}`);
+        dispatchEvent(new Event('beforeprint'));
+        const isNamed = element => (element.getAttribute('aria-label') ?? element.labels?.[0]?.textContent ?? element.textContent).trim() !== '';
+        note(by('button, input, [role]').filter(element => !isNamed(element)).length);
+        note(by('svg').filter(svg => !svg.hasAttribute('role') && !svg.hasAttribute('aria-hidden')).length);"
+    );
+    let noted = lines(&browser, &page(&sheet("ceiling")), "step=1", &script);
+    let expected = [
+        "event0",
+        "event0 event1 label2 event2 event3 event4 label1 event5 label3 event6 event7 label0",
+        "event7",
+        "event7",
+        "event7 in round 2 of 3",
+        "event1 event2 event3 event4 label1 / jle near to label second at 136, distance 124",
+        "0",
+        "0",
+    ];
+    assert_eq!(noted, expected);
+}
+
+#[test]
 fn two_thousand_jumps_stay_within_bounds() {
     let Some(browser) = find() else { return };
     let script = format!(

@@ -1,5 +1,6 @@
 //! What stands in a page, without a browser.
 
+use std::collections::HashMap;
 use std::fs;
 
 use wargnifla::{Arch, CodeBuffer, Picture};
@@ -23,6 +24,10 @@ fn every_sheet_gives_a_page_that_takes_nothing_from_elsewhere() {
         ] {
             assert!(page.contains(part), "{name} lacks {part}");
         }
+        let icon = "<link rel=\"icon\" href=\"data:,\">";
+        assert!(page.contains(icon), "{name}: a browser would ask for one");
+        assert!(page.contains("content=\"default-src 'none'; "), "{name}");
+        let page = page.replace(icon, "");
         for outside in ["http:", "https:", "src=", "href=", "@import", "//cdn"] {
             assert!(!page.contains(outside), "{name} has {outside}");
         }
@@ -144,6 +149,69 @@ fn names_can_do_no_harm() {
     assert!(!page.contains("<i>") && !page.contains('\u{2028}'));
     assert!(page.contains("<title>&lt;/title&gt;&lt;script&gt;: rounds of relaxation</title>"));
     assert!(page.contains("\\u003c/script\\u003e\\u003ci\\u003e"));
+}
+
+/// The colours of the style sheet by name: those on white, and with them those on black.
+fn colours() -> [HashMap<&'static str, &'static str>; 2] {
+    let style = include_str!("../../src/picture/page.css");
+    let (light, rest) = style.split_once("@media screen").unwrap();
+    let (dark, _) = rest.split_once("box-sizing").unwrap();
+    let named = |text: &'static str| {
+        let lines = text
+            .lines()
+            .filter_map(|line| line.trim().strip_prefix("--"));
+        lines.filter_map(|line| line.trim_end_matches(';').split_once(": #"))
+    };
+    [
+        named(light).collect(),
+        named(light).chain(named(dark)).collect(),
+    ]
+}
+
+/// How far two colours are apart, by WCAG 2: from 1 to 21.
+fn contrast(a: &str, b: &str) -> f64 {
+    let light = |colour: &str| {
+        let part = |i: usize| {
+            let part = f64::from(u8::from_str_radix(&colour[i..i + 2], 16).unwrap()) / 255.0;
+            match part <= 0.03928 {
+                true => part / 12.92,
+                false => ((part + 0.055) / 1.055).powf(2.4),
+            }
+        };
+        0.2126 * part(0) + 0.7152 * part(2) + 0.0722 * part(4) + 0.05
+    };
+    let (a, b) = (light(a), light(b));
+    (a / b).max(b / a)
+}
+
+#[test]
+fn texts_and_shapes_stand_out_from_what_is_behind_them() {
+    let texts = [
+        ("ink", "paper panel field-ground padding-ground"),
+        ("quiet", "paper panel run"),
+        ("grown", "paper"),
+        ("paper", "constant short grown recorded"),
+    ];
+    let shapes = [
+        ("short", "paper run"),
+        ("grown", "paper run"),
+        ("long", "paper run"),
+        ("recorded", "paper run"),
+        ("field", "paper run"),
+        ("padding", "paper run padding-ground"),
+        ("constant", "paper run"),
+        ("edge", "paper panel"),
+    ];
+    for colours in colours() {
+        for (pairs, least) in [(&texts[..], 4.5), (&shapes[..], 3.0)] {
+            for (before, grounds) in pairs {
+                for ground in grounds.split(' ') {
+                    let found = contrast(colours[before], colours[ground]);
+                    assert!(found >= least, "{before} on {ground}: {found:.2}");
+                }
+            }
+        }
+    }
 }
 
 #[test]
