@@ -6,6 +6,8 @@ const LETTER = 6.6;
 const WITH_FIELDS = new Set(FIELDS.map(field => field.before));
 const NAME_ROWS = 3;
 const MOST_NAMES = 60;
+const MOST_ARCS = 3000;
+const COARSEST = 16;
 const ROW = 15;
 const ABOVE = jumps().some(isAhead) || labelFields().some(isFieldAhead) ? 150 : 8;
 const BELOW = jumps().some(jump => !isAhead(jump)) || labelFields().some(field => !isFieldAhead(field)) ? 110 : 0;
@@ -32,6 +34,7 @@ class Drawing {
         this.bottom = NAMES;
         svg.replaceChildren();
         this.spans = IS_JOINED ? PIECES : [{ start: 0, end: layout.len, first: 0, next: EVENTS.length }];
+        this.grain = this.arcGrain();
         this.ground();
         this.pieces();
         this.runs();
@@ -68,6 +71,23 @@ class Drawing {
         const isNew = !this.seen.has(text);
         this.seen.add(text);
         return isNew;
+    }
+
+    // How many pixels arcs must be apart to be drawn both: one, and more where there are very many.
+    arcGrain() {
+        const { x, shows } = this.frame;
+        const isInView = (from, label) => {
+            const to = x(this.layout.label(label));
+            return shows(Math.min(from, to), Math.max(from, to));
+        };
+        const arcs = jumps().filter(jump => isInView(x(this.layout.ends[jump]), EVENTS[jump].label)).length
+            + labelFields().filter(field => isInView(x(this.layout.fieldStart(field)), FIELDS[field].label)).length;
+        return Math.min(Math.ceil(Math.max(arcs, 1) / MOST_ARCS), COARSEST);
+    }
+
+    // Whether no such arc was drawn near these pixels.
+    isNewArc(kind, from, to) {
+        return this.isNew("arc", kind, Math.round(from / this.grain), Math.round(to / this.grain));
     }
 
     ground() {
@@ -140,11 +160,12 @@ class Drawing {
         const to = label < 0 ? from : x(this.layout.label(label));
         if (!shows(Math.min(x(start), to), Math.max(x(start + size), to))) return;
         const kind = { join: "joined", linker: "left" }[holds] ?? "filled";
-        if (!this.isNew(kind, Math.round(from), Math.round(to))) return;
+        const isNewArc = label >= 0 && this.isNewArc(kind, from, to);
+        if (!this.isNew(kind, Math.round(from)) && !isNewArc) return;
         const group = this.choice(`field${index}`, `field ${kind}`, fieldText(this.layout, index));
         this.block(`field ${kind}`, start, start + size, group);
         this.inside(start, start + size, targetName(index), "strong", group);
-        if (label >= 0) this.arc(index, kind, isFieldAhead(index), from, to, group);
+        if (isNewArc) this.arc(index, kind, isFieldAhead(index), from, to, group);
     }
 
     constants() {
@@ -235,10 +256,12 @@ class Drawing {
         const start = this.layout.start(index), end = this.layout.ends[index], target = this.layout.label(EVENTS[index].label);
         const from = x(end), to = x(target);
         if (!shows(Math.min(x(start), from, to), Math.max(from, to))) return;
-        if (!this.isNew(state, Math.round(from), Math.round(to))) return;
+        const isNewArc = this.isNewArc(state, from, to);
+        if (!this.isNew(state, Math.round(from)) && !isNewArc) return;
         const group = this.choice(`event${index}`, `event ${state}`, `${eventText(index)}, ${stateText(state)}, to ${labelText(EVENTS[index].label)}`);
         this.block(`jump ${state}`, start, end, group);
         this.inside(start, end, EVENTS[index].what, "strong", group);
+        if (!isNewArc) return;
         this.arc(index, state, isAhead(index), from, to, group);
         const edge = isAhead(index) ? TOP - 13 : BOTTOM + 1;
         if (state === "grown") this.add("path", { class: "mark", d: `M${from} ${edge}l5 6l-5 6l-5 -6z` }, group);

@@ -15,7 +15,7 @@ const NAMES: [&str; 3] = ["chromium", "chromium-browser", "google-chrome"];
 static SAID: Once = Once::new();
 
 /// What one look at a page may take.
-const LIMIT: Duration = Duration::from_secs(120);
+const LIMIT: Duration = Duration::from_secs(300);
 
 /// The first browser on the path that runs; where there is none, a sentence says that the test is passed over.
 pub fn find() -> Option<PathBuf> {
