@@ -1,5 +1,5 @@
 //! A page that shows how finish relaxed the jumps of a recording, round by round: one HTML file that takes nothing from elsewhere. The numbers are
-//! those of [`Rounds`]; the scripts beside this file only draw and word them.
+//! those of [`Rounds`]; the scripts below this file only draw and word them.
 
 mod data;
 mod fields;
@@ -15,7 +15,7 @@ use crate::ffi::Segment;
 use crate::listing::record;
 use crate::recording::{Pooled, Recording};
 use crate::{CodeBufferFinalized, FinishedRecording, Rounds, Style};
-use data::data;
+use fields::PlacedField;
 pub use joined::JoinedPicture;
 use markup::escaped;
 
@@ -95,22 +95,23 @@ impl<'a> Picture<'a> {
     #[must_use]
     pub fn page(&self) -> String {
         let placed = Placed::new(self.recording, self.finished);
+        let fields = data::fields(self, &placed);
         let page = Page {
             title: self.title,
             subject: "rounds of relaxation",
             record: &record(self.recording, self.finished),
-            notes: self.notes(),
-            beside: format!(
-                include_str!("picture/beside.html"),
+            notes: self.notes(&fields),
+            below: format!(
+                include_str!("picture/below.html"),
                 still = still::still(&placed),
                 table = table::table(self, &placed),
             ),
-            data: data(self, &placed),
+            data: data::data(self, &placed, &fields),
         };
         page.html()
     }
 
-    fn notes(&self) -> Vec<String> {
+    fn notes(&self, fields: &[PlacedField]) -> Vec<String> {
         let relaxed = match self.recording.has_jump() {
             true => None,
             false => Some("Nothing was relaxed: there is no jump to relax.".into()),
@@ -118,7 +119,9 @@ impl<'a> Picture<'a> {
         let relaxed = relaxed.into_iter();
         relaxed
             .chain(notes::not_in_code([self.finished]))
-            .chain(notes::not_drawn(self.finished))
+            .chain(notes::not_drawn(
+                self.recording.relocs.len() - fields::left(fields),
+            ))
             .collect()
     }
 }
@@ -133,7 +136,7 @@ struct Page<'a> {
     /// What a reader should know before the first look.
     notes: Vec<String>,
     /// What stands below the drawing and needs no script.
-    beside: String,
+    below: String,
     /// What the scripts draw from.
     data: String,
 }
@@ -148,7 +151,7 @@ impl Page<'_> {
             style = STYLE,
             record = escaped(self.record),
             notes = self.notes.iter().map(paragraph).collect::<String>(),
-            beside = self.beside,
+            below = self.below,
             data = self.data,
             scripts = SCRIPTS.concat(),
         )

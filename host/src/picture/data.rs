@@ -1,6 +1,6 @@
 //! What the scripts draw from, as JSON: events and labels as recorded, then of each round what it changed.
 
-use super::fields::{self, Field};
+use super::fields::{self, Field, PlacedField};
 use super::markup::{array, string};
 use super::parts::place;
 use super::{Picture, Placed};
@@ -16,10 +16,10 @@ const MOST_ROUNDS: usize = 4_096;
 const MOST_CHANGES: usize = 131_072;
 
 /// An object for the scripts; layout.js says what its entries are.
-pub fn data(picture: &Picture<'_>, placed: &Placed) -> String {
+pub fn data(picture: &Picture<'_>, placed: &Placed, fields: &[PlacedField]) -> String {
     let kept = kept_rounds(picture.rounds);
     let first = picture.rounds.first().iter().map(length);
-    let [kinds, fields] = fields::entries(&fields(picture, placed));
+    let [kinds, fields] = fields::entries(fields);
     object([
         ("hex", picture.style.is_hex().to_string()),
         ("recorded", string(&recorded_text(picture, placed))),
@@ -142,8 +142,8 @@ fn constants(placed: &Placed) -> String {
     }))
 }
 
-/// The fields with their places, those past the end left out.
-fn fields(picture: &Picture<'_>, placed: &Placed) -> Vec<(usize, u32, Field)> {
+/// The fields, those past the end left out.
+pub fn fields(picture: &Picture<'_>, placed: &Placed) -> Vec<PlacedField> {
     let recording = picture.recording;
     let relocs = recording.relocs.iter();
     let relocs = relocs.map(|reloc| Field::left(reloc, &recording.names));

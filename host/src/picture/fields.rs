@@ -16,6 +16,9 @@ pub struct Field {
     pub symbol: Option<String>,
 }
 
+/// A field with its place: how many events stand before it, and how many bytes behind them it starts.
+pub type PlacedField = (usize, u32, Field);
+
 /// What fills a field, and how.
 #[derive(Clone, Copy, PartialEq, Eq)]
 pub enum Kind {
@@ -75,6 +78,13 @@ impl Field {
     }
 }
 
+/// How many of some fields are left for the system linker.
+pub fn left(fields: &[PlacedField]) -> usize {
+    let left = fields.iter();
+    left.filter(|(_, _, field)| matches!(field.kind, Kind::Linker(_)))
+        .count()
+}
+
 /// The fields that finish fills: refs with a jump, uses without.
 pub fn filled(recording: &Recording) -> Vec<Field> {
     let field = |offset, kind, label, addend: i32| Field {
@@ -95,9 +105,9 @@ pub fn filled(recording: &Recording) -> Vec<Field> {
     }
 }
 
-/// The entries `kinds` and `fields`, each field with its place: `[name, size, what it holds]`, and
+/// The entries `kinds` and `fields`: `[name, size, what it holds]`, and
 /// `[events before, bytes behind them, kind, label or -1, addend, symbol]`, without a symbol if it names none.
-pub fn entries(fields: &[(usize, u32, Field)]) -> [(&'static str, String); 2] {
+pub fn entries(fields: &[PlacedField]) -> [(&'static str, String); 2] {
     let mut kinds: Vec<Kind> = Vec::new();
     let mut number = |kind: Kind| {
         let known = kinds.iter().position(|known| *known == kind);

@@ -1,7 +1,7 @@
 //! A page of joined code: the pieces where they come to stand, and the calls that join filled.
 
 use super::data::{event, events_text, label, object, what};
-use super::fields::{self, Field, Kind};
+use super::fields::{self, Field, Kind, PlacedField};
 use super::markup::{array, escaped, string};
 use super::table::MOST_ROWS;
 use super::{Page, Placed, notes};
@@ -68,15 +68,21 @@ impl<'a> JoinedPicture<'a> {
     /// The page, as the text of an HTML file.
     #[must_use]
     pub fn page(&self) -> String {
+        let mut placed = PlacedPieces::default();
+        for index in 0..self.pieces.len() {
+            placed.add(self, index);
+        }
+        let fields = placed.fields(self);
+        let not_drawn = self.whole.remaining().len() - fields::left(&fields);
         let page = Page {
             title: self.title,
             subject: "joined code",
             record: &self.whole.record(),
             notes: notes::not_in_code(self.pieces.iter().map(|piece| piece.finished.code()))
-                .chain(notes::not_drawn(self.whole.code()))
+                .chain(notes::not_drawn(not_drawn))
                 .collect(),
-            beside: self.listing(),
-            data: self.data(),
+            below: self.listing(),
+            data: self.data(&placed, &fields),
         };
         page.html()
     }
@@ -101,11 +107,7 @@ impl<'a> JoinedPicture<'a> {
     }
 
     /// An object for the scripts.
-    fn data(&self) -> String {
-        let mut placed = PlacedPieces::default();
-        for index in 0..self.pieces.len() {
-            placed.add(self, index);
-        }
+    fn data(&self, placed: &PlacedPieces, fields: &[PlacedField]) -> String {
         let len = self.whole.code().total_size();
         let sentence = format!(
             "as joined: {}, {}, {}",
@@ -113,7 +115,7 @@ impl<'a> JoinedPicture<'a> {
             counted(self.pieces.len(), "piece"),
             events_text(self.pieces.iter().map(|piece| piece.finished.recording()))
         );
-        let [kinds, fields] = fields::entries(&placed.fields(self));
+        let [kinds, fields] = fields::entries(fields);
         object([
             ("hex", self.style.is_hex().to_string()),
             ("recorded", string(&sentence)),
@@ -212,32 +214,35 @@ impl PlacedPieces {
         before.checked_sub(1).map_or(0, |last| self.ends[last])
     }
 
-    /// Every field with its place: those that finish filled, that join filled, and that remain.
-    fn fields(self: &PlacedPieces, picture: &JoinedPicture<'_>) -> Vec<(usize, u32, Field)> {
-        let code = picture.whole.code();
-        let finished = self.filled.iter().cloned();
-        let joined = picture.whole.filled().iter().map(|filled| {
+    /// Every field: those that finish filled, that join filled, and that remain. Those past their piece's end are left out.
+    fn fields(&self, picture: &JoinedPicture<'_>) -> Vec<PlacedField> {
+        let JoinedPicture { pieces, whole, .. } = picture;
+        let names = whole.code().names();
+        let joined = whole.filled().iter().map(|filled| {
             let origin = filled.origin;
-            let reloc = &picture.pieces[origin.piece].finished.code().relocs()[origin.relocation];
+            let reloc = &pieces[origin.piece].finished.code().relocs()[origin.relocation];
             Field {
                 offset: filled.offset,
                 kind: Kind::Join(reloc.kind),
                 label: Some(filled.label),
                 addend: reloc.addend,
-                symbol: Some(code.names().text(filled.symbol)),
+                symbol: Some(names.text(filled.symbol)),
             }
         });
-        let left = code.relocs().iter();
-        let left = left.map(|reloc| Field::left(reloc, code.names()));
-        let len = code.total_size() as u32;
-        let fields = finished.chain(joined).chain(left);
-        fields
-            .filter(|field| field.is_within(len))
-            .map(|field| {
-                let before = self.ends.partition_point(|end| *end <= field.offset);
-                (before, field.offset - self.end_of(before), field)
-            })
-            .collect()
+        let remaining = whole.remaining().iter().zip(whole.code().relocs());
+        let left = remaining.filter_map(|(origin, reloc)| {
+            let len = pieces[origin.piece].finished.code().total_size() as u32;
+            let field = Field::left(reloc, names);
+            field
+                .is_within(whole.bases()[origin.piece] + len)
+                .then_some(field)
+        });
+        let fields = self.filled.iter().cloned().chain(joined).chain(left);
+        let place = |field: Field| {
+            let before = self.ends.partition_point(|end| *end <= field.offset);
+            (before, field.offset - self.end_of(before), field)
+        };
+        fields.map(place).collect()
     }
 }
 

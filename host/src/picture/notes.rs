@@ -17,12 +17,9 @@ pub fn not_in_code<'a>(
     note.into_iter()
 }
 
-/// How many relocations have no place in the drawing.
-pub fn not_drawn(code: &CodeBufferFinalized) -> impl Iterator<Item = String> {
-    let len = code.total_size() as u64;
-    let relocs = code.relocs().iter();
-    let ends = relocs.map(|reloc| u64::from(reloc.offset) + u64::from(reloc.kind.field_size()));
-    let note = match ends.filter(|end| *end > len).count() {
+/// How many relocations pass the end of the code, so that a drawing has no place for them.
+pub fn not_drawn(relocations: usize) -> impl Iterator<Item = String> {
+    let note = match relocations {
         0 => None,
         1 => Some("1 relocation passes the end of the code, and is not drawn.".into()),
         many => Some(format!(

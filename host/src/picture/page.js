@@ -161,7 +161,7 @@ function suggest() {
 }
 
 // Chooses the label whose name or number is looked for.
-function find() {
+function findLabel() {
     const wanted = finder.value.trim(), label = byName.get(wanted) ?? byName.get(`label ${wanted}`);
     if (label !== undefined) {
         hovered = null;
@@ -292,7 +292,7 @@ function start() {
         suggest();
     });
     finder.addEventListener("focus", suggest);
-    finder.addEventListener("change", find);
+    finder.addEventListener("change", findLabel);
     document.addEventListener("keydown", press);
     document.addEventListener("click", event => {
         const pick = pickOf(event.target);

@@ -49,6 +49,17 @@ fn one_sheet_may_be_joined_and_many_lines_are_cut() {
 }
 
 #[test]
+fn a_relocation_past_the_end_of_its_piece_is_not_drawn() {
+    let past = (
+        "picture-past.txt",
+        "symbols far; bytes 90; relocation 30 Abs8 far; relocation 32 Abs4 far",
+    );
+    let page = joined_page(&[past, ("", "zeros 8")]);
+    assert!(page.contains("\"fields\":[]"), "{page}");
+    assert!(page.contains("2 relocations pass the end of the code, and are not drawn."));
+}
+
+#[test]
 fn nothing_is_written_where_the_join_is_refused() {
     let output = run(
         &["--join", "--picture", "-"],
