@@ -9,10 +9,13 @@ ghost use lib.ListN.{length};
 ghost use Rattle.seqs.specs.Over.{over};
 ghost use Rattle.words.specs.Words.{bytesOfAll, overWords};
 ghost use Rattle.join.specs.Pieces as joining;
-ghost use Rattle.wargnifla.specs.Boundary.{countsAt, countsOf, recordOf, recordAt, start, putBytes, align, addConstant, addReloc, lentOf, runSheet, finish, writeRelas, readRelas, join, countsSize, recordSize};
+ghost use Rattle.wargnifla.specs.Boundary.{version, countsAt, countsOf, recordOf, recordAt, start, putBytes, align, addConstant, addReloc, lentOf, runSheet, finish, writeRelas, readRelas, join, countsSize, recordSize};
 use buffer::CodeBuffer;
 use finish::CodeBufferFinalized;
 use relax::Segment;
+
+// 0.8.0: the major number times 1,000,000, the minor number times 1,000, and the patch number.
+const VERSION: u32 = 8000;
 
 // The bytes of counts, and of a record.
 const COUNTS_SIZE: usize = 52;
@@ -102,6 +105,14 @@ const NO_RECORD: CodeBufferFinalized = CodeBufferFinalized {
     labels: 0,
     relocs: 0,
 };
+
+// The library's version.
+#[no_mangle]
+pub extern "C" fn wargnifla_version() -> u32
+    ensures { λ r. ⌜ r ≡ version ⌝ }
+{
+    VERSION
+}
 
 // Starts a recording.
 #[no_mangle]
