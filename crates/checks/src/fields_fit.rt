@@ -22,6 +22,7 @@ fn is_moving(event: LayoutEvent) -> bool
     match event {
         LayoutEvent::Jump(_) => true,
         LayoutEvent::Align(_) => false,
+        LayoutEvent::Far(_) => true,
     }
 }
 

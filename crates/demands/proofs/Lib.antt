@@ -4,6 +4,7 @@ pub mod Placing
 pub mod Jumping
 pub mod Fielding
 pub mod Missing
+pub mod Branching
 pub mod Relaxing
 pub mod Bytes
 pub mod Staying

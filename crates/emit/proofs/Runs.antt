@@ -85,6 +85,13 @@ after-old es o n len c zero h = ordered-le o len es h
 after-old [] o n len c (suc i) h = h
 after-old (e ∷ es) o n len c (suc i) h = after-old es (endOf e) ((segment o n e (isLong c)) .«new_end») len (others c) i (h .1)
 
+-- and so does every event
+end-le : (es : List LayoutEvent) (o len i : ℕ) → Ordered o len es → i < length es → endOf (getD es i noEvent) ≤ len
+unfolding Ordered
+end-le [] o len i h l = absurd (omega arith)
+end-le (e ∷ es) o len zero h l = ordered-le (endOf e) len es (h .1)
+end-le (e ∷ es) o len (suc i) h l = end-le es (endOf e) len i (h .1) (omega arith)
+
 module _ {output code events : List ℕ} {long : List Bool} {ss : List Segment} {n len arch : ℕ} (emits : Emits output code events long ss n len arch) where
   abbrev es : List LayoutEvent
   es = entries (eventAt events) n
@@ -100,6 +107,9 @@ module _ {output code events : List ℕ} {long : List Bool} {ss : List Segment} 
 
   in-order : Ordered 0 (length (take len code)) es
   in-order = rw code-size (emits .ordered)
+
+  pub event-within : (i : ℕ) → i < n → endOf (eventAt events i) ≤ len
+  event-within i h = rw (getD-entries (eventAt events) n i noEvent h) at (end-le es 0 len i (emits .ordered) (omega (arith, size)))
 
   -- where the layout stands after i events
   reached : (i old new : ℕ) → after i 0 0 es long ≡ record { old = old; new = new } → i ≤ n → new ≤ length (runs arch 0 0 (take len code) es long)

@@ -10,20 +10,21 @@ ghost use Rattle.fields.specs.declared.Decoded.the-variants.{Use};
 ghost use Rattle.fields.specs.Kinds.{decoded, patchSize};
 ghost use Rattle.fields.specs.Words64.{plus, minus, signExtend};
 ghost use Rattle.fields.specs.Patch.{patched, patchedUse};
-ghost use Rattle.relax.specs.Events.{eventAt, eventSize};
+ghost use Rattle.relax.specs.Events.{eventAt, eventSize, startOf, extentOf, endOf};
 ghost use Rattle.buffer.specs.Tables.{labelSize, refWords, refSize};
 ghost use Rattle.recording.specs.View.{entries};
-ghost use Rattle.fresh.specs.Forms.{shortForm, longForm, form, width, fieldOf, branchOf};
+ghost use Rattle.fresh.specs.Forms.{shortForm, longForm, form, width, fieldOf, branchOf, farBranchOf};
 ghost use Rattle.fresh.specs.Fill.{part, fillField, fillJump};
 ghost use Rattle.fresh.specs.Segments.{mapOffset};
 ghost use Rattle.fresh.specs.steps.Runs.{formAt, runs};
 ghost use Rattle.pool.specs.steps.Pool.{offsetBound};
 ghost use Rattle.lookup.specs.steps.Index.{Indexed};
 ghost use Rattle.layout.specs.steps.Layout.{startAt, Rising};
-ghost use Rattle.emit.specs.steps.Emit.{jumpForm, Encodes, Writes, Emits, useFilled, usesFilled, UseFits, UsesFit, refFilled, refsFilled, RefFits, RefsFit, fieldReaches, refsReach, RefsKnown, jumpsFilled, JumpFits, JumpsFit, mappedWords, WordsFit};
+ghost use Rattle.emit.specs.steps.Emit.{jumpForm, branchForm, Encodes, Writes, Keeps, Emits, useFilled, usesFilled, UseFits, UsesFit, refFilled, refsFilled, RefFits, RefsFit, fieldReaches, refsReach, RefsKnown, jumpsFilled, JumpFits, JumpsFit, mappedWords, WordsFit};
 use fields::Decoded;
 use fields::LabelUse;
 use relax::Condition;
+use relax::FarBranch;
 use relax::LayoutEvent;
 use relax::RelaxableJump;
 use relax::Segment;
@@ -74,10 +75,23 @@ pub fn put_jump(part: &mut [u8], cc: Condition, long: bool)
     put_short(part, cc);
 }
 
-// Fills `part` with what an event takes, whatever its recorded bytes.
-fn put_event(part: &mut [u8], event: LayoutEvent, long: bool, at: u32, arch: u32)
+// Fills `part` with a branch whose displacement is as recorded: `word`, or its inverse over a B.
+fn put_branch(part: &mut [u8], code: u32, word: u32, long: bool)
+    requires { ⌜ length (now part) ≡ length (branchForm code word long) ⌝ }
+    ensures { λ _. ⌜ now (part .exit) ≡ branchForm code word long ⌝ }
+{
+    if long {
+        words::put_word(part, 0, fields::skipping(code, word));
+        words::put_word(part, 1, fields::OPEN_B);
+        return;
+    }
+    words::put_word(part, 0, word);
+}
+
+// Fills `part` with what an event takes, whatever its recorded bytes; of a branch these are `word`.
+fn put_event(part: &mut [u8], event: LayoutEvent, word: u32, long: bool, at: u32, arch: u32)
     requires { ⌜ Writes event ⌝ ∗ ⌜ length (now part) ≡ width event long at ⌝ }
-    ensures { λ _. ⌜ ((bytes : List ℕ) → now (part .exit) ≡ form arch event bytes long at) ⌝ }
+    ensures { λ _. ⌜ ((bytes : List ℕ) → Keeps event word bytes → now (part .exit) ≡ form arch event bytes long at) ⌝ }
 {
     match event {
         LayoutEvent::Jump(jump) => {
@@ -86,6 +100,9 @@ fn put_event(part: &mut [u8], event: LayoutEvent, long: bool, at: u32, arch: u32
         }
         LayoutEvent::Align(_) => {
             buffer::bytes::pad(arch, part);
+        }
+        LayoutEvent::Far(branch) => {
+            put_branch(part, branch.code, word, long);
         }
     }
 }
@@ -99,16 +116,40 @@ pub fn copy_run(output: &mut [u8], code: &[u8], old: usize, start: usize, new: u
     seqs::copy(&code[old..start], &mut output[new..end]);
 }
 
+// The word that a branch was recorded with; 0 of any other event.
+fn recorded_word(code: &[u8], event: LayoutEvent) -> u32
+    requires { ⌜ Writes event × (endOf event ≤ length (now code)) ⌝ }
+    ensures { λ r. ⌜ Keeps event r (part (now (code .entry)) (startOf event) (extentOf event)) ⌝ }
+{
+    match event {
+        LayoutEvent::Jump(_) => 0,
+        LayoutEvent::Align(_) => 0,
+        LayoutEvent::Far(branch) => {
+            let start = branch.start as usize;
+            let end = start + 4;
+            words::word_at(&code[start..end], 0)
+        }
+    }
+}
+
 // Writes an event where its segment says.
-fn emit_event(output: &mut [u8], event: LayoutEvent, long: bool, segment: Segment, arch: u32)
+fn emit_event(
+    output: &mut [u8],
+    event: LayoutEvent,
+    word: u32,
+    long: bool,
+    segment: Segment,
+    arch: u32,
+)
     requires { ⌜ Writes event ⌝ ∗ ⌜ (segment .«new_end» ≡ segment .«new_start» + width event long (segment .«new_start»)) × (segment .«new_end» ≤ length (now output)) ⌝ }
-    ensures { λ _. ⌜ ((bytes : List ℕ) → now (output .exit) ≡ over (now (output .entry)) (segment .«new_start») (form arch event bytes long (segment .«new_start»))) ⌝ }
+    ensures { λ _. ⌜ ((bytes : List ℕ) → Keeps event word bytes → now (output .exit) ≡ over (now (output .entry)) (segment .«new_start») (form arch event bytes long (segment .«new_start»))) ⌝ }
 {
     let start = segment.new_start;
     let end = segment.new_end;
     put_event(
         &mut output[start as usize..end as usize],
         event,
+        word,
         long,
         start,
         arch,
@@ -127,12 +168,13 @@ fn emit_segment(
     new: usize,
     arch: u32,
 )
-    requires { ⌜ (i * eventSize + eventSize ≤ length (now events)) × Writes (eventAt (now events) i) ⌝ ∗ ⌜ (old ≤ segment .«old_start») × (segment .«old_start» ≤ length (now code)) × (new + (segment .«old_start» - old) ≤ length (now output)) ⌝ ∗ ⌜ (segment .«new_end» ≡ segment .«new_start» + width (eventAt (now events) i) long (segment .«new_start»)) × (segment .«new_end» ≤ length (now output)) ⌝ }
+    requires { ⌜ (i * eventSize + eventSize ≤ length (now events)) × Writes (eventAt (now events) i) × (endOf (eventAt (now events) i) ≤ length (now code)) ⌝ ∗ ⌜ (old ≤ segment .«old_start») × (segment .«old_start» ≤ length (now code)) × (new + (segment .«old_start» - old) ≤ length (now output)) ⌝ ∗ ⌜ (segment .«new_end» ≡ segment .«new_start» + width (eventAt (now events) i) long (segment .«new_start»)) × (segment .«new_end» ≤ length (now output)) ⌝ }
     ensures { λ _. ⌜ now (output .exit) ≡ over (over (now (output .entry)) new (take (segment .«old_start» - old) (drop old (now (code .entry))))) (segment .«new_start») (formAt arch (now (code .entry)) (eventAt (now (events .entry)) i) long (segment .«new_start»)) ⌝ }
 {
     let event = relax::event_at(events, i);
     copy_run(output, code, old, segment.old_start as usize, new);
-    emit_event(output, event, long, segment, arch);
+    let word = recorded_word(code, event);
+    emit_event(output, event, word, long, segment, arch);
 }
 
 // Writes the first `len` bytes of the code, events as their segments say, displacements 0.
@@ -327,7 +369,25 @@ fn patch_displacement(output: &mut [u8], jump: RelaxableJump, long: bool, start:
     patch_field(output, LabelUse::X86BranchRel8, at, label, 0);
 }
 
-// Writes the displacement of event `i`, long or not, where its segment says, if it is a jump.
+// A branch's displacement is in its word, or in the B after its inverse. `start` is the branch's.
+fn patch_branch(output: &mut [u8], branch: FarBranch, long: bool, start: u32, label: u32)
+    requires { ⌜ start + fieldOf (farBranchOf branch) long .place + patchSize (fieldOf (farBranchOf branch) long .kind) ≤ length (now output) ⌝ ∗ ⌜ start ≤ offsetBound ⌝ }
+    ensures { λ _. ⌜ now (output .exit) ≡ fillField (Use (fieldOf (farBranchOf branch) long .kind)) (start + fieldOf (farBranchOf branch) long .place) label 0 (now (output .entry)) ⌝ }
+{
+    if long {
+        patch_field(
+            output,
+            LabelUse::A64Branch26,
+            start + relax::BRANCH_LEN,
+            label,
+            0,
+        );
+        return;
+    }
+    patch_field(output, fields::field_kind(branch.code), start + 0, label, 0);
+}
+
+// Writes the displacement of event `i`, long or not, where its segment says, if it is a jump or a branch.
 fn patch_jump(
     output: &mut [u8],
     events: &[u8],
@@ -346,6 +406,10 @@ fn patch_jump(
             patch_displacement(output, jump, long, segment.new_start, label);
         }
         LayoutEvent::Align(_) => {}
+        LayoutEvent::Far(branch) => {
+            let label = words::word_at(labels, branch.label as usize);
+            patch_branch(output, branch, long, segment.new_start, label);
+        }
     }
 }
 

@@ -5,3 +5,5 @@ pub mod Meaning
 pub mod Outside
 pub mod Encoding
 pub mod Fields
+pub mod Inverting
+pub mod Branching

@@ -6,3 +6,5 @@ pub mod Patch
 pub mod Intel
 pub mod Arm
 pub mod Meaning
+pub mod Branches
+pub mod Branching

@@ -19,7 +19,7 @@ use Rattle.words.specs.Words.{wordAt}
 use Rattle.fields.specs.declared.Decoded.the-variants.{Use}
 use Rattle.fields.specs.Kinds.{decoded, sizeOf}
 use Rattle.relax.specs.declared.LayoutEvent.{LayoutEvent}
-use Rattle.relax.specs.declared.LayoutEvent.the-variants.{Jump, Align}
+use Rattle.relax.specs.declared.LayoutEvent.the-variants.{Jump, Align, Far}
 use Rattle.relax.specs.Events.{eventAt, endOf, startOf}
 use Rattle.relax.proofs.Columns.{start-at, end-at}
 use Rattle.buffer.specs.State.{none, labelTarget, keepsEvents}
@@ -84,6 +84,7 @@ jump-bound : (labels : List ℕ) (e : LayoutEvent) → jumpBound labels e ≡ no
 unfolding roleOf
 jump-bound labels (Jump j) = refl
 jump-bound labels (Align a) = refl
+jump-bound labels (Far f) = refl
 
 reloc-bound : (labels : List ℕ) (l : tables.Relocation) → relocBound labels l ≡ not (targetNames (isOpen labels) l)
 unfolding relocBound

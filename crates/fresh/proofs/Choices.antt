@@ -1,22 +1,29 @@
 -- A choice, and what a round lengthens, entry by entry.
 use mathlib.Core.Path.{_≡_, refl, sym, _∙_, ap}
+use mathlib.Core.Logic.{⊎-elim}
 use mathlib.Core.Bool.{Bool, true, false, not, _&&_, _||_}
 use mathlib.Core.List.{List, [], _∷_}
-use Prim.Native.Nat.{ℕ, zero, suc, _+_, _≤_, _<_}
+use Prim.Native.Nat.{ℕ, zero, suc, _+_, _-_, _≤_, _<_}
 use native.Mathlib.Omega.{arith}
 use lib.ListN.{length, getD, take}
 use lib.Dec.{leb}
-use borrow.Author.Tests.{leb-true, le-leb}
+use borrow.Author.Tests.{leb-true, le-leb, lt-leb}
 use Rattle.seqs.proofs.Booleans.{both-true}
+use Rattle.seqs.proofs.Numbers.{lt-or-ge}
+use Rattle.fields.specs.declared.LabelUse.{LabelUse}
+use Rattle.fields.specs.Kinds.{info}
+use Rattle.relax.specs.declared.FarBranch.{FarBranch}
 use Rattle.relax.specs.declared.LayoutEvent.{LayoutEvent}
-use Rattle.relax.specs.declared.LayoutEvent.the-variants.{Jump, Align}
+use Rattle.relax.specs.declared.LayoutEvent.the-variants.{Jump, Align, Far}
 use Rattle.relax.specs.declared.RelaxableJump.{RelaxableJump}
-use Rattle.relax.specs.Events.{shortLen}
-use Rattle.fresh.specs.Forms.{width, Branch, pads, branches, roleOf, branchOf}
+use Rattle.relax.specs.Events.{shortLen, branchLen}
+use Rattle.fresh.specs.Forms.{width, Branch, pads, branches, roleOf, branchOf, farBranchOf}
 use Rattle.fresh.specs.Fresh.{Choice, isLong, others}
 use Rattle.fresh.specs.Rounds.{reaches, isFar, firstStart, otherStarts, farOf, any, join}
 use Rattle.fresh.specs.Demand.{Reach, Includes}
+use Rattle.fresh.specs.steps.Runs.{behindOf, aheadOf}
 use Rattle.fresh.proofs.Tests.{no-confusion, by-role}
+use Rattle.fresh.proofs.Forms.{field-either}
 
 -- the first entry of a list, and those after it
 pub isLong-getD : (c : Choice) → isLong c ≡ getD c 0 false
@@ -119,12 +126,41 @@ pub jump-reaches : (j : RelaxableJump) (start label : ℕ)
 unfolding reaches
 jump-reaches j start label = let end : start + 1 + 1 ≡ start + 2 = omega arith in rw end refl
 
+-- of a far branch: both tests move by the length of its word
+moved-leb : (a b a′ b′ : ℕ) → (a ≤ b → a′ ≤ b′) → (a′ ≤ b′ → a ≤ b) → leb a b ≡ leb a′ b′
+moved-leb a b a′ b′ to from =
+    ⊎-elim
+    (λ lt. lt-leb a b lt ∙ sym (⊎-elim (λ lt′. lt-leb a′ b′ lt′) (λ ge′. absurd (omega (arith, from ge′))) (lt-or-ge b′ a′)))
+    (λ ge. le-leb a b ge ∙ sym (le-leb a′ b′ (to ge)))
+    (lt-or-ge b a)
+
+window-moves : (start label low high : ℕ) → branchLen ≤ high
+    → (leb (start + 0 + 0) (label + low) && leb label (start + 0 + 0 + high)) ≡ (leb (start + 4) (label + (low + 4)) && leb label (start + 4 + (high - 4)))
+window-moves start label low high h =
+    rw (
+      moved-leb (start + 0 + 0) (label + low) (start + 4) (label + (low + 4)) (λ le. omega arith) (λ le. omega arith),
+      moved-leb label (start + 0 + 0 + high) label (start + 4 + (high - 4)) (λ le. omega arith) (λ le. omega arith),
+    )
+
+far-reaches : (f : FarBranch) (start label : ℕ)
+    → reaches (farBranchOf f) start label ≡ (leb (start + branchLen) (label + behindOf (Far f)) && leb label (start + branchLen + aheadOf (Far f)))
+unfolding reaches
+far-reaches f start label =
+    field-either
+    (λ (k : LabelUse).
+    (leb (start + 0 + info k .from) (label + info k .low) && leb label (start + 0 + info k .from + info k .high))
+    ≡ (leb (start + branchLen) (label + (info k .low + branchLen)) && leb label (start + branchLen + (info k .high - branchLen))))
+    (window-moves start label 32768 32764 (omega arith))
+    (window-moves start label 1048576 1048572 (omega arith))
+    (f .code)
+
 -- of a branch, from the end of its short form
 pub short-reaches : (e : LayoutEvent) (b : Branch) → roleOf e ≡ branches b → (start label : ℕ)
-    → reaches b start label ≡ (leb (start + width e false start) (label + 128) && leb label (start + width e false start + 127))
+    → reaches b start label ≡ (leb (start + width e false start) (label + behindOf e) && leb label (start + width e false start + aheadOf e))
 unfolding roleOf width
 short-reaches (Jump j) b r start label = let is : branchOf j ≡ b = cc in rw (← is) (jump-reaches j start label)
 short-reaches (Align a) b r start label = let z : _≡_ {A = ℕ} 0 1 = cc in absurd (omega arith)
+short-reaches (Far f) b r start label = let is : farBranchOf f ≡ b = cc in rw (← is) (far-reaches f start label)
 
 -- what pads is never far, and a branch is not where it reaches, or is long
 pub pads-near : (at : ℕ → ℕ) (e : LayoutEvent) (long : Bool) (start : ℕ) → roleOf e ≡ pads → isFar at e long start ≡ false

@@ -11,11 +11,11 @@ use lib.ListN.{length, getD, length-append, List·getD-eq-default}
 use Rattle.seqs.proofs.Numbers.{lt-or-ge}
 use Rattle.encoder.proofs.Padding.{within-rises}
 use Rattle.relax.specs.declared.LayoutEvent.{LayoutEvent}
-use Rattle.relax.specs.declared.LayoutEvent.the-variants.{Jump, Align}
+use Rattle.relax.specs.declared.LayoutEvent.the-variants.{Jump, Align, Far}
 use Rattle.relax.specs.Events.{extentOf}
 use Rattle.buffer.specs.State.{none}
 use Rattle.fresh.specs.Pooled.{Pooled}
-use Rattle.fresh.specs.Forms.{form, width, branchOf, roleOf}
+use Rattle.fresh.specs.Forms.{form, width, branchOf, farBranchOf, roleOf}
 use Rattle.fresh.specs.Fresh.{Choice, isLong, others, Item, plain, event, writes, starts, stands, walk, placed, moved, target}
 use Rattle.fresh.specs.Rounds.{far, longer}
 use Rattle.fresh.specs.Demand.{Includes}
@@ -28,6 +28,7 @@ event-rises : (e : LayoutEvent) (long longer : Bool) → (long ≡ true → long
 unfolding width roleOf
 event-rises (Jump j) long longer h n m le = omega (arith, branch-wider (Jump j) (branchOf j) refl long longer n m h)
 event-rises (Align a) long longer h n m le = within-rises n m (a .align) (a .most) le
+event-rises (Far f) long longer h n m le = omega (arith, branch-wider (Far f) (farBranchOf f) refl long longer n m h)
 
 stands-rise : (is : List Item) (c d : Choice) → Includes c d → (t o n m : ℕ) → n ≤ m → stands t o n is c ≤ stands t o m is d
 unfolding stands

@@ -49,25 +49,25 @@ module _ (f c : Choice) (i : ℕ) (long : Choice) (grew : Bool) (q : Scanned f c
   }
 
 -- By the rows of the table.
-module _ (ss : List Segment) (n : ℕ) (c : Choice) where
-  count : length (missed ss c n) ≡ n
-  count = length-entries (λ (i : ℕ). isMissedAt ss (getD c i false) i) n
+module _ (ss : List Segment) (events : List ℕ) (n : ℕ) (c : Choice) where
+  count : length (missed ss events c n) ≡ n
+  count = length-entries (λ (i : ℕ). isMissedAt ss events (getD c i false) i) n
 
-  module _ (i : ℕ) (long : Choice) (grew : Bool) (q : Scanned (missed ss c n) c i long grew) (h : i < n) (r : Bool)
-      (e : r ≡ isMissedAt ss (getD long i false) i) where
-    said : getD (missed ss c n) i false ≡ r
+  module _ (i : ℕ) (long : Choice) (grew : Bool) (q : Scanned (missed ss events c n) c i long grew) (h : i < n) (r : Bool)
+      (e : r ≡ isMissedAt ss events (getD long i false) i) where
+    said : getD (missed ss events c n) i false ≡ r
     said =
-        getD-entries (λ (j : ℕ). isMissedAt ss (getD c j false) j) n i false h
+        getD-entries (λ (j : ℕ). isMissedAt ss events (getD c j false) j) n i false h
         ∙ (rw (← scanned-at _ c i long grew q (omega (arith, count))) (sym e))
 
-    pub scan-mark : (long′ : Choice) (grew′ : Bool) → r ≡ true → long′ ≡ set long i true → grew′ ≡ true → Scanned (missed ss c n) c (i + 1) long′ grew′
+    pub scan-mark : (long′ : Choice) (grew′ : Bool) → r ≡ true → long′ ≡ set long i true → grew′ ≡ true → Scanned (missed ss events c n) c (i + 1) long′ grew′
     scan-mark long′ grew′ t a b = rw (a, b) (scanned-mark _ c i long grew q (omega (arith, count)) (said ∙ t))
 
-    pub scan-keep : (long′ : Choice) (grew′ : Bool) → r ≡ false → long′ ≡ long → grew′ ≡ grew → Scanned (missed ss c n) c (i + 1) long′ grew′
+    pub scan-keep : (long′ : Choice) (grew′ : Bool) → r ≡ false → long′ ≡ long → grew′ ≡ grew → Scanned (missed ss events c n) c (i + 1) long′ grew′
     scan-keep long′ grew′ t a b = rw (a, b) (scanned-keep _ c i long grew q (omega (arith, count)) (said ∙ t))
 
-  pub scan-all : (long : Choice) (grew : Bool) → Scanned (missed ss c n) c n long grew
-      → (long ≡ over c 0 (join c (missed ss c n))) × (grew ≡ any (missed ss c n))
+  pub scan-all : (long : Choice) (grew : Bool) → Scanned (missed ss events c n) c n long grew
+      → (long ≡ over c 0 (join c (missed ss events c n))) × (grew ≡ any (missed ss events c n))
   scan-all long grew q =
-      let f = missed ss c n in
+      let f = missed ss events c n in
       (q .mixed ∙ ap (λ (l : Choice). over c 0 l) (take-all n (join c f) (omega (arith, length-join c f, count))), q .seen ∙ ap any (take-all n f (omega (arith, count))))

@@ -227,10 +227,10 @@ module _ (events : List ℕ) (n code : ℕ) (constants asked : List ℕ) (m : �
         (poolStart code constants asked m) (all-ordered events n code constants asked rec m) (all-modest events n code constants asked rec m)
         (omega (arith, rec .small, poolStart-bound code constants asked m fits m (omega arith))) (omega (arith, size, placed .rest .sized))
 
-    module _ {c′ : Choice} {grew : Bool} (next : c′ ≡ over c 0 (join c (missed ss′ c n))) (says : grew ≡ any (missed ss′ c n)) where
+    module _ {c′ : Choice} {grew : Bool} (next : c′ ≡ over c 0 (join c (missed ss′ events c n))) (says : grew ≡ any (missed ss′ events c n)) where
       round : (c′ ≡ join c (farBy (allEvents events n code constants asked m) at c)) × (grew ≡ any (farBy (allEvents events n code constants asked m) at c))
       round =
-          round-is events n code constants asked m at c c′ (missed ss′ c n) grew (q .sized ∙ size)
+          round-is events n code constants asked m at c c′ (missed ss′ events c n) grew (q .sized ∙ size)
           (missed-list (placed .placed) (omega (arith, size)) (all-first events n code constants asked m) (omega (arith, size)) (aiming-stays aiming placed))
           next says
 

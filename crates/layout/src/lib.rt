@@ -3,13 +3,13 @@
 ghost use mathlib.Core.Path.{_≡_};
 ghost use mathlib.Core.Logic.{_≢_};
 ghost use mathlib.Core.List.{List, []};
-ghost use Prim.Native.Nat.{ℕ, _+_, _≤_, _<_};
+ghost use Prim.Native.Nat.{ℕ, _+_, _*_, _≤_, _<_};
 ghost use lib.ListN.{length, getD, take, set};
 ghost use Rattle.seqs.specs.Over.{over};
 ghost use Rattle.words.specs.Words.{wordAt};
 ghost use Rattle.lookup.specs.steps.Index.{indexSize, mostKeys, Indexed};
 ghost use Rattle.relax.specs.declared.LayoutEvent.{LayoutEvent};
-ghost use Rattle.relax.specs.Events.{shortLen, eventAt};
+ghost use Rattle.relax.specs.Events.{eventAt, eventSize};
 ghost use Rattle.buffer.specs.State.{none};
 ghost use Rattle.buffer.specs.Tables.{mostEntries, mostCode};
 ghost use Rattle.recording.specs.View.{entries};
@@ -17,6 +17,7 @@ ghost use Rattle.fresh.specs.Forms.{width};
 ghost use Rattle.fresh.specs.Rounds.{any, join};
 ghost use Rattle.fresh.specs.Segments.{segment, image, mapOffset};
 ghost use Rattle.fresh.specs.Segments as fresh;
+ghost use Rattle.fresh.specs.steps.Runs.{behindOf, aheadOf};
 ghost use Rattle.pool.specs.steps.Pool.{poolStart, poolEvent, PoolFits, offsetBound};
 ghost use Rattle.layout.specs.steps.Targets.{inReach, endIn, Stands, Shown, Finds, Aims, Aiming, SamePast, Placed, withTarget, withEnd, Ended, endBefore, Adds, isMissedAt, missed};
 ghost use Rattle.layout.specs.steps.Layout.{zeroSegment, startAt, Rising, Sorted, Between, Follows, Recorded, allEvents, endFrom, finishedLength, Laid, Known, Labelled, Relaxed};
@@ -132,6 +133,13 @@ pub fn width_of(event: LayoutEvent, long: bool, at: u32) -> u32
         LayoutEvent::Align(alignment) => {
             encoder::padding_within(at, alignment.align, alignment.most)
         }
+        LayoutEvent::Far(_) => {
+            if long {
+                relax::FAR_LEN
+            } else {
+                relax::BRANCH_LEN
+            }
+        }
     }
 }
 
@@ -230,13 +238,46 @@ pub fn layout(
     layout_pool(segments, constants, asked, n, m, code, new)
 }
 
-// Whether a label's offset minus the end of a short jump lies in -128..127.
-pub fn in_reach(start: u32, label: u32) -> bool
-    ensures { λ r. ⌜ r ≡ inReach (start + shortLen) label ⌝ }
+// How far behind the end of its short form an event reaches.
+fn behind_of(event: LayoutEvent) -> u32
+    ensures { λ r. ⌜ r ≡ behindOf event ⌝ }
 {
-    let end = start as u64 + relax::SHORT_LEN as u64;
-    if end <= label as u64 + 128 {
-        label as u64 <= end + 127
+    match event {
+        LayoutEvent::Jump(_) => 128,
+        LayoutEvent::Align(_) => 0,
+        LayoutEvent::Far(branch) => {
+            if branch.code == fields::BRANCH_14 {
+                32772
+            } else {
+                1048580
+            }
+        }
+    }
+}
+
+// How far ahead of it.
+fn ahead_of(event: LayoutEvent) -> u32
+    ensures { λ r. ⌜ r ≡ aheadOf event ⌝ }
+{
+    match event {
+        LayoutEvent::Jump(_) => 127,
+        LayoutEvent::Align(_) => 0,
+        LayoutEvent::Far(branch) => {
+            if branch.code == fields::BRANCH_14 {
+                32760
+            } else {
+                1048568
+            }
+        }
+    }
+}
+
+// Whether a label lies so near to the end of an event's short form.
+fn in_reach(event: LayoutEvent, end: u32, label: u32) -> bool
+    ensures { λ r. ⌜ r ≡ inReach event end label ⌝ }
+{
+    if end as u64 <= label as u64 + behind_of(event) as u64 {
+        label as u64 <= end as u64 + ahead_of(event) as u64
     } else {
         false
     }
@@ -328,6 +369,10 @@ fn target_of(
             passed: buffer::NONE,
             beyond: 0,
         },
+        LayoutEvent::Far(branch) => {
+            let offset = words::word_at(labels, branch.label as usize);
+            locate(segments, events, n, all, index, shift, offset)
+        }
     }
 }
 
@@ -441,10 +486,10 @@ fn end_before(segments: &[Segment], k: usize) -> u32
     row.new_end
 }
 
-// Whether event `i`, long or not, is a short jump that does not reach its label.
-fn is_missed(segments: &[Segment], long: bool, i: usize) -> bool
-    requires { ⌜ i < length (now segments) ⌝ ∗ ⌜ Adds (now segments) (getD (now segments) i zeroSegment) ⌝ }
-    ensures { λ r. ⌜ r ≡ isMissedAt (now (segments .entry)) long i ⌝ }
+// Whether event `i`, long or not, is a short jump or branch that does not reach its label.
+fn is_missed(segments: &[Segment], events: &[u8], long: bool, i: usize) -> bool
+    requires { ⌜ (i < length (now segments)) × (i * eventSize + eventSize ≤ length (now events)) ⌝ ∗ ⌜ Adds (now segments) (getD (now segments) i zeroSegment) ⌝ }
+    ensures { λ r. ⌜ r ≡ isMissedAt (now (segments .entry)) (now (events .entry)) long i ⌝ }
 {
     if long {
         return false;
@@ -454,21 +499,21 @@ fn is_missed(segments: &[Segment], long: bool, i: usize) -> bool
         return false;
     }
     let target = row.old_end + end_before(segments, row.new_start as usize);
-    let near = in_reach(row.new_end - relax::SHORT_LEN, target);
+    let near = in_reach(relax::event_at(events, i), row.new_end, target);
     !near
 }
 
-// A round's scan: every short jump of the first `n` events that does not reach becomes long. Whether there was one.
-fn lengthen(segments: &[Segment], long: &mut [bool], n: usize) -> bool
-    requires { ⌜ (n ≤ length (now segments)) × (n ≤ length (now long)) ⌝ ∗ ⌜ ((i : ℕ) → i < n → Adds (now segments) (getD (now segments) i zeroSegment)) ⌝ }
-    ensures { λ r. ⌜ now (long .exit) ≡ over (now (long .entry)) 0 (join (now (long .entry)) (missed (now (segments .entry)) (now (long .entry)) n)) ⌝ }
-    ensures { λ r. ⌜ r ≡ any (missed (now (segments .entry)) (now (long .entry)) n) ⌝ }
+// A round's scan: every short jump or branch of the first `n` events that does not reach becomes long. Whether there was one.
+fn lengthen(segments: &[Segment], events: &[u8], long: &mut [bool], n: usize) -> bool
+    requires { ⌜ (n ≤ length (now segments)) × (n ≤ length (now long)) × (n * eventSize ≤ length (now events)) ⌝ ∗ ⌜ ((i : ℕ) → i < n → Adds (now segments) (getD (now segments) i zeroSegment)) ⌝ }
+    ensures { λ r. ⌜ now (long .exit) ≡ over (now (long .entry)) 0 (join (now (long .entry)) (missed (now (segments .entry)) (now (events .entry)) (now (long .entry)) n)) ⌝ }
+    ensures { λ r. ⌜ r ≡ any (missed (now (segments .entry)) (now (events .entry)) (now (long .entry)) n) ⌝ }
 {
     let mut grew = false;
     let mut i: usize = 0;
     while i < n {
         let is_long = long[i];
-        if is_missed(segments, is_long, i) {
+        if is_missed(segments, events, is_long, i) {
             long[i] = true;
             grew = true;
         }
@@ -503,7 +548,7 @@ pub fn relax_jumps(
     let settled = loop {
         place_ends(segments, events, constants, asked, long, n, m, code);
         layouts += 1;
-        if !lengthen(segments, long, n) {
+        if !lengthen(segments, events, long, n) {
             let len = layout(segments, events, constants, asked, long, n, m, code);
             break Summary { layouts, len };
         }

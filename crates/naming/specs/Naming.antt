@@ -6,7 +6,7 @@ use Prim.Native.Nat.{ℕ, _+_, _*_}
 use lib.Dec.{eqb}
 use Rattle.seqs.specs.Counting.{howMany}
 use Rattle.words.specs.Words.{wordAt}
-use Rattle.relax.specs.Events.{eventWords, jumpKind}
+use Rattle.relax.specs.Events.{eventWords, namesLabel}
 
 -- the offset of a label that is not bound
 abbrev pub unbound : ℕ
@@ -20,9 +20,9 @@ holdsAt table stride at value i = eqb (wordAt table (i * stride + at)) value
 unfoldable pub naming : List ℕ → ℕ → ℕ → ℕ → ℕ → ℕ
 naming table n stride at value = howMany (holdsAt table stride at value) n
 
--- event i is a jump to the label
+-- event i is a jump or a branch to the label
 abbrev pub jumpNames : List ℕ → ℕ → ℕ → Bool
-jumpNames events label i = eqb (wordAt events (i * eventWords)) jumpKind && eqb (wordAt events (i * eventWords + 3)) label
+jumpNames events label i = namesLabel (wordAt events (i * eventWords)) && eqb (wordAt events (i * eventWords + 3)) label
 
 -- how many of the first n events are
 unfoldable pub jumpsNaming : List ℕ → ℕ → ℕ → ℕ

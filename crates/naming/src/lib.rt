@@ -7,7 +7,7 @@ ghost use lib.Dec.{eqb};
 ghost use lib.ListN.{length};
 ghost use Rattle.seqs.specs.Counting.{one};
 ghost use Rattle.words.specs.Words.{wordAt};
-ghost use Rattle.relax.specs.Events.{eventWords, eventSize, jumpKind};
+ghost use Rattle.relax.specs.Events.{eventWords, eventSize, namesLabel};
 ghost use Rattle.naming.specs.Naming.{jumpNames, naming, jumpsNaming};
 ghost use Rattle.naming.specs.steps.Open.{isOpenAt, opensAt, openEntries, openJumps};
 
@@ -44,11 +44,11 @@ fn jump_names(events: &[u8], label: u32, i: usize) -> u32
     requires { ⌜ i * eventSize + eventSize ≤ length (now events) ⌝ }
     ensures { λ r. ⌜ r ≡ one (jumpNames (now (events .entry)) label i) ⌝ }
 {
-    if words::word_at(events, i * relax::EVENT_WORDS) != relax::JUMP {
-        return 0;
+    if relax::names_label(words::word_at(events, i * relax::EVENT_WORDS)) {
+        let named = words::word_at(events, i * relax::EVENT_WORDS + 3);
+        return same(named, label);
     }
-    let named = words::word_at(events, i * relax::EVENT_WORDS + 3);
-    same(named, label)
+    0
 }
 
 // How many of the first `n` events are jumps to the label.
@@ -116,14 +116,13 @@ pub fn open_entries(
 // 1 where event `i` is a jump to an open label.
 fn jump_opens(events: &[u8], labels: &[u8], known: usize, i: usize) -> u32
     requires { ⌜ (i * eventSize + eventSize ≤ length (now events)) × (known * 4 ≤ length (now labels)) ⌝ }
-    ensures { λ r. ⌜ r ≡ one (eqb (wordAt (now (events .entry)) (i * eventWords)) jumpKind && isOpenAt (now (labels .entry)) known (wordAt (now (events .entry)) (i * eventWords + 3))) ⌝ }
+    ensures { λ r. ⌜ r ≡ one (namesLabel (wordAt (now (events .entry)) (i * eventWords)) && isOpenAt (now (labels .entry)) known (wordAt (now (events .entry)) (i * eventWords + 3))) ⌝ }
 {
-    if words::word_at(events, i * relax::EVENT_WORDS) != relax::JUMP {
-        return 0;
-    }
-    let label = words::word_at(events, i * relax::EVENT_WORDS + 3);
-    if is_open(labels, known, label) {
-        return 1;
+    if relax::names_label(words::word_at(events, i * relax::EVENT_WORDS)) {
+        let label = words::word_at(events, i * relax::EVENT_WORDS + 3);
+        if is_open(labels, known, label) {
+            return 1;
+        }
     }
     0
 }

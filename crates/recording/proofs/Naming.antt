@@ -16,8 +16,8 @@ use Rattle.seqs.proofs.Picking.{yes-lt, no-lt}
 use Rattle.seqs.proofs.Counting.{count-more, count-le, count-same, count-sum}
 use Rattle.words.specs.Words.{wordAt}
 use Rattle.relax.specs.declared.LayoutEvent.{LayoutEvent}
-use Rattle.relax.specs.declared.LayoutEvent.the-variants.{Jump, Align}
-use Rattle.relax.specs.Events.{eventOf, eventAt, eventWords, jumpKind, alignmentKind}
+use Rattle.relax.specs.declared.LayoutEvent.the-variants.{Jump, Align, Far}
+use Rattle.relax.specs.Events.{eventOf, eventAt, eventWords, jumpKind, alignmentKind, branchKind, namesLabel}
 use Rattle.naming.specs.Naming as tables
 use Rattle.naming.specs.steps.Open.{isOpenAt, opensAt, openEntries, openJumps}
 use Rattle.buffer.specs.State.{none, labelTarget}
@@ -73,6 +73,7 @@ naming-same f g same v =
     by-event : (e : LayoutEvent) → jumpNames f e ≡ jumpNames g e
     by-event (Jump j) = same (j .label)
     by-event (Align a) = refl
+    by-event (Far b) = same (b .label)
 
 -- a property that is one of two, never both
 pub naming-sum : (f g h : ℕ → Bool) → ((l : ℕ) → one (f l) ≡ one (g l) + one (h l)) → (v : View) → naming f v ≡ naming g v + naming h v
@@ -93,23 +94,29 @@ naming-sum f g h sums v =
     by-event : (e : LayoutEvent) → one (jumpNames f e) ≡ one (jumpNames g e) + one (jumpNames h e)
     by-event (Jump j) = sums (j .label)
     by-event (Align a) = refl
+    by-event (Far b) = sums (b .label)
 
--- the columns of an event: a jump where its kind is 1
-jump-names-of : (f : ℕ → Bool) (kind start len what cc : ℕ) → jumpNames f (eventOf kind start len what cc) ≡ (eqb kind jumpKind && f what)
-unfolding eventOf pick
+-- the columns of an event: a jump where its kind is 1, a branch where it is 3
+jump-names-of : (f : ℕ → Bool) (kind start len what cc : ℕ) → jumpNames f (eventOf kind start len what cc) ≡ (namesLabel kind && f what)
+unfolding eventOf pick namesLabel
 jump-names-of f kind start len what cc =
-    ⊎-elim (λ (e : kind ≡ jumpKind). rw (eq-eqb kind jumpKind e)) (λ ne. rw (ne-eqb kind jumpKind ne)) (eq-or-ne kind jumpKind)
+    ⊎-elim
+    (λ (e : kind ≡ jumpKind). rw (eq-eqb kind jumpKind e))
+    (λ ne. rw (ne-eqb kind jumpKind ne) (⊎-elim (λ (e : kind ≡ branchKind). rw (eq-eqb kind branchKind e)) (λ other. rw (ne-eqb kind branchKind other)) (eq-or-ne kind branchKind)))
+    (eq-or-ne kind jumpKind)
 
 pub jump-names-at : (f : ℕ → Bool) (events : List ℕ) (i : ℕ)
-    → jumpNames f (eventAt events i) ≡ (eqb (wordAt events (i * eventWords)) jumpKind && f (wordAt events (i * eventWords + 3)))
+    → jumpNames f (eventAt events i) ≡ (namesLabel (wordAt events (i * eventWords)) && f (wordAt events (i * eventWords + 3)))
 unfolding eventAt
 jump-names-at f events i =
     jump-names-of f (wordAt events (i * eventWords)) (wordAt events (i * eventWords + 1)) (wordAt events (i * eventWords + 2)) (wordAt events (i * eventWords + 3)) (wordAt events (i * eventWords + 4))
 
 pub jump-names-new : (f : ℕ → Bool) (start len label cc : ℕ) → jumpNames f (eventOf jumpKind start len label cc) ≡ f label
+unfolding namesLabel
 jump-names-new f start len label cc = jump-names-of f jumpKind start len label cc
 
 pub alignment-names-none : (f : ℕ → Bool) (start len multiple most : ℕ) → jumpNames f (eventOf alignmentKind start len multiple most) ≡ false
+unfolding namesLabel
 alignment-names-none f start len multiple most = jump-names-of f alignmentKind start len multiple most
 
 -- a target that names the label L is L + 2^31
@@ -160,8 +167,8 @@ open-count r =
       count-entries (refNames f) (refAt (r .refs)) (λ (i : ℕ). opensAt (r .labels) n 0 (wordAt (r .refs) (i * refWords + 1))) (r .buffer .refs) (λ i h. zero-base (wordAt (r .refs) (i * refWords + 1))),
       count-entries (targetNames f) (relocAt (r .relocs)) (λ (i : ℕ). opensAt (r .labels) n labelTarget (wordAt (r .relocs) (i * relocWords + 2))) (r .buffer .relocs)
           (λ i h. ap (λ (t : Bool). leb labelTarget (wordAt (r .relocs) (i * relocWords + 2)) && t) (agree (wordAt (r .relocs) (i * relocWords + 2) - labelTarget))),
-      count-entries (jumpNames f) (eventAt (r .events)) (λ (i : ℕ). eqb (wordAt (r .events) (i * eventWords)) jumpKind && isOpenAt (r .labels) n (wordAt (r .events) (i * eventWords + 3))) (r .buffer .events)
-          (λ i h. jump-names-at f (r .events) i ∙ ap (λ (t : Bool). eqb (wordAt (r .events) (i * eventWords)) jumpKind && t) (agree (wordAt (r .events) (i * eventWords + 3)))),
+      count-entries (jumpNames f) (eventAt (r .events)) (λ (i : ℕ). namesLabel (wordAt (r .events) (i * eventWords)) && isOpenAt (r .labels) n (wordAt (r .events) (i * eventWords + 3))) (r .buffer .events)
+          (λ i h. jump-names-at f (r .events) i ∙ ap (λ (t : Bool). namesLabel (wordAt (r .events) (i * eventWords)) && t) (agree (wordAt (r .events) (i * eventWords + 3)))),
     )
 
 -- 1 for a new entry whose label is not bound

@@ -8,11 +8,11 @@ use lib.ListN.{getD}
 use Rattle.seqs.specs.Counting.{count}
 use Rattle.seqs.specs.Every.{every}
 use Rattle.relax.specs.declared.LayoutEvent.{LayoutEvent}
-use Rattle.relax.specs.declared.LayoutEvent.the-variants.{Jump, Align}
+use Rattle.relax.specs.declared.LayoutEvent.the-variants.{Jump, Align, Far}
 use Rattle.buffer.specs.State.{none, labelTarget}
 use Rattle.recording.specs.View.{Use, Ref, Relocation, View}
 
--- Whether the label that an entry names has a property: of a use and of a ref; of an event that is a jump; of a relocation whose target is a label's, from
+-- Whether the label that an entry names has a property: of a use and of a ref; of an event that is a jump or a branch; of a relocation whose target is a label's, from
 -- 2^31 on.
 abbrev pub useNames : (ℕ → Bool) → Use → Bool
 useNames f u = f (u .label)
@@ -23,6 +23,7 @@ refNames f r = f (r .label)
 abbrev pub jumpNames : (ℕ → Bool) → LayoutEvent → Bool
 jumpNames f (Jump j) = f (j .label)
 jumpNames f (Align a) = false
+jumpNames f (Far b) = f (b .label)
 
 abbrev pub targetNames : (ℕ → Bool) → Relocation → Bool
 targetNames f l = leb labelTarget (l .target) && f (l .target - labelTarget)

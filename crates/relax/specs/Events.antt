@@ -1,5 +1,6 @@
 -- Events and their table: document 01, "an event read from its columns is a jump with its condition, or an alignment"; document 02,
--- Request Seven: an alignment "carries the most bytes it may spend".
+-- Request Seven: an alignment "carries the most bytes it may spend"; Request Eight: "A recorded 4-byte conditional branch of code 9 or 10".
+use mathlib.Core.Bool.{Bool, _||_}
 use mathlib.Core.List.{List}
 use Prim.Native.Nat.{ℕ, _+_, _*_}
 use lib.Dec.{eqb}
@@ -8,7 +9,7 @@ use Rattle.words.specs.Words.{wordAt, setWord}
 use Rattle.relax.specs.declared.Condition.{Condition}
 use Rattle.relax.specs.declared.Condition.the-variants.{Always, On}
 use Rattle.relax.specs.declared.LayoutEvent.{LayoutEvent}
-use Rattle.relax.specs.declared.LayoutEvent.the-variants.{Jump, Align}
+use Rattle.relax.specs.declared.LayoutEvent.the-variants.{Jump, Align, Far}
 
 -- condition 0 to 15; 16 none
 abbrev pub noCondition : ℕ
@@ -42,10 +43,26 @@ jumpKind = 1
 abbrev pub alignmentKind : ℕ
 alignmentKind = 2
 
--- the columns of an event: kind (a jump's, else an alignment), start, length, label or multiple, condition or the most bytes of padding
+abbrev pub branchKind : ℕ
+branchKind = 3
+
+-- the kinds whose fourth column is a label
+unfoldable pub namesLabel : ℕ → Bool
+namesLabel kind = eqb kind jumpKind || eqb kind branchKind
+
+-- the bytes that a branch is recorded with, and of its long form
+abbrev pub branchLen : ℕ
+branchLen = 4
+
+abbrev pub farLen : ℕ
+farLen = 8
+
+-- the columns of an event: kind (a jump's, a branch's, else an alignment), start, length, label or multiple, condition, the most bytes of padding or code
 unfoldable pub eventOf : ℕ → ℕ → ℕ → ℕ → ℕ → LayoutEvent
 eventOf kind start len what how =
-    pick (eqb kind jumpKind) (Jump (record { start = start; len = len; label = what; cc = conditionOf how })) (Align (record { start = start; len = len; align = what; most = how }))
+    pick (eqb kind jumpKind) (Jump (record { start = start; len = len; label = what; cc = conditionOf how }))
+    (pick (eqb kind branchKind) (Far (record { start = start; len = len; label = what; code = how }))
+    (Align (record { start = start; len = len; align = what; most = how })))
 
 -- event i of the table
 unfoldable pub eventAt : List ℕ → ℕ → LayoutEvent
@@ -61,10 +78,12 @@ setEvent events i kind start len what how =
 abbrev pub startOf : LayoutEvent → ℕ
 startOf (Jump j) = j .start
 startOf (Align a) = a .start
+startOf (Far f) = f .start
 
 abbrev pub extentOf : LayoutEvent → ℕ
 extentOf (Jump j) = j .len
 extentOf (Align a) = a .len
+extentOf (Far f) = f .len
 
 abbrev pub endOf : LayoutEvent → ℕ
 endOf e = startOf e + extentOf e

@@ -2,7 +2,7 @@
 ghost use mathlib.Core.Path.{_≡_};
 ghost use Prim.Native.Nat.{_+_, _*_, _≤_};
 ghost use lib.ListN.{length};
-ghost use Rattle.relax.specs.Events.{conditionOf, longLen, eventAt, setEvent, startOf, endOf, eventSize};
+ghost use Rattle.relax.specs.Events.{conditionOf, namesLabel, longLen, eventAt, setEvent, startOf, endOf, eventSize};
 
 // When a jump is taken.
 pub enum Condition {
@@ -49,9 +49,25 @@ pub struct Alignment {
     pub most: u32,
 }
 
+// A conditional branch of A64, whose word relaxation may replace by its inverse and a B. What it branches on stands in its recorded word.
+pub struct FarBranch {
+    pub start: u32,
+    // Bytes recorded: `BRANCH_LEN`.
+    pub len: u32,
+    pub label: u32,
+    // The code of its field: 9 or 10.
+    pub code: u32,
+}
+
+// The bytes of a branch, and of its long form.
+pub const BRANCH_LEN: u32 = 4;
+
+pub const FAR_LEN: u32 = 8;
+
 pub enum LayoutEvent {
     Jump(RelaxableJump),
     Align(Alignment),
+    Far(FarBranch),
 }
 
 // Where one `LayoutEvent` was recorded and where it ended up.
@@ -84,7 +100,20 @@ pub const JUMP: u32 = 1;
 
 pub const ALIGNMENT: u32 = 2;
 
-// Event `i` of the table. An entry is kind (`JUMP`, else an alignment), start, length, label or multiple, condition or the most bytes of padding.
+pub const BRANCH: u32 = 3;
+
+// Whether an entry of this kind names a label.
+pub fn names_label(kind: u32) -> bool
+    ensures { λ r. ⌜ r ≡ namesLabel kind ⌝ }
+{
+    if kind == JUMP {
+        return true;
+    }
+    kind == BRANCH
+}
+
+// Event `i` of the table. An entry is kind (`JUMP`, `BRANCH`, else an alignment), start, length, label or multiple, condition, code or the most bytes of
+// padding.
 pub fn event_at(events: &[u8], i: usize) -> LayoutEvent
     requires { ⌜ i * eventSize + eventSize ≤ length (now events) ⌝ }
     ensures { λ r. ⌜ r ≡ eventAt (now (events .entry)) i ⌝ }
@@ -102,6 +131,14 @@ pub fn event_at(events: &[u8], i: usize) -> LayoutEvent
             len,
             label: what,
             cc,
+        });
+    }
+    if kind == BRANCH {
+        return LayoutEvent::Far(FarBranch {
+            start,
+            len,
+            label: what,
+            code: how,
         });
     }
     LayoutEvent::Align(Alignment {
@@ -131,6 +168,7 @@ pub fn event_start(event: LayoutEvent) -> u32
     match event {
         LayoutEvent::Jump(jump) => jump.start,
         LayoutEvent::Align(alignment) => alignment.start,
+        LayoutEvent::Far(branch) => branch.start,
     }
 }
 
@@ -141,5 +179,6 @@ pub fn event_end(event: LayoutEvent) -> u64
     match event {
         LayoutEvent::Jump(jump) => jump.start as u64 + jump.len as u64,
         LayoutEvent::Align(alignment) => alignment.start as u64 + alignment.len as u64,
+        LayoutEvent::Far(branch) => branch.start as u64 + branch.len as u64,
     }
 }

@@ -10,10 +10,10 @@ put-event-requires c κs =
     (start .pre .0, form-room _ _ _ _ _ (start .pre .1 .0) (start .pre .1 .1))
 
 returns : tie.Need-returns
-returns c bytes =
+returns c bytes keeps =
     let after-put-event : tie.After-put-event = search in
     let start : tie.Start = search in
-    form-back _ _ (start .args .event) _ _ _ (start .args .arch) bytes (start .pre .1 .0) (start .pre .1 .1) (after-put-event .put-event .ensures bytes)
+    form-back _ _ (start .args .event) _ _ _ (start .args .arch) bytes (start .pre .1 .0) (start .pre .1 .1) (after-put-event .put-event .ensures bytes keeps)
 
 pub emit-event-spec : {M : Type 1} → statement M
 emit-event-spec =

@@ -9,7 +9,7 @@ use Rattle.seqs.proofs.Overwrites.{over-nil, length-over}
 use Rattle.relax.specs.Events.{eventAt}
 use Rattle.recording.specs.View.{entries}
 use Rattle.fresh.specs.steps.Runs.{after, runsTo}
-use Rattle.emit.proofs.Runs.{segments-size, order, starts, begins, ends, inside, arrived, turn, last-old, last-room, finished}
+use Rattle.emit.proofs.Runs.{segments-size, order, starts, begins, ends, inside, arrived, turn, last-old, last-room, finished, event-within}
 use borrow.Author.Needs.{needs}
 use Rattle.emit.proofs.emit_events.Statement.{statement}
 use Rattle.emit.proofs.emit_events.Proof.Tie as tie
@@ -46,7 +46,7 @@ emit-segment-requires c κs =
     let inside = inside (start .pre) _ _ _ (at-loop .loop .inv .1) (in-loop .loop-test .taken) _ (after-segment-at .segment-at .ensures) in
     let starts = starts (start .pre) _ _ _ (at-loop .loop .inv .1) (in-loop .loop-test .taken) _ (after-segment-at .segment-at .ensures) in
     let kept = at-loop .loop .inv .2 in (
-      (omega (arith, p .recorded), p .writes _ (in-loop .loop-test .taken)),
+      (omega (arith, p .recorded), p .writes _ (in-loop .loop-test .taken), omega (arith, event-within (start .pre) _ (in-loop .loop-test .taken), p .coded)),
       (
         (
           order (start .pre) _ _ _ (at-loop .loop .inv .1) (in-loop .loop-test .taken) _ (after-segment-at .segment-at .ensures),

@@ -18,6 +18,12 @@ emit-event-requires c κs =
     let kept = ap length (after-copy-run .copy-run .ensures) ∙ length-over _ _ _ in
     rw (after-event-at .event-at .ensures) (p .0 .1, (p .1 .1 .0, omega (arith, kept)))
 
+recorded-word-requires : tie.Need-recorded-word-requires
+recorded-word-requires c κs =
+    let after-event-at : tie.After-event-at = search in
+    let start : tie.Start = search in
+    rw (after-event-at .event-at .ensures) (start .pre .0 .1, start .pre .0 .2)
+
 returns : tie.Need-returns
 returns c =
     let after-emit-event : tie.After-emit-event = search in
@@ -25,7 +31,9 @@ returns c =
     let after-event-at : tie.After-event-at = search in
     let start : tie.Start = search in
     let event = eventAt (start .args .events .now) (start .args .i) in
-    let wrote = after-emit-event .emit-event .ensures (part (start .args .code .now) (startOf event) (extentOf event)) in
+    let after-recorded-word : tie.After-recorded-word = search in
+    let keeps = rw (after-event-at .event-at .ensures) at (after-recorded-word .recorded-word .ensures) in
+    let wrote = after-emit-event .emit-event .ensures (part (start .args .code .now) (startOf event) (extentOf event)) (rw (after-event-at .event-at .ensures) keeps) in
     wrote ∙ rw (after-copy-run .copy-run .ensures, after-event-at .event-at .ensures) refl
 
 pub emit-segment-spec : {M : Type 1} → statement M
@@ -35,6 +43,7 @@ emit-segment-spec =
     (λ c κs. search needs)
     (λ c. search needs)
     (λ c κs. search needs)
+    recorded-word-requires
     emit-event-requires
     (λ c. search needs)
     returns)

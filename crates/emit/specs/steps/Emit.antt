@@ -16,9 +16,10 @@ use Rattle.fields.specs.Reach.{canReachDelta}
 use Rattle.relax.specs.declared.Condition.{Condition}
 use Rattle.relax.specs.declared.Condition.the-variants.{Always, On}
 use Rattle.relax.specs.declared.LayoutEvent.{LayoutEvent}
-use Rattle.relax.specs.declared.LayoutEvent.the-variants.{Jump, Align}
+use Rattle.relax.specs.declared.LayoutEvent.the-variants.{Jump, Align, Far}
 use Rattle.relax.specs.declared.Segment.{Segment}
-use Rattle.relax.specs.Events.{eventAt, eventSize}
+use Rattle.fields.specs.Branches.{shortBranch, longBranch}
+use Rattle.relax.specs.Events.{eventAt, eventSize, branchLen}
 use Rattle.buffer.specs.State.{none}
 use Rattle.buffer.specs.Tables.{labelSize, useWords, useSize, refWords, refSize}
 use Rattle.recording.specs.View.{entries}
@@ -35,6 +36,11 @@ abbrev pub jumpForm : Condition → Bool → List ℕ
 jumpForm cc false = shortForm cc
 jumpForm cc true = longForm cc
 
+-- a branch's form, short or long: of a recorded word
+abbrev pub branchForm : ℕ → ℕ → Bool → List ℕ
+branchForm code word false = shortBranch word
+branchForm code word true = longBranch code word
+
 -- a condition that has an opcode
 abbrev pub Encodes : Condition → Type 0
 Encodes Always = Unit {0}
@@ -44,6 +50,13 @@ Encodes (On c) = c < 16
 abbrev pub Writes : LayoutEvent → Type 0
 Writes (Jump j) = Encodes (j .cc)
 Writes (Align a) = Unit {0}
+Writes (Far f) = f .len ≡ branchLen
+
+-- the word that a form keeps of the event's recorded bytes: a branch's own
+abbrev pub Keeps : LayoutEvent → ℕ → List ℕ → Type 0
+Keeps (Jump j) word bytes = Unit {0}
+Keeps (Align a) word bytes = Unit {0}
+Keeps (Far f) word bytes = word ≡ wordAt bytes 0
 
 -- a field of a kind at an offset lies within `room` bytes
 abbrev pub Within : Decoded → ℕ → ℕ → Type 0

@@ -1,12 +1,15 @@
 -- The code as runs between events, and how far a layout and the runs have come after some of their turns: what the contracts of layout and emit speak of.
+use mathlib.Core.Path.{_≡_}
 use mathlib.Core.Bool.{Bool, false}
 use mathlib.Core.List.{List, [], _∷_, _++_, map}
-use Prim.Native.Nat.{ℕ, zero, suc, _-_, _≤_, _<_}
+use Prim.Native.Nat.{ℕ, zero, suc, _+_, _-_, _≤_, _<_}
 use lib.ListN.{getD, take, drop}
+use Rattle.fields.specs.Kinds.{info}
+use Rattle.fields.specs.Branches.{fieldKind}
 use Rattle.relax.specs.declared.LayoutEvent.{LayoutEvent}
-use Rattle.relax.specs.declared.LayoutEvent.the-variants.{Jump, Align}
+use Rattle.relax.specs.declared.LayoutEvent.the-variants.{Jump, Align, Far}
 use Rattle.relax.specs.declared.Segment.{Segment}
-use Rattle.relax.specs.Events.{startOf, extentOf, endOf, noEvent, shortLen, mostJump}
+use Rattle.relax.specs.Events.{startOf, extentOf, endOf, noEvent, shortLen, mostJump, branchLen}
 use Rattle.buffer.specs.Tables.{mostAlignment}
 use Rattle.fresh.specs.Pooled.{Pooled}
 use Rattle.fresh.specs.Forms.{form}
@@ -14,10 +17,22 @@ use Rattle.fresh.specs.Fresh.{Choice, isLong, others}
 use Rattle.fresh.specs.Segments.{segment, mapOffset, segmentsOf}
 use Rattle.fresh.specs.Fill.{part, fill}
 
--- a jump was recorded with 2 to 15 bytes, an alignment is to at most 4,096
+-- a jump was recorded with 2 to 15 bytes, an alignment is to at most 4,096, a branch was recorded with 4 bytes
 abbrev pub Small : LayoutEvent → Type 0
 Small (Jump j) = (shortLen ≤ j .len) × (j .len ≤ mostJump)
 Small (Align a) = (0 < a .align) × (a .align ≤ mostAlignment)
+Small (Far f) = f .len ≡ branchLen
+
+-- how far before and after the end of its short form an event reaches: label minus end lies in -behind..ahead
+abbrev pub behindOf : LayoutEvent → ℕ
+behindOf (Jump j) = 128
+behindOf (Align a) = 0
+behindOf (Far f) = info (fieldKind (f .code)) .low + branchLen
+
+abbrev pub aheadOf : LayoutEvent → ℕ
+aheadOf (Jump j) = 127
+aheadOf (Align a) = 0
+aheadOf (Far f) = info (fieldKind (f .code)) .high - branchLen
 
 unfoldable pub Modest : List LayoutEvent → Type 0
 Modest [] = Unit {0}

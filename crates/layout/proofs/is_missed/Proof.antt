@@ -1,10 +1,9 @@
 -- `is_missed` meets its contract: its tests are made in order.
 mod Tie
-use mathlib.Core.Path.{refl}
-use Prim.Native.Nat.{_+_, _-_}
+use mathlib.Core.Path.{refl, _∙_, ap}
+use Prim.Native.Nat.{_+_}
 use native.Mathlib.Omega.{arith}
 use borrow.Author.Needs.{needs}
-use Rattle.relax.specs.Events.{shortLen}
 use Rattle.layout.proofs.Missed.{missed-none, missed-reach}
 use Rattle.layout.proofs.is_missed.Statement.{statement}
 use Rattle.layout.proofs.is_missed.Proof.Tie as tie
@@ -16,7 +15,7 @@ returns-2 : tie.Need-returns-2
 returns-2 c =
     let read : tie.After-segment-at = search in
     let short : tie.Else1 = search in
-    rw (short .if1 .left) (missed-none _ _ (rw (read .segment-at .ensures) at (c .if2 .taken)))
+    rw (short .if1 .left) (missed-none _ _ _ (rw (read .segment-at .ensures) at (c .if2 .taken)))
 
 end-before-requires : tie.Need-end-before-requires
 end-before-requires c κs =
@@ -35,27 +34,23 @@ add-target c =
     let adds = rw (← read .segment-at .ensures) at (start .pre .1) in
     omega (arith, adds .sum (jump .if2 .left), ended .end-before .ensures)
 
-sub-in-reach : tie.Need-sub-in-reach
-sub-in-reach c =
-    let jump : tie.Else2 = search in
-    let read : tie.After-segment-at = search in
+event-at-requires : tie.Need-event-at-requires
+event-at-requires c κs =
     let start : tie.Start = search in
-    let adds = rw (← read .segment-at .ensures) at (start .pre .1) in
-    adds .wide (jump .if2 .left)
+    start .pre .0 .1
 
 returns-3 : tie.Need-returns-3
 returns-3 c =
     let tested : tie.After-in-reach = search in
+    let event : tie.After-event-at = search in
     let ended : tie.After-end-before = search in
     let jump : tie.Else2 = search in
     let read : tie.After-segment-at = search in
     let short : tie.Else1 = search in
-    let start : tie.Start = search in
     let row = read .segment-at .result in
     let is = read .segment-at .ensures in
-    let adds = rw (← is) at (start .pre .1) in
-    rw (short .if1 .left, ← is)
-    (missed-reach _ row (row .«new_end» - shortLen) (row .«old_end» + ended .end-before .result) _ (jump .if2 .left) (tested .in-reach .ensures) (omega (arith, ended .end-before .ensures)) (omega (arith, adds .wide (jump .if2 .left))))
+    rw (short .if1 .left, ← is, ← event .event-at .ensures)
+    (missed-reach _ _ row (row .«old_end» + ended .end-before .result) _ (jump .if2 .left) (tested .in-reach .ensures) (omega (arith, ended .end-before .ensures)))
 
 pub is-missed-spec : {M : Type 1} → statement M
 is-missed-spec =
@@ -67,6 +62,6 @@ is-missed-spec =
     (λ c. search needs)
     end-before-requires
     add-target
-    sub-in-reach
+    event-at-requires
     (λ c κs. search needs)
     returns-3)

@@ -12,11 +12,11 @@ use Rattle.layout.proofs.lengthen.Statement.{statement}
 use Rattle.layout.proofs.lengthen.Proof.Tie as tie
 
 abbrev Inv-loop : tie.InvT-loop
-Inv-loop segments long₀ n grew₀ i₀ long grew i =
-    (i ≤ n) × (length long ≡ length long₀) × Scanned (missed segments long₀ n) long₀ i long grew
+Inv-loop segments events long₀ n grew₀ i₀ long grew i =
+    (i ≤ n) × (length long ≡ length long₀) × Scanned (missed segments events long₀ n) long₀ i long grew
 
 abbrev μ-loop : tie.MeasureT-loop
-μ-loop segments long₀ n grew₀ i₀ long grew i = n - i
+μ-loop segments events long₀ n grew₀ i₀ long grew i = n - i
 
 loop-holds : tie.Need-loop-holds Inv-loop μ-loop
 loop-holds c = (omega arith, refl, scanned-none _ _)
@@ -26,7 +26,7 @@ is-missed-requires c κs =
     let in-loop : tie.In-loop Inv-loop μ-loop = search in
     let start : tie.Start Inv-loop μ-loop = search in
     let more = in-loop .loop-test .taken in
-    (omega (arith, start .pre .0), start .pre .1 _ more)
+    ((omega (arith, start .pre .0), omega (arith, start .pre .0)), start .pre .1 _ more)
 
 loop-again : tie.Need-loop-again Inv-loop μ-loop
 loop-again c =
@@ -40,10 +40,10 @@ loop-again c =
     let said = tested .is-missed .ensures in
     ⊎-elim
     (λ w.
-    let next = scan-mark _ (a .n) _ (l .i) _ _ (l .inv .2) more _ said _ _ (w .0 .taken) (w .1) (w .2) in
+    let next = scan-mark _ _ (a .n) _ (l .i) _ _ (l .inv .2) more _ said _ _ (w .0 .taken) (w .1) (w .2) in
     (omega arith, ap length (w .1) ∙ simp length-set (l .inv .1), next))
     (λ w.
-    let next = scan-keep _ (a .n) _ (l .i) _ _ (l .inv .2) more _ said _ _ (w .0 .left) (w .1) (w .2) in
+    let next = scan-keep _ _ (a .n) _ (l .i) _ _ (l .inv .2) more _ said _ _ (w .0 .left) (w .1) (w .2) in
     (omega arith, ap length (w .1) ∙ l .inv .1, next))
     (c .if1 .came)
 
@@ -53,7 +53,7 @@ returns c =
     let start : tie.Start Inv-loop μ-loop = search in
     let a = start .args in
     let e : at-loop .loop .i ≡ a .n = omega arith in
-    scan-all _ (a .n) _ _ _ (rw e at (at-loop .loop .inv .2))
+    scan-all _ _ (a .n) _ _ _ (rw e at (at-loop .loop .inv .2))
 
 pub lengthen-spec : {M : Type 1} → statement M
 lengthen-spec =

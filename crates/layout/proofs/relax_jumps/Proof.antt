@@ -102,7 +102,7 @@ lengthen-requires c κs =
     let a = start .args in
     let l = at-loop .loop in
     let placed = ends .place-ends .ensures in (
-      (omega (arith, l .inv .0, placed .rest .sized), omega (arith, l .inv .1)),
+      (omega (arith, l .inv .0, placed .rest .sized), omega (arith, l .inv .1), p .0 .room),
       round-adds (a .events .now) (a .n) (a .code) (a .constants .now) (a .asked .now) (a .m) (wordAt (a .labels .now)) (l .inv .2) (l .inv .3) (omega arith) placed
           (p .0) (p .1 .0) (l .inv .0),
     )
@@ -115,7 +115,7 @@ layout-requires-2 c κs =
     let start = entered at-loop in
     let p = start .pre in
     let l = at-loop .loop in
-    (p .0, (p .1 .0, (omega arith, omega (arith, l .inv .0, ends .place-ends .ensures .rest .sized), omega (arith, l .inv .1, scan .lengthen .kept .1 .0))))
+    (p .0, (p .1 .0, (omega arith, omega (arith, l .inv .0, ends .place-ends .ensures .rest .sized), omega (arith, l .inv .1, scan .lengthen .kept .1 .1 .0))))
 
 loop-less : tie.Need-loop-less Inv-loop μ-loop
 loop-less c =
@@ -144,7 +144,7 @@ loop-again c =
     let next =
     round-more (a .events .now) (a .n) (a .code) (a .constants .now) (a .asked .now) (a .m) (wordAt (a .labels .now)) (l .inv .2) (l .inv .3) (omega arith)
     placed (said .0) (said .1) (not-false _ (c .if1 .left)) in
-    (omega (arith, l .inv .0, placed .rest .sized), scan .lengthen .kept .1 .0 ∙ l .inv .1, next, aiming-stays (l .inv .3) placed)
+    (omega (arith, l .inv .0, placed .rest .sized), scan .lengthen .kept .1 .1 .0 ∙ l .inv .1, next, aiming-stays (l .inv .3) placed)
 
 same-length : tie.Need-same-length Inv-loop μ-loop
 same-length c =

@@ -24,6 +24,18 @@ returns-3 c =
     let after-event2 : tie.After-event2 = search in
     rw (after-event2 .event2 .given .1) (c .padding-within .ensures)
 
+returns-4 : tie.Need-returns-4
+unfolding width
+returns-4 c =
+    let told : tie.After-enum-told = search in
+    rw (told .enum-told .given .1, c .if2 .taken) refl
+
+returns-5 : tie.Need-returns-5
+unfolding width
+returns-5 c =
+    let told : tie.After-enum-told = search in
+    rw (told .enum-told .given .1, c .if2 .left) refl
+
 pub width-of-spec : {M : Type 1} → statement M
 width-of-spec =
     tie.close
@@ -32,6 +44,9 @@ width-of-spec =
     (λ c κs. search needs)
     (λ c. search needs)
     (λ c κs. search needs)
+    (λ c. search needs)
     returns
     returns-2
-    returns-3)
+    returns-3
+    returns-4
+    returns-5)

@@ -1,4 +1,4 @@
--- Each jump's label found once. While the rounds run, a row of the table of segments holds, in a segment's places:
+-- Each jump's and branch's label found once. While the rounds run, a row of the table of segments holds, in a segment's places:
 --   old_start  the event's recorded start
 --   old_end    of a jump, `beyond`: how far its label lies past the end of the events that it passes
 --   new_start  of a jump, `passed`: how many events these are; 0xFFFFFFFF where the event is no jump
@@ -14,7 +14,7 @@ use lib.ListN.{length, getD}
 use Rattle.seqs.specs.Over.{over}
 use Rattle.relax.specs.declared.LayoutEvent.{LayoutEvent}
 use Rattle.relax.specs.declared.Segment.{Segment}
-use Rattle.relax.specs.Events.{eventAt, startOf, endOf, eventSize, noEvent, shortLen}
+use Rattle.relax.specs.Events.{eventAt, startOf, endOf, eventSize, noEvent}
 use Rattle.buffer.specs.State.{none}
 use Rattle.buffer.specs.Tables.{mostEntries}
 use Rattle.recording.specs.View.{entries}
@@ -22,13 +22,13 @@ use Rattle.fresh.specs.Forms.{Branch, pads, branches, roleOf}
 use Rattle.fresh.specs.Fresh.{Choice}
 use Rattle.fresh.specs.Segments.{segments, mapOffset}
 use Rattle.fresh.specs.Order.{Ordered}
-use Rattle.fresh.specs.steps.Runs.{after}
+use Rattle.fresh.specs.steps.Runs.{behindOf, aheadOf, after}
 use Rattle.pool.specs.steps.Pool.{offsetBound}
 use Rattle.layout.specs.steps.Layout.{zeroSegment, startAt}
 
--- a label's offset minus the end of a short jump lies in -128..127
-abbrev pub inReach : ℕ → ℕ → Bool
-inReach end label = leb end (label + 128) && leb label (end + 127)
+-- a label's offset minus the end of an event's short form lies as near as the event reaches: of a jump in -128..127
+abbrev pub inReach : LayoutEvent → ℕ → ℕ → Bool
+inReach e end label = leb end (label + behindOf e) && leb label (end + aheadOf e)
 
 -- the recorded end of event i: of the first n by their table, of the pool's by their segment
 abbrev pub endIn : List Segment → List ℕ → ℕ → ℕ → ℕ
@@ -95,23 +95,22 @@ abbrev pub endBefore : List Segment → ℕ → ℕ
 endBefore ss zero = 0
 endBefore ss (suc k) = (getD ss k zeroSegment) .«new_end»
 
--- a jump's label, by its row: the sum is a word; and the jump has room for its short form
+-- a jump's label, by its row: the sum is a word
 pub record Adds (ss : List Segment) (row : Segment) : Type 0 where
   pub count : row .«new_start» ≢ none → row .«new_start» ≤ length ss
   pub sum : row .«new_start» ≢ none → row .«old_end» + endBefore ss (row .«new_start») < 4294967296
-  pub wide : row .«new_start» ≢ none → shortLen ≤ row .«new_end»
 
--- the event of a row is a jump that, were it short, would not reach
-unfoldable pub isMissed : List Segment → Segment → Bool
-isMissed ss row = elim (eqb (row .«new_start») none) [ true ↦ false | false ↦ not (inReach (row .«new_end») (row .«old_end» + endBefore ss (row .«new_start»))) ]
+-- the event of a row is a jump or branch that, were it short, would not reach
+unfoldable pub isMissed : List Segment → LayoutEvent → Segment → Bool
+isMissed ss e row = elim (eqb (row .«new_start») none) [ true ↦ false | false ↦ not (inReach e (row .«new_end») (row .«old_end» + endBefore ss (row .«new_start»))) ]
 
--- event i, long or not, is a short jump that does not reach
-abbrev pub isMissedAt : List Segment → Bool → ℕ → Bool
-isMissedAt ss long i = not long && isMissed ss (getD ss i zeroSegment)
+-- event i, long or not, is a short jump or branch that does not reach
+abbrev pub isMissedAt : List Segment → List ℕ → Bool → ℕ → Bool
+isMissedAt ss events long i = not long && isMissed ss (eventAt events i) (getD ss i zeroSegment)
 
 -- which of the first n events a round lengthens, by their rows
-abbrev pub missed : List Segment → Choice → ℕ → Choice
-missed ss c n = entries (λ (i : ℕ). isMissedAt ss (getD c i false) i) n
+abbrev pub missed : List Segment → List ℕ → Choice → ℕ → Choice
+missed ss events c n = entries (λ (i : ℕ). isMissedAt ss events (getD c i false) i) n
 
 -- the table has the new ends of these events under a choice
 pub record Ends (es : List LayoutEvent) (c : Choice) (ss : List Segment) : Type 0 where

@@ -2,17 +2,16 @@
 use mathlib.Core.Bool.{_&&_}
 use Prim.Native.Nat.{ℕ, _+_, _-_, _*_}
 use native.Mathlib.Omega.{arith}
-use lib.Dec.{eqb}
 use borrow.Author.Needs.{needs}
 use Rattle.words.specs.Words.{wordAt}
-use Rattle.relax.specs.Events.{eventWords, jumpKind}
+use Rattle.relax.specs.Events.{eventWords, namesLabel}
 use Rattle.naming.specs.steps.Open.{isOpenAt, openJumps}
 use Rattle.naming.proofs.Turns.{Counted, counting, found-le}
 use Rattle.naming.proofs.open_jumps.Statement.{statement}
 use Rattle.naming.proofs.open_jumps.Tie as tie
 
 abbrev Inv-loop : tie.InvT-loop
-Inv-loop events n labels known found₀ i₀ found i = Counted (λ (k : ℕ). eqb (wordAt events (k * eventWords)) jumpKind && isOpenAt labels known (wordAt events (k * eventWords + 3))) n i found
+Inv-loop events n labels known found₀ i₀ found i = Counted (λ (k : ℕ). namesLabel (wordAt events (k * eventWords)) && isOpenAt labels known (wordAt events (k * eventWords + 3))) n i found
 
 abbrev μ-loop : tie.MeasureT-loop
 μ-loop events n labels known found₀ i₀ found i = n - i

@@ -5,7 +5,7 @@ use Prim.Native.Nat.{ℕ, _+_, _-_, _*_}
 use lib.Dec.{eqb, leb}
 use Rattle.seqs.specs.Counting.{howMany}
 use Rattle.words.specs.Words.{wordAt}
-use Rattle.relax.specs.Events.{eventWords, jumpKind}
+use Rattle.relax.specs.Events.{eventWords, namesLabel}
 use Rattle.naming.specs.Naming.{unbound}
 
 -- the label is none of the first `known`, or not bound
@@ -23,4 +23,4 @@ openEntries table n stride at base labels known = howMany (λ (i : ℕ). opensAt
 -- how many of the first n events are jumps to an open label
 unfoldable pub openJumps : List ℕ → ℕ → List ℕ → ℕ → ℕ
 openJumps events n labels known =
-    howMany (λ (i : ℕ). eqb (wordAt events (i * eventWords)) jumpKind && isOpenAt labels known (wordAt events (i * eventWords + 3))) n
+    howMany (λ (i : ℕ). namesLabel (wordAt events (i * eventWords)) && isOpenAt labels known (wordAt events (i * eventWords + 3))) n

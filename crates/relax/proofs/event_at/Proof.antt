@@ -18,12 +18,24 @@ returns c =
 returns-2 : tie.Need-returns-2
 unfolding eventAt eventOf
 returns-2 c =
+    let else1 : tie.Else1 = search in
     let after-word-at5 : tie.After-word-at5 = search in
     let after-word-at4 : tie.After-word-at4 = search in
     let after-word-at3 : tie.After-word-at3 = search in
     let after-word-at2 : tie.After-word-at2 = search in
     let after-word-at : tie.After-word-at = search in
-    rw (← after-word-at .word-at .ensures, ← after-word-at2 .word-at2 .ensures, ← after-word-at3 .word-at3 .ensures, ← after-word-at4 .word-at4 .ensures, ← after-word-at5 .word-at5 .ensures, no-eq _ 1 _ _ (c .if1 .left))
+    rw (← after-word-at .word-at .ensures, ← after-word-at2 .word-at2 .ensures, ← after-word-at3 .word-at3 .ensures, ← after-word-at4 .word-at4 .ensures, ← after-word-at5 .word-at5 .ensures, no-eq _ 1 _ _ (else1 .if1 .left), yes-eq _ 3 _ _ (c .if2 .taken))
+
+returns-3 : tie.Need-returns-3
+unfolding eventAt eventOf
+returns-3 c =
+    let else1 : tie.Else1 = search in
+    let after-word-at5 : tie.After-word-at5 = search in
+    let after-word-at4 : tie.After-word-at4 = search in
+    let after-word-at3 : tie.After-word-at3 = search in
+    let after-word-at2 : tie.After-word-at2 = search in
+    let after-word-at : tie.After-word-at = search in
+    rw (← after-word-at .word-at .ensures, ← after-word-at2 .word-at2 .ensures, ← after-word-at3 .word-at3 .ensures, ← after-word-at4 .word-at4 .ensures, ← after-word-at5 .word-at5 .ensures, no-eq _ 1 _ _ (else1 .if1 .left), no-eq _ 3 _ _ (c .if2 .left))
 
 pub event-at-spec : {M : Type 1} → statement M
 event-at-spec =
@@ -41,4 +53,5 @@ event-at-spec =
     (λ c κs. search needs)
     (λ c κs. search needs)
     returns
-    returns-2)
+    returns-2
+    returns-3)

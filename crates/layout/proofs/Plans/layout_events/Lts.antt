@@ -92,10 +92,13 @@ abbrev pub y8· : Syntax.Ty
 y8· = Syntax.tyStruct (114 ∷ 101 ∷ 108 ∷ 97 ∷ 120 ∷ 58 ∷ 58 ∷ 65 ∷ 108 ∷ 105 ∷ 103 ∷ 110 ∷ 109 ∷ 101 ∷ 110 ∷ 116 ∷ []) (Syntax.tcons y0· (Syntax.tcons y0· (Syntax.tcons y0· (Syntax.tcons y0· Syntax.tnil))))
 
 abbrev pub y9· : Syntax.Ty
-y9· = Syntax.tyStruct (38 ∷ 91 ∷ 93 ∷ []) (Syntax.tcons y2· (Syntax.tcons y1· Syntax.tnil))
+y9· = Syntax.tyStruct (114 ∷ 101 ∷ 108 ∷ 97 ∷ 120 ∷ 58 ∷ 58 ∷ 70 ∷ 97 ∷ 114 ∷ 66 ∷ 114 ∷ 97 ∷ 110 ∷ 99 ∷ 104 ∷ []) (Syntax.tcons y0· (Syntax.tcons y0· (Syntax.tcons y0· (Syntax.tcons y0· Syntax.tnil))))
 
 abbrev pub y10· : Syntax.Ty
-y10· = Syntax.tyRef (Syntax.named 1) Syntax.imm y4·
+y10· = Syntax.tyStruct (38 ∷ 91 ∷ 93 ∷ []) (Syntax.tcons y2· (Syntax.tcons y1· Syntax.tnil))
+
+abbrev pub y11· : Syntax.Ty
+y11· = Syntax.tyRef (Syntax.named 1) Syntax.imm y4·
 
 abbrev pub e0· : RT·.RattleType
 e0· = Referent.rtF (Referent.fInt Syntax.w8)
@@ -107,7 +110,7 @@ abbrev pub r1· : Row.Entry
 r1· = (1, Mut.mslice Segment.the-row y3· 0)
 
 abbrev pub r2· : Row.Entry
-r2· = (2, Rows.sslice e0· y10· 1)
+r2· = (2, Rows.sslice e0· y11· 1)
 
 abbrev pub r3· : Row.Entry
 r3· = (3, Rows.sslice (Referent.rtF Referent.fBool) y5· 2)
@@ -122,7 +125,7 @@ abbrev pub r6· : Row.Entry
 r6· = (6, Rows.any-gone y1·)
 
 abbrev pub r7· : Row.Entry
-r7· = (7, Rows.any-gone (Syntax.tyEnum (114 ∷ 101 ∷ 108 ∷ 97 ∷ 120 ∷ 58 ∷ 58 ∷ 76 ∷ 97 ∷ 121 ∷ 111 ∷ 117 ∷ 116 ∷ 69 ∷ 118 ∷ 101 ∷ 110 ∷ 116 ∷ []) (Syntax.ttcons (Syntax.tcons y7· Syntax.tnil) (Syntax.ttcons (Syntax.tcons y8· Syntax.tnil) Syntax.ttnil))))
+r7· = (7, Rows.any-gone (Syntax.tyEnum (114 ∷ 101 ∷ 108 ∷ 97 ∷ 120 ∷ 58 ∷ 58 ∷ 76 ∷ 97 ∷ 121 ∷ 111 ∷ 117 ∷ 116 ∷ 69 ∷ 118 ∷ 101 ∷ 110 ∷ 116 ∷ []) (Syntax.ttcons (Syntax.tcons y7· Syntax.tnil) (Syntax.ttcons (Syntax.tcons y8· Syntax.tnil) (Syntax.ttcons (Syntax.tcons y9· Syntax.tnil) Syntax.ttnil)))))
 
 abbrev pub r8· : Row.Entry
 r8· = (8, Rows.any-gone Syntax.tyBool)
@@ -137,7 +140,7 @@ abbrev pub r11· : Row.Entry
 r11· = (11, Rows.any-gone y2·)
 
 abbrev pub r12· : Row.Entry
-r12· = (12, Rows.any-gone y9·)
+r12· = (12, Rows.any-gone y10·)
 
 abbrev pub r13· : Row.Entry
 r13· = (0, Rows.whole (Declared'.row Segment.the-type))
@@ -185,7 +188,7 @@ abbrev pub r : Kinds.RK 3
 r = Value.rVal record { ty = Declared'.row Segment.the-type; one = Path'.refl; val = Laws'3.val Segment.the-type Laws'.the-laws; tells = Laws'3.tells Segment.the-type Laws'.the-laws; still = Laws'3.still Segment.the-type Laws'.the-copy Exit.yes; row = Rows.whole (Declared'.row Segment.the-type); rd = λ x. x; mk = λ x. x } λ M 𝓤 H A W. record { copies = Laws'3.copy Segment.the-type Laws'.the-copy 𝓤 H A W; lawful = Laws'3.lawful Segment.the-type Laws'.the-laws 𝓤 H A W; makes = Laws'3.makes Segment.the-type Laws'.the-plain 𝓤 H A; in-mem = Local.mem-whole 𝓤 H A W (Declared'.row Segment.the-type); of-mem = Local.whole-mem 𝓤 H A W (Declared'.row Segment.the-type) }
 
 abbrev pub xs : List.List Syntax.Ty
-xs = y6· ∷ y1· ∷ (Syntax.tyEnum (114 ∷ 101 ∷ 108 ∷ 97 ∷ 120 ∷ 58 ∷ 58 ∷ 76 ∷ 97 ∷ 121 ∷ 111 ∷ 117 ∷ 116 ∷ 69 ∷ 118 ∷ 101 ∷ 110 ∷ 116 ∷ []) (Syntax.ttcons (Syntax.tcons y7· Syntax.tnil) (Syntax.ttcons (Syntax.tcons y8· Syntax.tnil) Syntax.ttnil))) ∷ Syntax.tyBool ∷ Syntax.tyPtr ∷ Syntax.tyUnit ∷ y2· ∷ y9· ∷ []
+xs = y6· ∷ y1· ∷ (Syntax.tyEnum (114 ∷ 101 ∷ 108 ∷ 97 ∷ 120 ∷ 58 ∷ 58 ∷ 76 ∷ 97 ∷ 121 ∷ 111 ∷ 117 ∷ 116 ∷ 69 ∷ 118 ∷ 101 ∷ 110 ∷ 116 ∷ []) (Syntax.ttcons (Syntax.tcons y7· Syntax.tnil) (Syntax.ttcons (Syntax.tcons y8· Syntax.tnil) (Syntax.ttcons (Syntax.tcons y9· Syntax.tnil) Syntax.ttnil)))) ∷ Syntax.tyBool ∷ Syntax.tyPtr ∷ Syntax.tyUnit ∷ y2· ∷ y10· ∷ []
 
 abbrev pub m : Nat.ℕ
 m = 1
@@ -474,7 +477,7 @@ MeasureT-loop = List.List (Segment.the-row .Denot) → List.List (Referent.rtF (
 
 module _ (claims· : Claims) where
   abbrev s0 : Typed.Gives T0 T2
-  s0 = Know.k-shs-known (Referent.fInt Syntax.w8) T0 2 1 y10· Row.off 0 λ x. x
+  s0 = Know.k-shs-known (Referent.fInt Syntax.w8) T0 2 1 y11· Row.off 0 λ x. x
 
   abbrev s1 : Typed.Gives T2 T3
   s1 = Know.k-shs-known Referent.fBool T2 3 2 y5· Row.off Bool'.false λ x. x
@@ -498,7 +501,7 @@ module _ (claims· : Claims) where
   s7 = Scalar.n-room T8 8 Syntax.tyBool
 
   abbrev s8 : Typed.Both T9 T12
-  s8 = Call.callB ps·0 r·0 (claims· .0) (claims· .1) T9 (record { pos = 2; ty = Syntax.tyRef (Syntax.named 1) Syntax.imm y4·; ref = λ x. x }, (Num.vAt 6 λ x. x, tt)) 7 (1 ∷ []) (Syntax.tyEnum (114 ∷ 101 ∷ 108 ∷ 97 ∷ 120 ∷ 58 ∷ 58 ∷ 76 ∷ 97 ∷ 121 ∷ 111 ∷ 117 ∷ 116 ∷ 69 ∷ 118 ∷ 101 ∷ 110 ∷ 116 ∷ []) (Syntax.ttcons (Syntax.tcons y7· Syntax.tnil) (Syntax.ttcons (Syntax.tcons y8· Syntax.tnil) Syntax.ttnil)))
+  s8 = Call.callB ps·0 r·0 (claims· .0) (claims· .1) T9 (record { pos = 2; ty = Syntax.tyRef (Syntax.named 1) Syntax.imm y4·; ref = λ x. x }, (Num.vAt 6 λ x. x, tt)) 7 (1 ∷ []) (Syntax.tyEnum (114 ∷ 101 ∷ 108 ∷ 97 ∷ 120 ∷ 58 ∷ 58 ∷ 76 ∷ 97 ∷ 121 ∷ 111 ∷ 117 ∷ 116 ∷ 69 ∷ 118 ∷ 101 ∷ 110 ∷ 116 ∷ []) (Syntax.ttcons (Syntax.tcons y7· Syntax.tnil) (Syntax.ttcons (Syntax.tcons y8· Syntax.tnil) (Syntax.ttcons (Syntax.tcons y9· Syntax.tnil) Syntax.ttnil))))
 
   abbrev s9 : Typed.Asks T12 T13
   s9 = Scalar.k-op2 T12 Syntax.offset (Scalar.oFld 3 ((Syntax.field 0) ∷ []) y5· 0 Reads'.ptrVal) (Scalar.oAt 6 y1· (Row.valS (Row.sInt Syntax.w64))) 9 (Rows.sc-here Row.sPtr) (Row.sPtr .of)
@@ -516,7 +519,7 @@ module _ (claims· : Claims) where
   s13 = Call.callB ps·1 r·1 (claims· .2) (claims· .3) T16 (record { pos = 7; st = List.[]; d = 0; at = λ x. x }, (Bool.bAt 8 λ x. x, (Num.vFld 5 ((Syntax.field 1) ∷ []) 4 λ x. Segment.struct .as-values x .1 .0, (Num.vFld 5 ((Syntax.field 3) ∷ []) 12 λ x. Segment.struct .as-values x .1 .1 .1 .0, tt)))) 5 List.[] y6·
 
   abbrev s14 : Typed.Mo T17 → Typed.Mo T18
-  s14 = Scalar.n-room T17 7 (Syntax.tyEnum (114 ∷ 101 ∷ 108 ∷ 97 ∷ 120 ∷ 58 ∷ 58 ∷ 76 ∷ 97 ∷ 121 ∷ 111 ∷ 117 ∷ 116 ∷ 69 ∷ 118 ∷ 101 ∷ 110 ∷ 116 ∷ []) (Syntax.ttcons (Syntax.tcons y7· Syntax.tnil) (Syntax.ttcons (Syntax.tcons y8· Syntax.tnil) Syntax.ttnil)))
+  s14 = Scalar.n-room T17 7 (Syntax.tyEnum (114 ∷ 101 ∷ 108 ∷ 97 ∷ 120 ∷ 58 ∷ 58 ∷ 76 ∷ 97 ∷ 121 ∷ 111 ∷ 117 ∷ 116 ∷ 69 ∷ 118 ∷ 101 ∷ 110 ∷ 116 ∷ []) (Syntax.ttcons (Syntax.tcons y7· Syntax.tnil) (Syntax.ttcons (Syntax.tcons y8· Syntax.tnil) (Syntax.ttcons (Syntax.tcons y9· Syntax.tnil) Syntax.ttnil))))
 
   abbrev s15 : Typed.Mo T18 → Typed.Mo T19
   s15 = Scalar.n-room T18 8 Syntax.tyBool
@@ -870,7 +873,7 @@ module _ (claims· : Claims) where
           d10 = Typed.s-seq 𝓤 H A W 𝓣 E G22 G23 b12 b13 Δ3 (Typed.both s19) at9 (Plain.t-call-plain 𝓤 H A W 𝓣 1 ps·2 r·2 (claims· .4) (claims· .5) "layout::put_segment" (known .2) E (λ pos β. β) G22 (record { pos = 12; ty = Syntax.tyRef Syntax.erased Syntax.mut (MEM·.pointee (Segment.the-row .written)); ref = λ x. x }, (Num.vAt 6 λ x. x, (record { pos = 5; st = List.[]; d = 0; at = λ x. x }, tt))) 10 (3 ∷ []) (Call.sub-id 𝓤 H A W (G22 .slots)) (Reads'.as-is 𝓤 H A (Mut.mslice Segment.the-row y2· 3), Mut.reads-mslice 𝓤 H A W Segment.the-row y2· 3, Path'.refl, ((Scalar.reads-sc 𝓤 H A W (Row.sInt Syntax.w64), Path'.refl), ((Yields.yields-copy 𝓤 H A W (λ ρ. Unit) (Declared'.row Segment.the-type) Path'.refl (Copies.cStruct Segment.the-type Laws'.the-laws Laws'.the-copy .copy 𝓤 H A W) (Rows.whole (Declared'.row Segment.the-type)) (λ x. x) (λ x. x) (λ ρ told. Local.mem-whole 𝓤 H A W (Declared'.row Segment.the-type) ρ) λ ρ told. Local.whole-mem 𝓤 H A W (Declared'.row Segment.the-type) ρ, Path'.refl), tt))) (Reads'.room-gone 𝓤 H A Syntax.tyUnit) (tt, tt) Path'.refl) d9
 
           d11 : Typed.Typed 𝓤 H A 𝓣 E G21 b15 Δ3 at11
-          d11 = Typed.s-seq 𝓤 H A W 𝓣 E G21 G22 b11 b14 Δ3 (Typed.ask s18) at10 (Relend.t-sl-aggregate 𝓤 H A W E Segment.the-row 𝓣 (Relend.asMut Segment.the-row) G21 11 12 3 y2· y2· (λ x. x) (Scalar.oFld 1 ((Syntax.field 1) ∷ []) y1· 8 λ v. Shared.lenV (v .0)) (Reads'.as-is 𝓤 H A (Relend.msptr Segment.the-row y2· 3)) (Reads'.room-gone 𝓤 H A y9·) (Relend.reads-owed-len 𝓤 H A W Segment.the-row y3· 0 3 k0· 8 Path'.refl, Path'.refl) Path'.refl Path'.refl λ b o k. tt) d10
+          d11 = Typed.s-seq 𝓤 H A W 𝓣 E G21 G22 b11 b14 Δ3 (Typed.ask s18) at10 (Relend.t-sl-aggregate 𝓤 H A W E Segment.the-row 𝓣 (Relend.asMut Segment.the-row) G21 11 12 3 y2· y2· (λ x. x) (Scalar.oFld 1 ((Syntax.field 1) ∷ []) y1· 8 λ v. Shared.lenV (v .0)) (Reads'.as-is 𝓤 H A (Relend.msptr Segment.the-row y2· 3)) (Reads'.room-gone 𝓤 H A y10·) (Relend.reads-owed-len 𝓤 H A W Segment.the-row y3· 0 3 k0· 8 Path'.refl, Path'.refl) Path'.refl Path'.refl λ b o k. tt) d10
 
           d12 : Typed.Typed 𝓤 H A 𝓣 E G20 b16 Δ3 at12
           d12 = Typed.s-seq 𝓤 H A W 𝓣 E G20 G21 b10 b15 Δ3 (Typed.give s17) at11 (Relend.t-sl-relend 𝓤 H A W E Segment.the-row 𝓣 G20 1 11 0 3 y3· y2· k0· 0 (λ x. x) (Reads'.as-is 𝓤 H A (Mut.mslice Segment.the-row y3· 0)) (Reads'.room-gone 𝓤 H A y2·) Path'.refl tt Path'.refl Path'.refl Path'.refl λ b o. tt) d11
@@ -882,7 +885,7 @@ module _ (claims· : Claims) where
           d14 = Typed.g-pre 𝓤 H A W 𝓣 E G18 G19 b16 Δ3 (Typed.pass T18 T19 s15) at13 (Scalar.g-room 𝓤 H A W E G18 8 Syntax.tyBool (Scalar.room-sc 𝓤 H A W Row.sBool)) d13
 
           d15 : Typed.Typed 𝓤 H A 𝓣 E G17 b16 Δ3 at15
-          d15 = Typed.g-pre 𝓤 H A W 𝓣 E G17 G18 b16 Δ3 (Typed.pass T17 T18 s14) at14 (Scalar.g-room 𝓤 H A W E G17 7 (Syntax.tyEnum (114 ∷ 101 ∷ 108 ∷ 97 ∷ 120 ∷ 58 ∷ 58 ∷ 76 ∷ 97 ∷ 121 ∷ 111 ∷ 117 ∷ 116 ∷ 69 ∷ 118 ∷ 101 ∷ 110 ∷ 116 ∷ []) (Syntax.ttcons (Syntax.tcons y7· Syntax.tnil) (Syntax.ttcons (Syntax.tcons y8· Syntax.tnil) Syntax.ttnil))) (Local.room-whole 𝓤 H A W (Declared.row LayoutEvent.the-type) (Syntax.tyEnum (114 ∷ 101 ∷ 108 ∷ 97 ∷ 120 ∷ 58 ∷ 58 ∷ 76 ∷ 97 ∷ 121 ∷ 111 ∷ 117 ∷ 116 ∷ 69 ∷ 118 ∷ 101 ∷ 110 ∷ 116 ∷ []) (Syntax.ttcons (Syntax.tcons y7· Syntax.tnil) (Syntax.ttcons (Syntax.tcons y8· Syntax.tnil) Syntax.ttnil))) Path'.refl)) d14
+          d15 = Typed.g-pre 𝓤 H A W 𝓣 E G17 G18 b16 Δ3 (Typed.pass T17 T18 s14) at14 (Scalar.g-room 𝓤 H A W E G17 7 (Syntax.tyEnum (114 ∷ 101 ∷ 108 ∷ 97 ∷ 120 ∷ 58 ∷ 58 ∷ 76 ∷ 97 ∷ 121 ∷ 111 ∷ 117 ∷ 116 ∷ 69 ∷ 118 ∷ 101 ∷ 110 ∷ 116 ∷ []) (Syntax.ttcons (Syntax.tcons y7· Syntax.tnil) (Syntax.ttcons (Syntax.tcons y8· Syntax.tnil) (Syntax.ttcons (Syntax.tcons y9· Syntax.tnil) Syntax.ttnil)))) (Local.room-whole 𝓤 H A W (Declared.row LayoutEvent.the-type) (Syntax.tyEnum (114 ∷ 101 ∷ 108 ∷ 97 ∷ 120 ∷ 58 ∷ 58 ∷ 76 ∷ 97 ∷ 121 ∷ 111 ∷ 117 ∷ 116 ∷ 69 ∷ 118 ∷ 101 ∷ 110 ∷ 116 ∷ []) (Syntax.ttcons (Syntax.tcons y7· Syntax.tnil) (Syntax.ttcons (Syntax.tcons y8· Syntax.tnil) (Syntax.ttcons (Syntax.tcons y9· Syntax.tnil) Syntax.ttnil)))) Path'.refl)) d14
 
           d16 : Typed.Typed 𝓤 H A 𝓣 E G16 b17 Δ3 at16
           d16 = Typed.s-seq 𝓤 H A W 𝓣 E G16 G17 b9 b16 Δ3 (Typed.both s13) at15 (Plain.t-call-plain 𝓤 H A W 𝓣 0 ps·1 r·1 (claims· .2) (claims· .3) "layout::next_segment" (known .1) E (λ pos β. β) G16 (record { pos = 7; st = List.[]; d = 0; at = λ x. x }, (Bool.bAt 8 λ x. x, (Num.vFld 5 ((Syntax.field 1) ∷ []) 4 λ x. Segment.struct .as-values x .1 .0, (Num.vFld 5 ((Syntax.field 3) ∷ []) 12 λ x. Segment.struct .as-values x .1 .1 .1 .0, tt)))) 5 List.[] (Call.sub-id 𝓤 H A W (G16 .slots)) ((Yields.yields-copy 𝓤 H A W (λ ρ. Unit) (Declared.row LayoutEvent.the-type) Path'.refl (Copies.cEnum LayoutEvent.the-type Laws.the-laws Laws.the-copy .copy 𝓤 H A W) (Rows.whole (Declared.row LayoutEvent.the-type)) (λ x. x) (λ x. x) (λ ρ told. Local.mem-whole 𝓤 H A W (Declared.row LayoutEvent.the-type) ρ) λ ρ told. Local.whole-mem 𝓤 H A W (Declared.row LayoutEvent.the-type) ρ, Path'.refl), ((Scalar.reads-sc 𝓤 H A W Row.sBool, Path'.refl), ((Reads.reads-field 𝓤 H A W Segment.the-type Laws'.the-laws 1 y0· 4 Path'.refl, Path'.refl), ((Reads.reads-field 𝓤 H A W Segment.the-type Laws'.the-laws 3 y0· 12 Path'.refl, Path'.refl), tt)))) (Local.room-whole 𝓤 H A W (Declared'.row Segment.the-type) y6· Path'.refl) tt Path'.refl) d15
@@ -900,7 +903,7 @@ module _ (claims· : Claims) where
           d20 = Typed.s-seq 𝓤 H A W 𝓣 E G12 G13 b7 b18 Δ3 (Typed.ask s9) at19 (Scalar.t-op2 𝓤 H A W E 𝓣 G12 Syntax.offset (Scalar.oFld 3 ((Syntax.field 0) ∷ []) y5· 0 Reads'.ptrVal) (Scalar.oAt 6 y1· (Row.valS (Row.sInt Syntax.w64))) 9 (Rows.sc-here Row.sPtr) Syntax.tyPtr (Row.valS Row.sPtr) (Row.sPtr .of) (Shared.reads-sslice-ptr 𝓤 H A W (Referent.rtF Referent.fBool) y5· 2 0 Path'.refl, Path'.refl) (Scalar.reads-sc 𝓤 H A W (Row.sInt Syntax.w64), Path'.refl) (Reads'.room-gone 𝓤 H A Syntax.tyPtr) (Scalar.holds-sc 𝓤 H A W Row.sPtr) Path'.refl (λ u. Path'.refl) λ u. tt) d19
 
           d21 : Typed.Typed 𝓤 H A 𝓣 E G9 b20 Δ3 at21
-          d21 = Typed.s-seq 𝓤 H A W 𝓣 E G9 G12 b6 b19 Δ3 (Typed.both s8) at20 (Plain.t-call-plain 𝓤 H A W 𝓣 1 ps·0 r·0 (claims· .0) (claims· .1) "relax::event_at" (known .0) E (λ pos β. β) G9 (record { pos = 2; ty = Syntax.tyRef (Syntax.named 1) Syntax.imm y4·; ref = λ x. x }, (Num.vAt 6 λ x. x, tt)) 7 (1 ∷ []) (Call.sub-id 𝓤 H A W (G9 .slots)) (ShrSlice.spares-sslice 𝓤 H A W e0· y10· 1, Shared.reads-sslice 𝓤 H A W e0· y10· 1, Path'.refl, ((Scalar.reads-sc 𝓤 H A W (Row.sInt Syntax.w64), Path'.refl), tt)) (Reads'.room-gone 𝓤 H A (Syntax.tyEnum (114 ∷ 101 ∷ 108 ∷ 97 ∷ 120 ∷ 58 ∷ 58 ∷ 76 ∷ 97 ∷ 121 ∷ 111 ∷ 117 ∷ 116 ∷ 69 ∷ 118 ∷ 101 ∷ 110 ∷ 116 ∷ []) (Syntax.ttcons (Syntax.tcons y7· Syntax.tnil) (Syntax.ttcons (Syntax.tcons y8· Syntax.tnil) Syntax.ttnil)))) (tt, tt) Path'.refl) d20
+          d21 = Typed.s-seq 𝓤 H A W 𝓣 E G9 G12 b6 b19 Δ3 (Typed.both s8) at20 (Plain.t-call-plain 𝓤 H A W 𝓣 1 ps·0 r·0 (claims· .0) (claims· .1) "relax::event_at" (known .0) E (λ pos β. β) G9 (record { pos = 2; ty = Syntax.tyRef (Syntax.named 1) Syntax.imm y4·; ref = λ x. x }, (Num.vAt 6 λ x. x, tt)) 7 (1 ∷ []) (Call.sub-id 𝓤 H A W (G9 .slots)) (ShrSlice.spares-sslice 𝓤 H A W e0· y11· 1, Shared.reads-sslice 𝓤 H A W e0· y11· 1, Path'.refl, ((Scalar.reads-sc 𝓤 H A W (Row.sInt Syntax.w64), Path'.refl), tt)) (Reads'.room-gone 𝓤 H A (Syntax.tyEnum (114 ∷ 101 ∷ 108 ∷ 97 ∷ 120 ∷ 58 ∷ 58 ∷ 76 ∷ 97 ∷ 121 ∷ 111 ∷ 117 ∷ 116 ∷ 69 ∷ 118 ∷ 101 ∷ 110 ∷ 116 ∷ []) (Syntax.ttcons (Syntax.tcons y7· Syntax.tnil) (Syntax.ttcons (Syntax.tcons y8· Syntax.tnil) (Syntax.ttcons (Syntax.tcons y9· Syntax.tnil) Syntax.ttnil))))) (tt, tt) Path'.refl) d20
 
           d22 : Typed.Typed 𝓤 H A 𝓣 E G8 b21 Δ3 at22
           d22 = Typed.t-seq 𝓤 H A W 𝓣 E G8 G9 b5 b20 Δ3 at4 at21 d4 d21
@@ -945,7 +948,7 @@ module _ (claims· : Claims) where
           d35 = Typed.g-pre 𝓤 H A W 𝓣 E G2 G3 b30 Δ0 (Typed.give s1) at34 (Know.g-shs-known 𝓤 H A W Referent.fBool E G2 3 2 y5· k2· Bool'.false (λ x. x) tt (Reads'.as-is 𝓤 H A (Rows.sslice (Referent.rtF Referent.fBool) y5· 2)) Path'.refl tt) d34
 
           d36 : Typed.Typed 𝓤 H A 𝓣 E G0 b30 Δ0 at36
-          d36 = Typed.g-pre 𝓤 H A W 𝓣 E G0 G2 b30 Δ0 (Typed.give s0) at35 (Know.g-shs-known 𝓤 H A W (Referent.fInt Syntax.w8) E G0 2 1 y10· k1· 0 (λ x. x) record { fits = Dec'.lit< tt } (Reads'.as-is 𝓤 H A (Rows.sslice e0· y10· 1)) Path'.refl tt) d35
+          d36 = Typed.g-pre 𝓤 H A W 𝓣 E G0 G2 b30 Δ0 (Typed.give s0) at35 (Know.g-shs-known 𝓤 H A W (Referent.fInt Syntax.w8) E G0 2 1 y11· k1· 0 (λ x. x) record { fits = Dec'.lit< tt } (Reads'.as-is 𝓤 H A (Rows.sslice e0· y11· 1)) Path'.refl tt) d35
 
           pub typed : Typed.Typed 𝓤 H A 𝓣 E (Function.Γin 3 ps r xs m κs qs) b30 (Function.Δret 3 ps r xs m κs qs) Φ
           typed = d36

@@ -73,7 +73,10 @@ abbrev pub y6· : Syntax.Ty
 y6· = Syntax.tyStruct (114 ∷ 101 ∷ 108 ∷ 97 ∷ 120 ∷ 58 ∷ 58 ∷ 65 ∷ 108 ∷ 105 ∷ 103 ∷ 110 ∷ 109 ∷ 101 ∷ 110 ∷ 116 ∷ []) (Syntax.tcons y0· (Syntax.tcons y0· (Syntax.tcons y0· (Syntax.tcons y0· Syntax.tnil))))
 
 abbrev pub y7· : Syntax.Ty
-y7· = Syntax.tyRef (Syntax.named 1) Syntax.imm y3·
+y7· = Syntax.tyStruct (114 ∷ 101 ∷ 108 ∷ 97 ∷ 120 ∷ 58 ∷ 58 ∷ 70 ∷ 97 ∷ 114 ∷ 66 ∷ 114 ∷ 97 ∷ 110 ∷ 99 ∷ 104 ∷ []) (Syntax.tcons y0· (Syntax.tcons y0· (Syntax.tcons y0· (Syntax.tcons y0· Syntax.tnil))))
+
+abbrev pub y8· : Syntax.Ty
+y8· = Syntax.tyRef (Syntax.named 1) Syntax.imm y3·
 
 abbrev pub e0· : RT·.RattleType
 e0· = Referent.rtF (Referent.fInt Syntax.w8)
@@ -85,7 +88,7 @@ abbrev pub r1· : Row.Entry
 r1· = (1, Rows.sslice Segment.the-row y2· 0)
 
 abbrev pub r2· : Row.Entry
-r2· = (2, Rows.sslice e0· y7· 1)
+r2· = (2, Rows.sslice e0· y8· 1)
 
 abbrev pub r3· : Row.Entry
 r3· = (3, Rows.sc-here (Row.sInt Syntax.w64))
@@ -103,7 +106,7 @@ abbrev pub r7· : Row.Entry
 r7· = (7, Rows.any-gone y1·)
 
 abbrev pub r8· : Row.Entry
-r8· = (8, Rows.any-gone (Syntax.tyEnum (114 ∷ 101 ∷ 108 ∷ 97 ∷ 120 ∷ 58 ∷ 58 ∷ 76 ∷ 97 ∷ 121 ∷ 111 ∷ 117 ∷ 116 ∷ 69 ∷ 118 ∷ 101 ∷ 110 ∷ 116 ∷ []) (Syntax.ttcons (Syntax.tcons y5· Syntax.tnil) (Syntax.ttcons (Syntax.tcons y6· Syntax.tnil) Syntax.ttnil))))
+r8· = (8, Rows.any-gone (Syntax.tyEnum (114 ∷ 101 ∷ 108 ∷ 97 ∷ 120 ∷ 58 ∷ 58 ∷ 76 ∷ 97 ∷ 121 ∷ 111 ∷ 117 ∷ 116 ∷ 69 ∷ 118 ∷ 101 ∷ 110 ∷ 116 ∷ []) (Syntax.ttcons (Syntax.tcons y5· Syntax.tnil) (Syntax.ttcons (Syntax.tcons y6· Syntax.tnil) (Syntax.ttcons (Syntax.tcons y7· Syntax.tnil) Syntax.ttnil)))))
 
 abbrev pub r9· : Row.Entry
 r9· = (0, Rows.sc-here (Row.sInt Syntax.w32))
@@ -133,7 +136,7 @@ abbrev pub r : Kinds.RK 2
 r = Num.rNum Syntax.w32
 
 abbrev pub xs : List.List Syntax.Ty
-xs = y4· ∷ Syntax.tyBool ∷ y1· ∷ (Syntax.tyEnum (114 ∷ 101 ∷ 108 ∷ 97 ∷ 120 ∷ 58 ∷ 58 ∷ 76 ∷ 97 ∷ 121 ∷ 111 ∷ 117 ∷ 116 ∷ 69 ∷ 118 ∷ 101 ∷ 110 ∷ 116 ∷ []) (Syntax.ttcons (Syntax.tcons y5· Syntax.tnil) (Syntax.ttcons (Syntax.tcons y6· Syntax.tnil) Syntax.ttnil))) ∷ []
+xs = y4· ∷ Syntax.tyBool ∷ y1· ∷ (Syntax.tyEnum (114 ∷ 101 ∷ 108 ∷ 97 ∷ 120 ∷ 58 ∷ 58 ∷ 76 ∷ 97 ∷ 121 ∷ 111 ∷ 117 ∷ 116 ∷ 69 ∷ 118 ∷ 101 ∷ 110 ∷ 116 ∷ []) (Syntax.ttcons (Syntax.tcons y5· Syntax.tnil) (Syntax.ttcons (Syntax.tcons y6· Syntax.tnil) (Syntax.ttcons (Syntax.tcons y7· Syntax.tnil) Syntax.ttnil)))) ∷ []
 
 abbrev pub m : Nat.ℕ
 m = 0
@@ -314,7 +317,7 @@ O1 = Typed.withNext (Option.some T4) O0
 
 module _ (claims· : Claims) where
   abbrev s0 : Typed.Gives T0 T2
-  s0 = Know.k-shs-known (Referent.fInt Syntax.w8) T0 2 1 y7· Row.off 0 λ x. x
+  s0 = Know.k-shs-known (Referent.fInt Syntax.w8) T0 2 1 y8· Row.off 0 λ x. x
 
   abbrev s1 : Typed.Asks T2 T3
   s1 = Scalar.k-op2 T2 (Syntax.lt Syntax.unsigned) (Scalar.oAt 4 y1· (Row.valS (Row.sInt Syntax.w64))) (Scalar.oAt 3 y1· (Row.valS (Row.sInt Syntax.w64))) 6 (Rows.sc-here Row.sBool) (Row.sBool .of)
@@ -323,13 +326,13 @@ module _ (claims· : Claims) where
   s2 = Scalar.n-room T3 6 Syntax.tyBool
 
   abbrev s3 : Typed.Both T5 T6
-  s3 = Call.callB ps·0 r·0 (claims· .0) (claims· .1) T5 (record { pos = 2; ty = Syntax.tyRef (Syntax.named 1) Syntax.imm y3·; ref = λ x. x }, (Num.vAt 4 λ x. x, tt)) 8 (1 ∷ []) (Syntax.tyEnum (114 ∷ 101 ∷ 108 ∷ 97 ∷ 120 ∷ 58 ∷ 58 ∷ 76 ∷ 97 ∷ 121 ∷ 111 ∷ 117 ∷ 116 ∷ 69 ∷ 118 ∷ 101 ∷ 110 ∷ 116 ∷ []) (Syntax.ttcons (Syntax.tcons y5· Syntax.tnil) (Syntax.ttcons (Syntax.tcons y6· Syntax.tnil) Syntax.ttnil)))
+  s3 = Call.callB ps·0 r·0 (claims· .0) (claims· .1) T5 (record { pos = 2; ty = Syntax.tyRef (Syntax.named 1) Syntax.imm y3·; ref = λ x. x }, (Num.vAt 4 λ x. x, tt)) 8 (1 ∷ []) (Syntax.tyEnum (114 ∷ 101 ∷ 108 ∷ 97 ∷ 120 ∷ 58 ∷ 58 ∷ 76 ∷ 97 ∷ 121 ∷ 111 ∷ 117 ∷ 116 ∷ 69 ∷ 118 ∷ 101 ∷ 110 ∷ 116 ∷ []) (Syntax.ttcons (Syntax.tcons y5· Syntax.tnil) (Syntax.ttcons (Syntax.tcons y6· Syntax.tnil) (Syntax.ttcons (Syntax.tcons y7· Syntax.tnil) Syntax.ttnil))))
 
   abbrev s4 : Typed.Both T6 T7
   s4 = Call.callB ps·1 r·1 (claims· .2) (claims· .3) T6 (record { pos = 8; st = List.[]; d = 0; at = λ x. x }, tt) 7 List.[] y1·
 
   abbrev s5 : Typed.Mo T7 → Typed.Mo T8
-  s5 = Scalar.n-room T7 8 (Syntax.tyEnum (114 ∷ 101 ∷ 108 ∷ 97 ∷ 120 ∷ 58 ∷ 58 ∷ 76 ∷ 97 ∷ 121 ∷ 111 ∷ 117 ∷ 116 ∷ 69 ∷ 118 ∷ 101 ∷ 110 ∷ 116 ∷ []) (Syntax.ttcons (Syntax.tcons y5· Syntax.tnil) (Syntax.ttcons (Syntax.tcons y6· Syntax.tnil) Syntax.ttnil)))
+  s5 = Scalar.n-room T7 8 (Syntax.tyEnum (114 ∷ 101 ∷ 108 ∷ 97 ∷ 120 ∷ 58 ∷ 58 ∷ 76 ∷ 97 ∷ 121 ∷ 111 ∷ 117 ∷ 116 ∷ 69 ∷ 118 ∷ 101 ∷ 110 ∷ 116 ∷ []) (Syntax.ttcons (Syntax.tcons y5· Syntax.tnil) (Syntax.ttcons (Syntax.tcons y6· Syntax.tnil) (Syntax.ttcons (Syntax.tcons y7· Syntax.tnil) Syntax.ttnil))))
 
   abbrev s6 : Typed.Asks T8 T9
   s6 = Scalar.k-op1 T8 (Syntax.cast Syntax.unsigned Syntax.unsigned Syntax.w32) (Scalar.oAt 7 y1· (Row.valS (Row.sInt Syntax.w64))) 0 (Rows.sc-here (Row.sInt Syntax.w32)) (Row.sInt Syntax.w32 .of)
@@ -530,13 +533,13 @@ module _ (claims· : Claims) where
           d4 = Typed.s-seq 𝓤 H A W 𝓣 E G8 G9 b3 b4 Δ1 (Typed.ask s6) at3 (Scalar.t-op1 𝓤 H A W E 𝓣 G8 (Syntax.cast Syntax.unsigned Syntax.unsigned Syntax.w32) (Scalar.oAt 7 y1· (Row.valS (Row.sInt Syntax.w64))) 0 (Rows.sc-here (Row.sInt Syntax.w32)) y0· (Row.valS (Row.sInt Syntax.w32)) (Row.sInt Syntax.w32 .of) (Scalar.reads-sc 𝓤 H A W (Row.sInt Syntax.w64), Path'.refl) (Reads'.room-gone 𝓤 H A y0·) (Scalar.holds-sc 𝓤 H A W (Row.sInt Syntax.w32)) Path'.refl (λ u. Path'.refl) λ u. tt) d3
 
           d5 : Typed.Typed 𝓤 H A 𝓣 E G7 b5 Δ1 at5
-          d5 = Typed.g-pre 𝓤 H A W 𝓣 E G7 G8 b5 Δ1 (Typed.pass T7 T8 s5) at4 (Scalar.g-room 𝓤 H A W E G7 8 (Syntax.tyEnum (114 ∷ 101 ∷ 108 ∷ 97 ∷ 120 ∷ 58 ∷ 58 ∷ 76 ∷ 97 ∷ 121 ∷ 111 ∷ 117 ∷ 116 ∷ 69 ∷ 118 ∷ 101 ∷ 110 ∷ 116 ∷ []) (Syntax.ttcons (Syntax.tcons y5· Syntax.tnil) (Syntax.ttcons (Syntax.tcons y6· Syntax.tnil) Syntax.ttnil))) (Local.room-whole 𝓤 H A W (Declared.row LayoutEvent.the-type) (Syntax.tyEnum (114 ∷ 101 ∷ 108 ∷ 97 ∷ 120 ∷ 58 ∷ 58 ∷ 76 ∷ 97 ∷ 121 ∷ 111 ∷ 117 ∷ 116 ∷ 69 ∷ 118 ∷ 101 ∷ 110 ∷ 116 ∷ []) (Syntax.ttcons (Syntax.tcons y5· Syntax.tnil) (Syntax.ttcons (Syntax.tcons y6· Syntax.tnil) Syntax.ttnil))) Path'.refl)) d4
+          d5 = Typed.g-pre 𝓤 H A W 𝓣 E G7 G8 b5 Δ1 (Typed.pass T7 T8 s5) at4 (Scalar.g-room 𝓤 H A W E G7 8 (Syntax.tyEnum (114 ∷ 101 ∷ 108 ∷ 97 ∷ 120 ∷ 58 ∷ 58 ∷ 76 ∷ 97 ∷ 121 ∷ 111 ∷ 117 ∷ 116 ∷ 69 ∷ 118 ∷ 101 ∷ 110 ∷ 116 ∷ []) (Syntax.ttcons (Syntax.tcons y5· Syntax.tnil) (Syntax.ttcons (Syntax.tcons y6· Syntax.tnil) (Syntax.ttcons (Syntax.tcons y7· Syntax.tnil) Syntax.ttnil)))) (Local.room-whole 𝓤 H A W (Declared.row LayoutEvent.the-type) (Syntax.tyEnum (114 ∷ 101 ∷ 108 ∷ 97 ∷ 120 ∷ 58 ∷ 58 ∷ 76 ∷ 97 ∷ 121 ∷ 111 ∷ 117 ∷ 116 ∷ 69 ∷ 118 ∷ 101 ∷ 110 ∷ 116 ∷ []) (Syntax.ttcons (Syntax.tcons y5· Syntax.tnil) (Syntax.ttcons (Syntax.tcons y6· Syntax.tnil) (Syntax.ttcons (Syntax.tcons y7· Syntax.tnil) Syntax.ttnil)))) Path'.refl)) d4
 
           d6 : Typed.Typed 𝓤 H A 𝓣 E G6 b6 Δ1 at6
           d6 = Typed.s-seq 𝓤 H A W 𝓣 E G6 G7 b2 b5 Δ1 (Typed.both s4) at5 (Plain.t-call-plain 𝓤 H A W 𝓣 0 ps·1 r·1 (claims· .2) (claims· .3) "relax::event_end" (known .1) E (λ pos β. β) G6 (record { pos = 8; st = List.[]; d = 0; at = λ x. x }, tt) 7 List.[] (Call.sub-id 𝓤 H A W (G6 .slots)) ((Yields.yields-copy 𝓤 H A W (λ ρ. Unit) (Declared.row LayoutEvent.the-type) Path'.refl (Copies.cEnum LayoutEvent.the-type Laws.the-laws Laws.the-copy .copy 𝓤 H A W) (Rows.whole (Declared.row LayoutEvent.the-type)) (λ x. x) (λ x. x) (λ ρ told. Local.mem-whole 𝓤 H A W (Declared.row LayoutEvent.the-type) ρ) λ ρ told. Local.whole-mem 𝓤 H A W (Declared.row LayoutEvent.the-type) ρ, Path'.refl), tt) (Reads'.room-gone 𝓤 H A y1·) tt Path'.refl) d5
 
           d7 : Typed.Typed 𝓤 H A 𝓣 E G5 b7 Δ1 at7
-          d7 = Typed.s-seq 𝓤 H A W 𝓣 E G5 G6 b1 b6 Δ1 (Typed.both s3) at6 (Plain.t-call-plain 𝓤 H A W 𝓣 1 ps·0 r·0 (claims· .0) (claims· .1) "relax::event_at" (known .0) E (λ pos β. β) G5 (record { pos = 2; ty = Syntax.tyRef (Syntax.named 1) Syntax.imm y3·; ref = λ x. x }, (Num.vAt 4 λ x. x, tt)) 8 (1 ∷ []) (Call.sub-id 𝓤 H A W (G5 .slots)) (ShrSlice.spares-sslice 𝓤 H A W e0· y7· 1, Shared.reads-sslice 𝓤 H A W e0· y7· 1, Path'.refl, ((Scalar.reads-sc 𝓤 H A W (Row.sInt Syntax.w64), Path'.refl), tt)) (Reads'.room-gone 𝓤 H A (Syntax.tyEnum (114 ∷ 101 ∷ 108 ∷ 97 ∷ 120 ∷ 58 ∷ 58 ∷ 76 ∷ 97 ∷ 121 ∷ 111 ∷ 117 ∷ 116 ∷ 69 ∷ 118 ∷ 101 ∷ 110 ∷ 116 ∷ []) (Syntax.ttcons (Syntax.tcons y5· Syntax.tnil) (Syntax.ttcons (Syntax.tcons y6· Syntax.tnil) Syntax.ttnil)))) (tt, tt) Path'.refl) d6
+          d7 = Typed.s-seq 𝓤 H A W 𝓣 E G5 G6 b1 b6 Δ1 (Typed.both s3) at6 (Plain.t-call-plain 𝓤 H A W 𝓣 1 ps·0 r·0 (claims· .0) (claims· .1) "relax::event_at" (known .0) E (λ pos β. β) G5 (record { pos = 2; ty = Syntax.tyRef (Syntax.named 1) Syntax.imm y3·; ref = λ x. x }, (Num.vAt 4 λ x. x, tt)) 8 (1 ∷ []) (Call.sub-id 𝓤 H A W (G5 .slots)) (ShrSlice.spares-sslice 𝓤 H A W e0· y8· 1, Shared.reads-sslice 𝓤 H A W e0· y8· 1, Path'.refl, ((Scalar.reads-sc 𝓤 H A W (Row.sInt Syntax.w64), Path'.refl), tt)) (Reads'.room-gone 𝓤 H A (Syntax.tyEnum (114 ∷ 101 ∷ 108 ∷ 97 ∷ 120 ∷ 58 ∷ 58 ∷ 76 ∷ 97 ∷ 121 ∷ 111 ∷ 117 ∷ 116 ∷ 69 ∷ 118 ∷ 101 ∷ 110 ∷ 116 ∷ []) (Syntax.ttcons (Syntax.tcons y5· Syntax.tnil) (Syntax.ttcons (Syntax.tcons y6· Syntax.tnil) (Syntax.ttcons (Syntax.tcons y7· Syntax.tnil) Syntax.ttnil))))) (tt, tt) Path'.refl) d6
 
           d8 : Typed.Typed 𝓤 H A 𝓣 E G3 b7 Δ1 at8
           d8 = Typed.g-pre 𝓤 H A W 𝓣 E G3 G5 b7 Δ1 (Typed.pass T3 T5 s2) at7 (Scalar.g-room 𝓤 H A W E G3 6 Syntax.tyBool (Scalar.room-sc 𝓤 H A W Row.sBool)) d7
@@ -575,7 +578,7 @@ module _ (claims· : Claims) where
           d19 = Typed.s-seq 𝓤 H A W 𝓣 E G2 G3 b0 b15 Δ0 (Typed.ask s1) at18 (Scalar.t-op2 𝓤 H A W E 𝓣 G2 (Syntax.lt Syntax.unsigned) (Scalar.oAt 4 y1· (Row.valS (Row.sInt Syntax.w64))) (Scalar.oAt 3 y1· (Row.valS (Row.sInt Syntax.w64))) 6 (Rows.sc-here Row.sBool) Syntax.tyBool (Row.valS Row.sBool) (Row.sBool .of) (Scalar.reads-sc 𝓤 H A W (Row.sInt Syntax.w64), Path'.refl) (Scalar.reads-sc 𝓤 H A W (Row.sInt Syntax.w64), Path'.refl) (Reads'.room-gone 𝓤 H A Syntax.tyBool) (Scalar.holds-sc 𝓤 H A W Row.sBool) Path'.refl (λ u. Path'.refl) λ u. tt) d18
 
           d20 : Typed.Typed 𝓤 H A 𝓣 E G0 b16 Δ0 at20
-          d20 = Typed.g-pre 𝓤 H A W 𝓣 E G0 G2 b16 Δ0 (Typed.give s0) at19 (Know.g-shs-known 𝓤 H A W (Referent.fInt Syntax.w8) E G0 2 1 y7· k1· 0 (λ x. x) record { fits = Dec'.lit< tt } (Reads'.as-is 𝓤 H A (Rows.sslice e0· y7· 1)) Path'.refl tt) d19
+          d20 = Typed.g-pre 𝓤 H A W 𝓣 E G0 G2 b16 Δ0 (Typed.give s0) at19 (Know.g-shs-known 𝓤 H A W (Referent.fInt Syntax.w8) E G0 2 1 y8· k1· 0 (λ x. x) record { fits = Dec'.lit< tt } (Reads'.as-is 𝓤 H A (Rows.sslice e0· y8· 1)) Path'.refl tt) d19
 
           pub typed : Typed.Typed 𝓤 H A 𝓣 E (Function.Γin 2 ps r xs m κs qs) b16 (Function.Δret 2 ps r xs m κs qs) Φ
           typed = d20

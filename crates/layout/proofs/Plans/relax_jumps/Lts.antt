@@ -483,10 +483,10 @@ ps·3 = (MutSlice.pMutS ROW·.the-row 0 tt) ∷ (ShrSlice.pShrS e0· 1 tt) ∷ (
 abbrev pub r·3 : Kinds.RK 5
 r·3 = Unit'.rUnit
 
-abbrev pub ps·4 : List.List (Kinds.PK 2)
-ps·4 = (ShrSlice.pShrS ROW·.the-row 0 tt) ∷ (MutSlice.pMutS (Referent.rtF Referent.fBool) 1 tt) ∷ (Num.pNum Syntax.w64) ∷ []
+abbrev pub ps·4 : List.List (Kinds.PK 3)
+ps·4 = (ShrSlice.pShrS ROW·.the-row 0 tt) ∷ (ShrSlice.pShrS e0· 1 tt) ∷ (MutSlice.pMutS (Referent.rtF Referent.fBool) 2 tt) ∷ (Num.pNum Syntax.w64) ∷ []
 
-abbrev pub r·4 : Kinds.RK 2
+abbrev pub r·4 : Kinds.RK 3
 r·4 = Bool.rBool
 
 abbrev pub hs : List.List Syntax.Home
@@ -577,7 +577,7 @@ abbrev b27 : Syntax.Body
 b27 = Syntax.assign (Syntax.place 40 List.[]) (Syntax.aggregate ((Syntax.copy (Syntax.place 39 List.[])) ∷ (Syntax.copy (Syntax.place 6 ((Syntax.field 1) ∷ []))) ∷ []))
 
 abbrev b28 : Syntax.Body
-b28 = Syntax.call "layout::lengthen" ((Syntax.copy (Syntax.place 38 List.[])) ∷ (Syntax.copy (Syntax.place 40 List.[])) ∷ (Syntax.copy (Syntax.place 9 List.[])) ∷ []) (Syntax.place 36 List.[])
+b28 = Syntax.call "layout::lengthen" ((Syntax.copy (Syntax.place 38 List.[])) ∷ (Syntax.copy (Syntax.place 2 List.[])) ∷ (Syntax.copy (Syntax.place 40 List.[])) ∷ (Syntax.copy (Syntax.place 9 List.[])) ∷ []) (Syntax.place 36 List.[])
 
 abbrev b29 : Syntax.Body
 b29 = Syntax.assign (Syntax.place 41 List.[]) (Syntax.op1 Syntax.bitNot (Syntax.copy (Syntax.place 36 List.[])))
@@ -745,7 +745,7 @@ abbrev pub body : Syntax.Body
 body = b82
 
 abbrev pub Claims : Type 1
-Claims = Kinds.In 5 ps·0 × Kinds.Out 5 ps·0 r·0 × Kinds.In 2 ps·1 × Kinds.Out 2 ps·1 r·1 × Kinds.In 4 ps·2 × Kinds.Out 4 ps·2 r·2 × Kinds.In 5 ps·3 × Kinds.Out 5 ps·3 r·3 × Kinds.In 2 ps·4 × Kinds.Out 2 ps·4 r·4
+Claims = Kinds.In 5 ps·0 × Kinds.Out 5 ps·0 r·0 × Kinds.In 2 ps·1 × Kinds.Out 2 ps·1 r·1 × Kinds.In 4 ps·2 × Kinds.Out 4 ps·2 r·2 × Kinds.In 5 ps·3 × Kinds.Out 5 ps·3 r·3 × Kinds.In 3 ps·4 × Kinds.Out 3 ps·4 r·4
 
 abbrev pub t0 : List.List Row.Entry
 t0 = r0· ∷ r1· ∷ r2· ∷ r3· ∷ r4· ∷ r5· ∷ r6· ∷ r7· ∷ r8· ∷ r9· ∷ r10· ∷ r11· ∷ r12· ∷ r13· ∷ r14· ∷ r15· ∷ []
@@ -1424,7 +1424,7 @@ module _ (claims· : Claims) where
   s78 = Relend.k-sl-aggregate (Referent.rtF Referent.fBool) (Relend.asMut (Referent.rtF Referent.fBool)) T80 39 40 16 y5· y5· (λ x. x) (Scalar.oFld 6 ((Syntax.field 1) ∷ []) y2· 8 λ v. Shared.lenV (v .0))
 
   abbrev s79 : Typed.Both T81 T82
-  s79 = Call.callB ps·4 r·4 (claims· .8) (claims· .9) T81 (record { pos = 38; ty = Syntax.tyRef Syntax.erased Syntax.imm (MEM·.pointee (ROW·.the-row .written)); ref = λ x. x }, (record { pos = 40; ty = Syntax.tyRef Syntax.erased Syntax.mut Syntax.tyBool; ref = λ x. x }, (Num.vAt 9 λ x. x, tt))) 36 (15 ∷ 16 ∷ []) Syntax.tyBool
+  s79 = Call.callB ps·4 r·4 (claims· .8) (claims· .9) T81 (record { pos = 38; ty = Syntax.tyRef Syntax.erased Syntax.imm (MEM·.pointee (ROW·.the-row .written)); ref = λ x. x }, (record { pos = 2; ty = Syntax.tyRef (Syntax.named 1) Syntax.imm y7·; ref = λ x. x }, (record { pos = 40; ty = Syntax.tyRef Syntax.erased Syntax.mut Syntax.tyBool; ref = λ x. x }, (Num.vAt 9 λ x. x, tt)))) 36 (15 ∷ 1 ∷ 16 ∷ []) Syntax.tyBool
 
   abbrev s80 : Typed.Mo T82 → Typed.Mo T83
   s80 = Scalar.n-room T82 38 y13·
@@ -1516,7 +1516,7 @@ module _ (claims· : Claims) where
   module _ (Pre· : (κs : Lifetimes.Lfts 7) → Kinds.Dens κs ps → Type 0) (Post· : (κs : Lifetimes.Lfts 7) → (a : Kinds.Dens κs ps) → Kinds.Plain 7 ps r κs) where
     module _ (M : Type 1) where
       abbrev pub Closed : Type 2
-      Closed = (𝓤 : URA.URA M) (H : Wp.Heap 𝓤) (A : Atoms.Atoms 𝓤) (W : Kit.Given 𝓤 H A) (𝓣 : Wp.Tables 𝓤 H) (known0 : Plain.Known 𝓤 H A W 𝓣 5 ps·0 r·0 (claims· .0) (claims· .1) "layout::layout") (known1 : Plain.Known 𝓤 H A W 𝓣 2 ps·1 r·1 (claims· .2) (claims· .3) "layout::index_segments") (known2 : Plain.Known 𝓤 H A W 𝓣 4 ps·2 r·2 (claims· .4) (claims· .5) "layout::find_targets") (known3 : Plain.Known 𝓤 H A W 𝓣 5 ps·3 r·3 (claims· .6) (claims· .7) "layout::place_ends") (known4 : Plain.Known 𝓤 H A W 𝓣 2 ps·4 r·4 (claims· .8) (claims· .9) "layout::lengthen") → Statement.Triple 𝓤 (Wp.WpFn 𝓤 H (𝓣 .C) (𝓣 .Λ) (Function.fnOf 7 ps r xs m hs body)) (Function.plainOf 𝓤 H A 7 ps r Pre· Post·)
+      Closed = (𝓤 : URA.URA M) (H : Wp.Heap 𝓤) (A : Atoms.Atoms 𝓤) (W : Kit.Given 𝓤 H A) (𝓣 : Wp.Tables 𝓤 H) (known0 : Plain.Known 𝓤 H A W 𝓣 5 ps·0 r·0 (claims· .0) (claims· .1) "layout::layout") (known1 : Plain.Known 𝓤 H A W 𝓣 2 ps·1 r·1 (claims· .2) (claims· .3) "layout::index_segments") (known2 : Plain.Known 𝓤 H A W 𝓣 4 ps·2 r·2 (claims· .4) (claims· .5) "layout::find_targets") (known3 : Plain.Known 𝓤 H A W 𝓣 5 ps·3 r·3 (claims· .6) (claims· .7) "layout::place_ends") (known4 : Plain.Known 𝓤 H A W 𝓣 3 ps·4 r·4 (claims· .8) (claims· .9) "layout::lengthen") → Statement.Triple 𝓤 (Wp.WpFn 𝓤 H (𝓣 .C) (𝓣 .Λ) (Function.fnOf 7 ps r xs m hs body)) (Function.plainOf 𝓤 H A 7 ps r Pre· Post·)
 
     module _ (Inv·0 : InvT-loop) (μ·0 : MeasureT-loop) where
       abbrev at0 : Typed.TF T110 O3
@@ -1899,7 +1899,7 @@ module _ (claims· : Claims) where
 
       module _ {M : Type 1} (𝓤 : URA.URA M) (H : Wp.Heap 𝓤) (A : Atoms.Atoms 𝓤) (W : Kit.Given 𝓤 H A) (𝓣 : Wp.Tables 𝓤 H) where
         abbrev Knowns : Type 1
-        Knowns = Plain.Known 𝓤 H A W 𝓣 5 ps·0 r·0 (claims· .0) (claims· .1) "layout::layout" × Plain.Known 𝓤 H A W 𝓣 2 ps·1 r·1 (claims· .2) (claims· .3) "layout::index_segments" × Plain.Known 𝓤 H A W 𝓣 4 ps·2 r·2 (claims· .4) (claims· .5) "layout::find_targets" × Plain.Known 𝓤 H A W 𝓣 5 ps·3 r·3 (claims· .6) (claims· .7) "layout::place_ends" × Plain.Known 𝓤 H A W 𝓣 2 ps·4 r·4 (claims· .8) (claims· .9) "layout::lengthen"
+        Knowns = Plain.Known 𝓤 H A W 𝓣 5 ps·0 r·0 (claims· .0) (claims· .1) "layout::layout" × Plain.Known 𝓤 H A W 𝓣 2 ps·1 r·1 (claims· .2) (claims· .3) "layout::index_segments" × Plain.Known 𝓤 H A W 𝓣 4 ps·2 r·2 (claims· .4) (claims· .5) "layout::find_targets" × Plain.Known 𝓤 H A W 𝓣 5 ps·3 r·3 (claims· .6) (claims· .7) "layout::place_ends" × Plain.Known 𝓤 H A W 𝓣 3 ps·4 r·4 (claims· .8) (claims· .9) "layout::lengthen"
 
       module _ (κs : Lifetimes.Lfts 7) (qs : Lifetimes.Shares 7) where
         abbrev pub k0· : Row.Life
@@ -2660,7 +2660,7 @@ module _ (claims· : Claims) where
           d31 = Typed.g-pre 𝓤 H A W 𝓣 E G82 G83 b45 Δ3 (Typed.pass T82 T83 s80) at30 (Scalar.g-room 𝓤 H A W E G82 38 y13· (Shared.room-sslice 𝓤 H A W ROW·.the-row y4· 15)) d30
 
           d32 : Typed.Typed 𝓤 H A 𝓣 E G81 b46 Δ3 at32
-          d32 = Typed.s-seq 𝓤 H A W 𝓣 E G81 G82 b28 b45 Δ3 (Typed.both s79) at31 (Plain.t-call-plain 𝓤 H A W 𝓣 2 ps·4 r·4 (claims· .8) (claims· .9) "layout::lengthen" (known .4) E (λ pos β. β) G81 (record { pos = 38; ty = Syntax.tyRef Syntax.erased Syntax.imm (MEM·.pointee (ROW·.the-row .written)); ref = λ x. x }, (record { pos = 40; ty = Syntax.tyRef Syntax.erased Syntax.mut Syntax.tyBool; ref = λ x. x }, (Num.vAt 9 λ x. x, tt))) 36 (15 ∷ 16 ∷ []) (Call.sub-id 𝓤 H A W (G81 .slots)) (ShrSlice.spares-sslice 𝓤 H A W ROW·.the-row y4· 15, Shared.reads-sslice 𝓤 H A W ROW·.the-row y4· 15, Path'.refl, (Reads.as-is 𝓤 H A (Mut.mslice (Referent.rtF Referent.fBool) y5· 16), Mut.reads-mslice 𝓤 H A W (Referent.rtF Referent.fBool) y5· 16, Path'.refl, ((Scalar.reads-sc 𝓤 H A W (Row.sInt Syntax.w64), Path'.refl), tt))) (Reads.room-gone 𝓤 H A Syntax.tyBool) (tt, (tt, tt)) Path'.refl) d31
+          d32 = Typed.s-seq 𝓤 H A W 𝓣 E G81 G82 b28 b45 Δ3 (Typed.both s79) at31 (Plain.t-call-plain 𝓤 H A W 𝓣 3 ps·4 r·4 (claims· .8) (claims· .9) "layout::lengthen" (known .4) E (λ pos β. β) G81 (record { pos = 38; ty = Syntax.tyRef Syntax.erased Syntax.imm (MEM·.pointee (ROW·.the-row .written)); ref = λ x. x }, (record { pos = 2; ty = Syntax.tyRef (Syntax.named 1) Syntax.imm y7·; ref = λ x. x }, (record { pos = 40; ty = Syntax.tyRef Syntax.erased Syntax.mut Syntax.tyBool; ref = λ x. x }, (Num.vAt 9 λ x. x, tt)))) 36 (15 ∷ 1 ∷ 16 ∷ []) (Call.sub-id 𝓤 H A W (G81 .slots)) (ShrSlice.spares-sslice 𝓤 H A W ROW·.the-row y4· 15, Shared.reads-sslice 𝓤 H A W ROW·.the-row y4· 15, Path'.refl, (ShrSlice.spares-sslice 𝓤 H A W e0· y16· 1, Shared.reads-sslice 𝓤 H A W e0· y16· 1, Path'.refl, (Reads.as-is 𝓤 H A (Mut.mslice (Referent.rtF Referent.fBool) y5· 16), Mut.reads-mslice 𝓤 H A W (Referent.rtF Referent.fBool) y5· 16, Path'.refl, ((Scalar.reads-sc 𝓤 H A W (Row.sInt Syntax.w64), Path'.refl), tt)))) (Reads.room-gone 𝓤 H A Syntax.tyBool) (tt, (tt, (tt, tt))) Path'.refl) d31
 
           d33 : Typed.Typed 𝓤 H A 𝓣 E G80 b47 Δ3 at33
           d33 = Typed.s-seq 𝓤 H A W 𝓣 E G80 G81 b27 b46 Δ3 (Typed.ask s78) at32 (Relend.t-sl-aggregate 𝓤 H A W E (Referent.rtF Referent.fBool) 𝓣 (Relend.asMut (Referent.rtF Referent.fBool)) G80 39 40 16 y5· y5· (λ x. x) (Scalar.oFld 6 ((Syntax.field 1) ∷ []) y2· 8 λ v. Shared.lenV (v .0)) (Reads.as-is 𝓤 H A (Relend.msptr (Referent.rtF Referent.fBool) y5· 16)) (Reads.room-gone 𝓤 H A y15·) (Relend.reads-owed-len 𝓤 H A W (Referent.rtF Referent.fBool) y8· 5 16 k1· 8 Path'.refl, Path'.refl) Path'.refl Path'.refl λ b o k. tt) d32
@@ -3404,14 +3404,14 @@ module _ (claims· : Claims) where
 
       module _ (before· : After-lengthen-arg2) where
         abbrev pub After-lengthen·own : Type 0
-        After-lengthen·own = Called.Called ps·4 r·4 (claims· .9) T81 (record { pos = 38; ty = Syntax.tyRef Syntax.erased Syntax.imm (MEM·.pointee (ROW·.the-row .written)); ref = λ x. x }, (record { pos = 40; ty = Syntax.tyRef Syntax.erased Syntax.mut Syntax.tyBool; ref = λ x. x }, (Num.vAt 9 λ x. x, tt))) (m54 (before· .before) (before· .lengthen-arg2 .given))
+        After-lengthen·own = Called.Called ps·4 r·4 (claims· .9) T81 (record { pos = 38; ty = Syntax.tyRef Syntax.erased Syntax.imm (MEM·.pointee (ROW·.the-row .written)); ref = λ x. x }, (record { pos = 2; ty = Syntax.tyRef (Syntax.named 1) Syntax.imm y7·; ref = λ x. x }, (record { pos = 40; ty = Syntax.tyRef Syntax.erased Syntax.mut Syntax.tyBool; ref = λ x. x }, (Num.vAt 9 λ x. x, tt)))) (m54 (before· .before) (before· .lengthen-arg2 .given))
 
       pub record After-lengthen : Type 0 where
         pub before : After-lengthen-arg2
         pub lengthen : After-lengthen·own before
 
       abbrev pub After-lengthen·gave : (c : After-lengthen) → s79 .gives (m54 (c .before .before) (c .before .lengthen-arg2 .given))
-      After-lengthen·gave = λ c. Called.given ps·4 r·4 (claims· .9) T81 (record { pos = 38; ty = Syntax.tyRef Syntax.erased Syntax.imm (MEM·.pointee (ROW·.the-row .written)); ref = λ x. x }, (record { pos = 40; ty = Syntax.tyRef Syntax.erased Syntax.mut Syntax.tyBool; ref = λ x. x }, (Num.vAt 9 λ x. x, tt))) (m54 (c .before .before) (c .before .lengthen-arg2 .given)) (c .lengthen)
+      After-lengthen·gave = λ c. Called.given ps·4 r·4 (claims· .9) T81 (record { pos = 38; ty = Syntax.tyRef Syntax.erased Syntax.imm (MEM·.pointee (ROW·.the-row .written)); ref = λ x. x }, (record { pos = 2; ty = Syntax.tyRef (Syntax.named 1) Syntax.imm y7·; ref = λ x. x }, (record { pos = 40; ty = Syntax.tyRef Syntax.erased Syntax.mut Syntax.tyBool; ref = λ x. x }, (Num.vAt 9 λ x. x, tt)))) (m54 (c .before .before) (c .before .lengthen-arg2 .given)) (c .lengthen)
 
       abbrev pub m56 : (before : After-lengthen-arg2) → (given : s79 .gives (m54 (before .before) (before .lengthen-arg2 .given))) → Typed.Mo T83
       m56 = λ before given. s80 (m55 before given)
@@ -3596,7 +3596,7 @@ module _ (claims· : Claims) where
         lay5 = λ c. (Path'.refl, λ g. λ g'. (tt, (λ taken. λ g''. (Path'.refl, λ g'3. (Path'.refl, (layout-requires-2 record { before = record { before = record { before = record { before = record { before = record { before = c .before; lengthen = c .lengthen }; long = record { given = g } }; slice-known4 = record { given = g' } }; if1 = record { taken = taken } }; layout-arg3 = record { given = g'' } }; layout-arg4 = record { given = g'3 } }, λ g'4. lay6 record { before = record { before = record { before = record { before = record { before = record { before = record { before = c .before; lengthen = c .lengthen }; long = record { given = g } }; slice-known4 = record { given = g' } }; if1 = record { taken = taken } }; layout-arg3 = record { given = g'' } }; layout-arg4 = record { given = g'3 } }; layout2 = Called.called ps·0 r·0 (claims· .1) T99 (record { pos = 43; ty = Syntax.tyRef Syntax.erased Syntax.mut (MEM·.pointee (ROW·.the-row .written)); ref = λ x. x }, (record { pos = 2; ty = Syntax.tyRef (Syntax.named 1) Syntax.imm y7·; ref = λ x. x }, (record { pos = 4; ty = Syntax.tyRef (Syntax.named 3) Syntax.imm y7·; ref = λ x. x }, (record { pos = 5; ty = Syntax.tyRef (Syntax.named 4) Syntax.imm y7·; ref = λ x. x }, (record { pos = 45; ty = Syntax.tyRef Syntax.erased Syntax.imm Syntax.tyBool; ref = λ x. x }, (Num.vAt 9 λ x. x, (Num.vAt 10 λ x. x, (Num.vAt 11 λ x. x, tt)))))))) (m66 record { before = record { before = record { before = record { before = record { before = c .before; lengthen = c .lengthen }; long = record { given = g } }; slice-known4 = record { given = g' } }; if1 = record { taken = taken } }; layout-arg3 = record { given = g'' } } g'3) g'4 }))), λ left. (μ·0 (Row.get 1 (T58 .locals) (m39 (c .before .before .before .before .before .before .before .before .before) (c .before .before .before .before .before .before .before .before .segments2 .given)) .now) (Row.get 2 (T58 .locals) (m39 (c .before .before .before .before .before .before .before .before .before) (c .before .before .before .before .before .before .before .before .segments2 .given)) .now) (Row.get 3 (T58 .locals) (m39 (c .before .before .before .before .before .before .before .before .before) (c .before .before .before .before .before .before .before .before .segments2 .given)) .now) (Row.get 4 (T58 .locals) (m39 (c .before .before .before .before .before .before .before .before .before) (c .before .before .before .before .before .before .before .before .segments2 .given)) .now) (Row.get 5 (T58 .locals) (m39 (c .before .before .before .before .before .before .before .before .before) (c .before .before .before .before .before .before .before .before .segments2 .given)) .now) (Row.get 6 (T58 .locals) (m39 (c .before .before .before .before .before .before .before .before .before) (c .before .before .before .before .before .before .before .before .segments2 .given)) .now) (Row.get 7 (T58 .locals) (m39 (c .before .before .before .before .before .before .before .before .before) (c .before .before .before .before .before .before .before .before .segments2 .given)) .now) (Row.get 8 (T58 .locals) (m39 (c .before .before .before .before .before .before .before .before .before) (c .before .before .before .before .before .before .before .before .segments2 .given))) (Row.get 9 (T58 .locals) (m39 (c .before .before .before .before .before .before .before .before .before) (c .before .before .before .before .before .before .before .before .segments2 .given))) (Row.get 10 (T58 .locals) (m39 (c .before .before .before .before .before .before .before .before .before) (c .before .before .before .before .before .before .before .before .segments2 .given))) (Row.get 11 (T58 .locals) (m39 (c .before .before .before .before .before .before .before .before .before) (c .before .before .before .before .before .before .before .before .segments2 .given))) (Row.get 12 (T58 .locals) (m39 (c .before .before .before .before .before .before .before .before .before) (c .before .before .before .before .before .before .before .before .segments2 .given))) (Row.get 1 (T58 .locals) (m74 record { before = record { before = record { before = c .before; lengthen = c .lengthen }; long = record { given = g } }; slice-known4 = record { given = g' } }) .now) (Row.get 6 (T58 .locals) (m74 record { before = record { before = record { before = c .before; lengthen = c .lengthen }; long = record { given = g } }; slice-known4 = record { given = g' } }) .now) (Row.get 12 (T58 .locals) (m74 record { before = record { before = record { before = c .before; lengthen = c .lengthen }; long = record { given = g } }; slice-known4 = record { given = g' } })), loop-less record { before = record { before = record { before = record { before = c .before; lengthen = c .lengthen }; long = record { given = g } }; slice-known4 = record { given = g' } }; if1 = record { left = left } }, ((Row.get 1 (T58 .locals) (m74 record { before = record { before = record { before = c .before; lengthen = c .lengthen }; long = record { given = g } }; slice-known4 = record { given = g' } }) .now, Row.get 6 (T58 .locals) (m74 record { before = record { before = record { before = c .before; lengthen = c .lengthen }; long = record { given = g } }; slice-known4 = record { given = g' } }) .now, Row.get 12 (T58 .locals) (m74 record { before = record { before = record { before = c .before; lengthen = c .lengthen }; long = record { given = g } }; slice-known4 = record { given = g' } })), Path'.refl {a = m74 record { before = record { before = record { before = c .before; lengthen = c .lengthen }; long = record { given = g } }; slice-known4 = record { given = g' } }}, loop-again record { before = record { before = record { before = record { before = c .before; lengthen = c .lengthen }; long = record { given = g } }; slice-known4 = record { given = g' } }; if1 = record { left = left } }, Path'.refl {a = μ·0 (Row.get 1 (T58 .locals) (m39 (c .before .before .before .before .before .before .before .before .before) (c .before .before .before .before .before .before .before .before .segments2 .given)) .now) (Row.get 2 (T58 .locals) (m39 (c .before .before .before .before .before .before .before .before .before) (c .before .before .before .before .before .before .before .before .segments2 .given)) .now) (Row.get 3 (T58 .locals) (m39 (c .before .before .before .before .before .before .before .before .before) (c .before .before .before .before .before .before .before .before .segments2 .given)) .now) (Row.get 4 (T58 .locals) (m39 (c .before .before .before .before .before .before .before .before .before) (c .before .before .before .before .before .before .before .before .segments2 .given)) .now) (Row.get 5 (T58 .locals) (m39 (c .before .before .before .before .before .before .before .before .before) (c .before .before .before .before .before .before .before .before .segments2 .given)) .now) (Row.get 6 (T58 .locals) (m39 (c .before .before .before .before .before .before .before .before .before) (c .before .before .before .before .before .before .before .before .segments2 .given)) .now) (Row.get 7 (T58 .locals) (m39 (c .before .before .before .before .before .before .before .before .before) (c .before .before .before .before .before .before .before .before .segments2 .given)) .now) (Row.get 8 (T58 .locals) (m39 (c .before .before .before .before .before .before .before .before .before) (c .before .before .before .before .before .before .before .before .segments2 .given))) (Row.get 9 (T58 .locals) (m39 (c .before .before .before .before .before .before .before .before .before) (c .before .before .before .before .before .before .before .before .segments2 .given))) (Row.get 10 (T58 .locals) (m39 (c .before .before .before .before .before .before .before .before .before) (c .before .before .before .before .before .before .before .before .segments2 .given))) (Row.get 11 (T58 .locals) (m39 (c .before .before .before .before .before .before .before .before .before) (c .before .before .before .before .before .before .before .before .segments2 .given))) (Row.get 12 (T58 .locals) (m39 (c .before .before .before .before .before .before .before .before .before) (c .before .before .before .before .before .before .before .before .segments2 .given))) (Row.get 1 (T58 .locals) (m74 record { before = record { before = record { before = c .before; lengthen = c .lengthen }; long = record { given = g } }; slice-known4 = record { given = g' } }) .now) (Row.get 6 (T58 .locals) (m74 record { before = record { before = record { before = c .before; lengthen = c .lengthen }; long = record { given = g } }; slice-known4 = record { given = g' } }) .now) (Row.get 12 (T58 .locals) (m74 record { before = record { before = record { before = c .before; lengthen = c .lengthen }; long = record { given = g } }; slice-known4 = record { given = g' } }))})))))
 
         lay4 : (c : After-place-ends) → at47 (W3 (c .before .before .before .before) (c .before .before .before .loop .segments) (c .before .before .before .loop .long) (c .before .before .before .loop .layouts)) (m45 (c .before) (After-place-ends·gave c))
-        lay4 = λ c. (Path'.refl, λ g. (add-layouts record { before = record { before = c .before; place-ends = c .place-ends }; segments3 = record { given = g } }, λ g'. (Path'.refl, λ g''. (Path'.refl, (lengthen-requires record { before = record { before = record { before = record { before = c .before; place-ends = c .place-ends }; segments3 = record { given = g } }; lengthen-arg = record { given = g' } }; lengthen-arg2 = record { given = g'' } }, λ g'3. lay5 record { before = record { before = record { before = record { before = record { before = c .before; place-ends = c .place-ends }; segments3 = record { given = g } }; lengthen-arg = record { given = g' } }; lengthen-arg2 = record { given = g'' } }; lengthen = Called.called ps·4 r·4 (claims· .9) T81 (record { pos = 38; ty = Syntax.tyRef Syntax.erased Syntax.imm (MEM·.pointee (ROW·.the-row .written)); ref = λ x. x }, (record { pos = 40; ty = Syntax.tyRef Syntax.erased Syntax.mut Syntax.tyBool; ref = λ x. x }, (Num.vAt 9 λ x. x, tt))) (m54 record { before = record { before = record { before = c .before; place-ends = c .place-ends }; segments3 = record { given = g } }; lengthen-arg = record { given = g' } } g'') g'3 })))))
+        lay4 = λ c. (Path'.refl, λ g. (add-layouts record { before = record { before = c .before; place-ends = c .place-ends }; segments3 = record { given = g } }, λ g'. (Path'.refl, λ g''. (Path'.refl, (lengthen-requires record { before = record { before = record { before = record { before = c .before; place-ends = c .place-ends }; segments3 = record { given = g } }; lengthen-arg = record { given = g' } }; lengthen-arg2 = record { given = g'' } }, λ g'3. lay5 record { before = record { before = record { before = record { before = record { before = c .before; place-ends = c .place-ends }; segments3 = record { given = g } }; lengthen-arg = record { given = g' } }; lengthen-arg2 = record { given = g'' } }; lengthen = Called.called ps·4 r·4 (claims· .9) T81 (record { pos = 38; ty = Syntax.tyRef Syntax.erased Syntax.imm (MEM·.pointee (ROW·.the-row .written)); ref = λ x. x }, (record { pos = 2; ty = Syntax.tyRef (Syntax.named 1) Syntax.imm y7·; ref = λ x. x }, (record { pos = 40; ty = Syntax.tyRef Syntax.erased Syntax.mut Syntax.tyBool; ref = λ x. x }, (Num.vAt 9 λ x. x, tt)))) (m54 record { before = record { before = record { before = c .before; place-ends = c .place-ends }; segments3 = record { given = g } }; lengthen-arg = record { given = g' } } g'') g'3 })))))
 
         lay3 : (c : After-find-targets) → at77 (W0 (c .before .before .before .before .before .before .before .before .before .before .before .before .before .before .before .before .before .before .κs) (c .before .before .before .before .before .before .before .before .before .before .before .before .before .before .before .before .before .before .args)) (m33 (c .before) (After-find-targets·gave c))
         lay3 = λ c. (Path'.refl, λ g. (((Row.get 1 (T58 .locals) (m39 record { before = c .before; find-targets = c .find-targets } g) .now, Row.get 6 (T58 .locals) (m39 record { before = c .before; find-targets = c .find-targets } g) .now, Row.get 12 (T58 .locals) (m39 record { before = c .before; find-targets = c .find-targets } g)), Path'.refl {a = m39 record { before = c .before; find-targets = c .find-targets } g}, loop-holds record { before = record { before = c .before; find-targets = c .find-targets }; segments2 = record { given = g } }), λ vs inv. λ g'. (Path'.refl, λ g''. (Path'.refl, (place-ends-requires record { before = record { before = record { before = record { before = record { before = c .before; find-targets = c .find-targets }; segments2 = record { given = g } }; loop = record { segments = vs .0; long = vs .1; layouts = vs .2; inv = inv } }; place-ends-arg = record { given = g' } }; place-ends-arg2 = record { given = g'' } }, λ g'3. lay4 record { before = record { before = record { before = record { before = record { before = record { before = c .before; find-targets = c .find-targets }; segments2 = record { given = g } }; loop = record { segments = vs .0; long = vs .1; layouts = vs .2; inv = inv } }; place-ends-arg = record { given = g' } }; place-ends-arg2 = record { given = g'' } }; place-ends = Called.called ps·3 r·3 (claims· .7) T65 (record { pos = 33; ty = Syntax.tyRef Syntax.erased Syntax.mut (MEM·.pointee (ROW·.the-row .written)); ref = λ x. x }, (record { pos = 2; ty = Syntax.tyRef (Syntax.named 1) Syntax.imm y7·; ref = λ x. x }, (record { pos = 4; ty = Syntax.tyRef (Syntax.named 3) Syntax.imm y7·; ref = λ x. x }, (record { pos = 5; ty = Syntax.tyRef (Syntax.named 4) Syntax.imm y7·; ref = λ x. x }, (record { pos = 35; ty = Syntax.tyRef Syntax.erased Syntax.imm Syntax.tyBool; ref = λ x. x }, (Num.vAt 9 λ x. x, (Num.vAt 10 λ x. x, (Num.vAt 11 λ x. x, tt)))))))) (m44 record { before = record { before = record { before = record { before = c .before; find-targets = c .find-targets }; segments2 = record { given = g } }; loop = record { segments = vs .0; long = vs .1; layouts = vs .2; inv = inv } }; place-ends-arg = record { given = g' } } g'') g'3 })))))
@@ -3614,6 +3614,6 @@ module _ (claims· : Claims) where
           pub asked : (a : Kinds.Dens κs ps) → (good : Kinds.GoodsP κs ps a) → (pre : Pre· κs a) → (bs : List.List Nat.ℕ) → Φ (Any.wantQ 7 ps r xs m κs qs a (Post· κs a)) (Function.init 7 ps r xs m κs qs a)
           asked = λ a good pre bs. laid record { κs = κs; args = record { segments = a .0; events = a .1 .0; labels = a .1 .1 .0; constants = a .1 .1 .1 .0; asked = a .1 .1 .1 .1 .0; long = a .1 .1 .1 .1 .1 .0; index = a .1 .1 .1 .1 .1 .1 .0; shift = a .1 .1 .1 .1 .1 .1 .1 .0; n = a .1 .1 .1 .1 .1 .1 .1 .1 .0; m = a .1 .1 .1 .1 .1 .1 .1 .1 .1 .0; code = a .1 .1 .1 .1 .1 .1 .1 .1 .1 .1 .0 }; good = good; fits = record { shift = record { fits = good .1 .1 .1 .1 .1 .1 .1 .0 .1 }; n = record { fits = good .1 .1 .1 .1 .1 .1 .1 .1 .0 .1 }; m = record { fits = good .1 .1 .1 .1 .1 .1 .1 .1 .1 .0 .1 }; code = record { fits = good .1 .1 .1 .1 .1 .1 .1 .1 .1 .1 .0 .1 } }; pre = pre }
 
-        module _ {M : Type 1} (𝓤 : URA.URA M) (H : Wp.Heap 𝓤) (A : Atoms.Atoms 𝓤) (W : Kit.Given 𝓤 H A) (𝓣 : Wp.Tables 𝓤 H) (known0 : Plain.Known 𝓤 H A W 𝓣 5 ps·0 r·0 (claims· .0) (claims· .1) "layout::layout") (known1 : Plain.Known 𝓤 H A W 𝓣 2 ps·1 r·1 (claims· .2) (claims· .3) "layout::index_segments") (known2 : Plain.Known 𝓤 H A W 𝓣 4 ps·2 r·2 (claims· .4) (claims· .5) "layout::find_targets") (known3 : Plain.Known 𝓤 H A W 𝓣 5 ps·3 r·3 (claims· .6) (claims· .7) "layout::place_ends") (known4 : Plain.Known 𝓤 H A W 𝓣 2 ps·4 r·4 (claims· .8) (claims· .9) "layout::lengthen") where
+        module _ {M : Type 1} (𝓤 : URA.URA M) (H : Wp.Heap 𝓤) (A : Atoms.Atoms 𝓤) (W : Kit.Given 𝓤 H A) (𝓣 : Wp.Tables 𝓤 H) (known0 : Plain.Known 𝓤 H A W 𝓣 5 ps·0 r·0 (claims· .0) (claims· .1) "layout::layout") (known1 : Plain.Known 𝓤 H A W 𝓣 2 ps·1 r·1 (claims· .2) (claims· .3) "layout::index_segments") (known2 : Plain.Known 𝓤 H A W 𝓣 4 ps·2 r·2 (claims· .4) (claims· .5) "layout::find_targets") (known3 : Plain.Known 𝓤 H A W 𝓣 5 ps·3 r·3 (claims· .6) (claims· .7) "layout::place_ends") (known4 : Plain.Known 𝓤 H A W 𝓣 3 ps·4 r·4 (claims· .8) (claims· .9) "layout::lengthen") where
           pub spec : Statement.Triple 𝓤 (Wp.WpFn 𝓤 H (𝓣 .C) (𝓣 .Λ) (Function.fnOf 7 ps r xs m hs body)) (Function.plainOf 𝓤 H A 7 ps r Pre· Post·)
           spec = Plain.t-fn-plain 𝓤 H A W 𝓣 7 ps r xs m hs body (λ κs qs bs. Φ) (λ κs qs bs bd. typed κs qs 𝓤 H A W 𝓣 (known0, known1, known2, known3, known4) bs bd) Pre· Post· asked

@@ -57,6 +57,24 @@ At-match-keys2 = Lts.At-match-keys2 (Reads''.Asked, Reads''.Learnt, Reads'3.Aske
 abbrev pub After-enum-told : Type 0
 After-enum-told = Lts.After-enum-told (Reads''.Asked, Reads''.Learnt, Reads'3.Asked, Reads'3.Learnt, Reads.Asked, Reads.Learnt) Reads'.Pre Reads'.Post
 
+abbrev pub At-match-keys3 : Type 0
+At-match-keys3 = Lts.At-match-keys3 (Reads''.Asked, Reads''.Learnt, Reads'3.Asked, Reads'3.Learnt, Reads.Asked, Reads.Learnt) Reads'.Pre Reads'.Post
+
+abbrev pub After-event2 : Type 0
+After-event2 = Lts.After-event2 (Reads''.Asked, Reads''.Learnt, Reads'3.Asked, Reads'3.Learnt, Reads.Asked, Reads.Learnt) Reads'.Pre Reads'.Post
+
+abbrev pub After-known-told2 : Type 0
+After-known-told2 = Lts.After-known-told2 (Reads''.Asked, Reads''.Learnt, Reads'3.Asked, Reads'3.Learnt, Reads.Asked, Reads.Learnt) Reads'.Pre Reads'.Post
+
+abbrev pub After-struct-known2 : Type 0
+After-struct-known2 = Lts.After-struct-known2 (Reads''.Asked, Reads''.Learnt, Reads'3.Asked, Reads'3.Learnt, Reads.Asked, Reads.Learnt) Reads'.Pre Reads'.Post
+
+abbrev pub After-word-at2 : Type 0
+After-word-at2 = Lts.After-word-at2 (Reads''.Asked, Reads''.Learnt, Reads'3.Asked, Reads'3.Learnt, Reads.Asked, Reads.Learnt) Reads'.Pre Reads'.Post
+
+abbrev pub After-locate2 : Type 0
+After-locate2 = Lts.After-locate2 (Reads''.Asked, Reads''.Learnt, Reads'3.Asked, Reads'3.Learnt, Reads.Asked, Reads.Learnt) Reads'.Pre Reads'.Post
+
 abbrev pub Need-event-at-requires : Type 0
 Need-event-at-requires = Lts.Need-event-at-requires (Reads''.Asked, Reads''.Learnt, Reads'3.Asked, Reads'3.Learnt, Reads.Asked, Reads.Learnt) Reads'.Pre Reads'.Post
 
@@ -75,15 +93,30 @@ Need-locate-requires = Lts.Need-locate-requires (Reads''.Asked, Reads''.Learnt, 
 abbrev pub Need-enum-told : Type 0
 Need-enum-told = Lts.Need-enum-told (Reads''.Asked, Reads''.Learnt, Reads'3.Asked, Reads'3.Learnt, Reads.Asked, Reads.Learnt) Reads'.Pre Reads'.Post
 
+abbrev pub Need-enum-known-event-2 : Type 0
+Need-enum-known-event-2 = Lts.Need-enum-known-event-2 (Reads''.Asked, Reads''.Learnt, Reads'3.Asked, Reads'3.Learnt, Reads.Asked, Reads.Learnt) Reads'.Pre Reads'.Post
+
+abbrev pub Need-cast-word-at-2 : Type 0
+Need-cast-word-at-2 = Lts.Need-cast-word-at-2 (Reads''.Asked, Reads''.Learnt, Reads'3.Asked, Reads'3.Learnt, Reads.Asked, Reads.Learnt) Reads'.Pre Reads'.Post
+
+abbrev pub Need-word-at-requires-2 : Type 0
+Need-word-at-requires-2 = Lts.Need-word-at-requires-2 (Reads''.Asked, Reads''.Learnt, Reads'3.Asked, Reads'3.Learnt, Reads.Asked, Reads.Learnt) Reads'.Pre Reads'.Post
+
+abbrev pub Need-locate-requires-2 : Type 0
+Need-locate-requires-2 = Lts.Need-locate-requires-2 (Reads''.Asked, Reads''.Learnt, Reads'3.Asked, Reads'3.Learnt, Reads.Asked, Reads.Learnt) Reads'.Pre Reads'.Post
+
 abbrev pub Need-returns : Type 0
 Need-returns = Lts.Need-returns (Reads''.Asked, Reads''.Learnt, Reads'3.Asked, Reads'3.Learnt, Reads.Asked, Reads.Learnt) Reads'.Pre Reads'.Post
 
 abbrev pub Need-returns-2 : Type 0
 Need-returns-2 = Lts.Need-returns-2 (Reads''.Asked, Reads''.Learnt, Reads'3.Asked, Reads'3.Learnt, Reads.Asked, Reads.Learnt) Reads'.Pre Reads'.Post
 
+abbrev pub Need-returns-3 : Type 0
+Need-returns-3 = Lts.Need-returns-3 (Reads''.Asked, Reads''.Learnt, Reads'3.Asked, Reads'3.Learnt, Reads.Asked, Reads.Learnt) Reads'.Pre Reads'.Post
+
 module _ {M : Type 1} where
-  pub spec : (answer : Need-event-at-requires) → (answer : Need-enum-known-event) → (answer : Need-cast-word-at) → (answer : Need-word-at-requires) → (answer : Need-locate-requires) → (answer : Need-enum-told) → (answer : Need-returns) → (answer : Need-returns-2) → Lts.Closed (Reads''.Asked, Reads''.Learnt, Reads'3.Asked, Reads'3.Learnt, Reads.Asked, Reads.Learnt) Reads'.Pre Reads'.Post M
-  spec = λ answer answer' answer'' answer'3 answer'4 answer'5 answer'6 answer'7. Lts.spec (Reads''.Asked, Reads''.Learnt, Reads'3.Asked, Reads'3.Learnt, Reads.Asked, Reads.Learnt) Reads'.Pre Reads'.Post answer answer' answer'' answer'3 answer'4 answer'5 answer'6 answer'7
+  pub spec : (answer : Need-event-at-requires) → (answer : Need-enum-known-event) → (answer : Need-cast-word-at) → (answer : Need-word-at-requires) → (answer : Need-locate-requires) → (answer : Need-enum-told) → (answer : Need-enum-known-event-2) → (answer : Need-cast-word-at-2) → (answer : Need-word-at-requires-2) → (answer : Need-locate-requires-2) → (answer : Need-returns) → (answer : Need-returns-2) → (answer : Need-returns-3) → Lts.Closed (Reads''.Asked, Reads''.Learnt, Reads'3.Asked, Reads'3.Learnt, Reads.Asked, Reads.Learnt) Reads'.Pre Reads'.Post M
+  spec = λ answer answer' answer'' answer'3 answer'4 answer'5 answer'6 answer'7 answer'8 answer'9 answer'10 answer'11 answer'12. Lts.spec (Reads''.Asked, Reads''.Learnt, Reads'3.Asked, Reads'3.Learnt, Reads.Asked, Reads.Learnt) Reads'.Pre Reads'.Post answer answer' answer'' answer'3 answer'4 answer'5 answer'6 answer'7 answer'8 answer'9 answer'10 answer'11 answer'12
 
   pub close : Lts.Closed (Reads''.Asked, Reads''.Learnt, Reads'3.Asked, Reads'3.Learnt, Reads.Asked, Reads.Learnt) Reads'.Pre Reads'.Post M → Statement.statement M
   unfolding Code.routine Running.tablesOf
