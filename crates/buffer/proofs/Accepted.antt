@@ -12,7 +12,7 @@ use lib.ListN.{length}
 use Rattle.refusals.specs.Numbers as refusals
 use Rattle.seqs.proofs.Booleans.{true-is-not-false, both-true, both-false}
 use Rattle.seqs.proofs.Numbers.{lt-or-ge}
-use Rattle.seqs.proofs.Picking.{passed, neither, yes-eq, no-lt}
+use Rattle.seqs.proofs.Picking.{pick-yes, passed, neither, yes-eq, no-lt}
 use Rattle.words.specs.Words.{wordAt}
 use Rattle.encoder.specs.Padding.{paddingWithin}
 use Rattle.fields.specs.Kinds.{decoded, unsupportedCode, lastCode, archX64}
@@ -203,12 +203,12 @@ pub record RefAccepted (b : CodeBuffer) (lent room label code : ℕ) : Type 0 wh
   pub native : foreign (decoded code) (b .arch) ≡ false
   pub known : label < b .labels
 
-pub ref-accepted : {b : CodeBuffer} {known room label code : ℕ} → whyRef b known room label code ≡ 0 → b .arch ≡ archX64 → RefAccepted b known room label code
+pub ref-accepted : {b : CodeBuffer} {known room label code : ℕ} → whyRef b known room label code ≡ 0 → keepsEvents (b .arch) ≡ true → RefAccepted b known room label code
 unfolding whyRef
 ref-accepted {b} {known} {room} {label} {code} h x64 =
     let w = neither (standing b (leb (b .labels) known && (leb (b .refs) room && leb code lastCode)) (leb known mostEntries && leb room mostEntries)) _ h in
     let s = beside-labels b known room (b .refs) (leb code lastCode) (w .0) in
-    let one = passed (foreign (decoded code) (b .arch)) refusals.foreignKind _ (λ e. omega arith) (sym (yes-eq (b .arch) archX64 _ 0 x64) ∙ w .1) in
+    let one = passed (foreign (decoded code) (b .arch)) refusals.foreignKind _ (λ e. omega arith) (sym (pick-yes (keepsEvents (b .arch)) _ 0 x64) ∙ w .1) in
     let two = passed (leb (b .labels) label) refusals.unknownNumber _ (λ e. omega arith) (one .1) in
     let three = passed (leb room (b .refs)) refusals.tableFull 0 (λ e. omega arith) (two .1) in
     record {
@@ -295,7 +295,7 @@ pub record AlignAccepted (b : CodeBuffer) (lent room multiple most : ℕ) : Type
   pub fits : b .code + paddingWithin (b .code) multiple most ≤ lent
   pub few : lent ≤ mostCode
   pub aligned : isAlignment multiple ≡ true
-  pub event : b .arch ≡ archX64 → b .events < room
+  pub event : keepsEvents (b .arch) ≡ true → b .events < room
   pub fewEvents : room ≤ mostEntries
 
 pub align-accepted : {b : CodeBuffer} {lent room multiple most : ℕ} → whyAlign b lent room multiple most ≡ 0 → AlignAccepted b lent room multiple most
@@ -315,7 +315,7 @@ align-accepted {b} {lent} {room} {multiple} {most} h =
       few = leb-true lent mostCode (both-true (leb lent mostCode) (leb room mostEntries) (s .limited) .0);
       aligned = not-false (isAlignment multiple) (one .0);
       fewEvents = leb-true room mostEntries (both-true (leb lent mostCode) (leb room mostEntries) (s .limited) .1);
-      event = λ x64. leb-false room (b .events) (rw (eq-eqb (b .arch) archX64 x64) at (two .0));
+      event = λ kept. leb-false room (b .events) (rw kept at (two .0));
     }
 
 -- none of the labels lies strictly inside

@@ -55,7 +55,7 @@ module _ (b : CodeBuffer) (code events : List ℕ) (multiple most : ℕ) (spent 
       (eq-or-ne why 0)
 
   -- where it is not turned down, the new counts are within their limits
-  pub aligned-fits : spent .refusal ≡ 0 → (b .code + spent .len ≤ mostCode) × (b .arch ≡ archX64 → b .events < mostEntries)
+  pub aligned-fits : spent .refusal ≡ 0 → (b .code + spent .len ≤ mostCode) × (keepsEvents (b .arch) ≡ true → b .events < mostEntries)
   unfolding alignedTables
   aligned-fits none =
       let why = whyAlign b (length code) (length events / eventSize) multiple most in

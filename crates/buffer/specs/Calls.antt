@@ -11,6 +11,7 @@ use Rattle.seqs.specs.Pick.{pick}
 use Rattle.words.specs.Words.{wordAt, setWord}
 use Rattle.encoder.specs.Nops.{nops}
 use Rattle.encoder.specs.Padding.{paddingWithin}
+use Rattle.fields.specs.Kinds.{archX64}
 use Rattle.relax.specs.Events.{setEvent, eventSize, jumpKind, alignmentKind}
 use Rattle.buffer.specs.declared.CodeBuffer.{CodeBuffer}
 use Rattle.buffer.specs.declared.Recorded.{Recorded}
@@ -153,7 +154,7 @@ unfoldable pub recordJump : CodeBuffer → List ℕ → List ℕ → ℕ → ℕ
 recordJump b labels events start len label cc =
     let why = whyJump b labels events start len label cc in
     pick (eqb why 0)
-    (pick (keepsEvents (b .arch))
+    (pick (eqb (b .arch) archX64)
     (accepted (withOpen (withEvents b (b .events + 1)) (b .unresolved + opened labels label)), setEvent events (b .events) jumpKind start len label cc)
     (accepted b, events))
     (turnedDown b why, events)

@@ -143,7 +143,7 @@ whyJump b labels events start len label cc =
     (standing b
     (leb (b .labels) (length labels / labelSize) && leb (b .events) (length events / eventSize))
     (leb (length labels / labelSize) mostEntries && leb (length events / eventSize) mostEntries))
-    (pick (keepsEvents (b .arch))
+    (pick (eqb (b .arch) archX64)
     (first (
     (leb (b .labels) label, refusals.unknownNumber)
     ∷ (jumpUnfit b labels events start len cc, refusals.badEntry)

@@ -19,7 +19,7 @@ abbrev pub labelTarget : ℕ
 labelTarget = 2147483648
 
 -- the architectures that keep events and refs: "On X64 each alignment records an event, length 0 too, and jumps and refs are kept"
-abbrev pub keepsEvents : ℕ → Bool
+unfoldable pub keepsEvents : ℕ → Bool
 keepsEvents arch = eqb arch archX64
 
 -- "x86 pads with NOPs, AArch64 with zeros."

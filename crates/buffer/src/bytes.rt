@@ -7,7 +7,8 @@ ghost use Rattle.buffer.specs.Calls.{putBytes, padding, alignedEvents, a
 ghost use Rattle.buffer.specs.Tables.{mostEntries, mostCode, defaultMost};
 ghost use Rattle.buffer.specs.steps.Aligned.{alignedTables, alignedCounts};
 ghost use Rattle.relax.specs.Events.{eventSize};
-ghost use Rattle.fields.specs.Kinds.{archX64};
+ghost use mathlib.Core.Bool.{true};
+ghost use Rattle.buffer.specs.State.{keepsEvents};
 use crate::CodeBuffer;
 use crate::DEFAULT_MOST;
 use crate::MOST_ALIGNMENT;
@@ -96,7 +97,7 @@ impl CodeBuffer {
         if !is_alignment(multiple) {
             return refusals::BAD_ALIGNMENT;
         }
-        if both(self.arch == fields::X64, room <= n) {
+        if both(crate::keeps_events(self.arch), room <= n) {
             return refusals::TABLE_FULL;
         }
         if lent - at < encoder::padding_within(self.code, multiple, most) as usize {
@@ -107,10 +108,10 @@ impl CodeBuffer {
 
     // On X64 every alignment is an event, one that takes no bytes too.
     fn put_alignment(self, events: &mut [u8], multiple: u32, most: u32)
-        requires { ⌜ (self .arch ≡ archX64 → self .events * eventSize + eventSize ≤ length (now events)) ⌝ }
+        requires { ⌜ (keepsEvents (self .arch) ≡ true → self .events * eventSize + eventSize ≤ length (now events)) ⌝ }
         ensures { λ _. ⌜ now (events .exit) ≡ alignedEvents self (now (events .entry)) multiple most .1 ⌝ }
     {
-        if self.arch != fields::X64 {
+        if !crate::keeps_events(self.arch) {
             return;
         }
         relax::put_event(
@@ -148,14 +149,14 @@ impl CodeBuffer {
 
     // The recording after an alignment of its tables.
     fn aligned(mut self, spent: Spent) -> Recorded
-        requires { ⌜ (spent .refusal ≡ 0 → (self .code + spent .len ≤ mostCode) × (self .arch ≡ archX64 → self .events < mostEntries)) ⌝ }
+        requires { ⌜ (spent .refusal ≡ 0 → (self .code + spent .len ≤ mostCode) × (keepsEvents (self .arch) ≡ true → self .events < mostEntries)) ⌝ }
         ensures { λ r. ⌜ r ≡ alignedCounts self spent ⌝ }
     {
         if spent.refusal != 0 {
             return self.turn_down(spent.refusal);
         }
         self.code += spent.len;
-        if self.arch == fields::X64 {
+        if crate::keeps_events(self.arch) {
             self.events += 1;
         }
         Recorded {

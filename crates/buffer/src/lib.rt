@@ -2,7 +2,7 @@
 // The tables are lent by the caller as byte slices, whole entries of little-endian words; their lengths are their capacities.
 ghost use mathlib.Core.Path.{_≡_};
 ghost use mathlib.Core.Bool.{_&&_, _||_};
-ghost use Rattle.buffer.specs.State.{turnedDown, noneMade};
+ghost use Rattle.buffer.specs.State.{keepsEvents, turnedDown, noneMade};
 ghost use Rattle.buffer.specs.Refusals.{archOccurs, refusalOccurs, standing};
 ghost use Rattle.buffer.specs.Calls.{started};
 ghost use Rattle.buffer.specs.Tables.{mostOpen};
@@ -133,6 +133,13 @@ pub fn either(a: bool, b: bool) -> bool
         return true;
     }
     b
+}
+
+// The architectures that keep events and refs.
+pub fn keeps_events(arch: u32) -> bool
+    ensures { λ r. ⌜ r ≡ keepsEvents arch ⌝ }
+{
+    arch == fields::X64
 }
 
 pub fn arch_occurs(arch: u32) -> bool

@@ -124,7 +124,7 @@ impl CodeBuffer {
         if why != 0 {
             return why;
         }
-        if self.arch != fields::X64 {
+        if !crate::keeps_events(self.arch) {
             return 0;
         }
         if is_foreign(code, self.arch) {
@@ -159,7 +159,7 @@ impl CodeBuffer {
         );
         let mut more: u32 = 0;
         let mut took: u32 = 0;
-        if both(why == 0, self.arch == fields::X64) {
+        if both(why == 0, crate::keeps_events(self.arch)) {
             more = opened(labels, label);
             took = 1;
             put_ref(refs, self.refs as usize, offset, label, code, addend);

@@ -16,6 +16,7 @@ use Rattle.words.specs.Words.{wordAt}
 use Rattle.encoder.specs.Padding.{paddingWithin}
 use Rattle.relax.specs.Events.{eventAt, endOf, eventWords, eventSize}
 use Rattle.relax.proofs.Columns.{end-at}
+use Rattle.buffer.specs.State.{keepsEvents}
 use Rattle.buffer.specs.Refusals.{isAlignment, lastEnd}
 use Rattle.recording.specs.Sound.{startAt, endAt, FormOf, EventSound, EventsSound}
 use Rattle.seqs.specs.Every.{all}
@@ -100,18 +101,18 @@ module _ (events : List ℕ) (labels code : ℕ) where
       (λ other. omega (arith, follows-all n i j h (omega arith) (omega arith), next))
       (eq-or-ne i j)
 
-kept-sound : (arch n : ℕ) → keptOnly arch n ≡ true → (arch ≡ 2) ⊎ (n ≡ 0)
+kept-sound : (arch n : ℕ) → keptOnly arch n ≡ true → (keepsEvents arch ≡ true) ⊎ (n ≡ 0)
 unfolding keptOnly
-kept-sound arch n h = ⊎-elim (λ e. inl (eqb-true arch 2 e)) (λ e. inr (eqb-true n 0 e)) (or-by (eqb arch 2) (eqb n 0) h)
+kept-sound arch n h = ⊎-elim (λ e. inl e) (λ e. inr (eqb-true n 0 e)) (or-by (keepsEvents arch) (eqb n 0) h)
 
-kept-fits : (arch n : ℕ) → (arch ≡ 2) ⊎ (n ≡ 0) → keptOnly arch n ≡ true
+kept-fits : (arch n : ℕ) → (keepsEvents arch ≡ true) ⊎ (n ≡ 0) → keptOnly arch n ≡ true
 unfolding keptOnly
-kept-fits arch n h = ⊎-elim (λ e. or-first (eqb arch 2) (eqb n 0) (eq-eqb arch 2 e)) (λ e. or-second (eqb arch 2) (eqb n 0) (eq-eqb n 0 e)) h
+kept-fits arch n h = ⊎-elim (λ e. or-first (keepsEvents arch) (eqb n 0) e) (λ e. or-second (keepsEvents arch) (eqb n 0) (eq-eqb n 0 e)) h
 
-pub kept : (arch n : ℕ) (t : Bool) → (keptOnly arch n && t) ≡ true → ((arch ≡ 2) ⊎ (n ≡ 0)) × (t ≡ true)
+pub kept : (arch n : ℕ) (t : Bool) → (keptOnly arch n && t) ≡ true → ((keepsEvents arch ≡ true) ⊎ (n ≡ 0)) × (t ≡ true)
 kept arch n t h = let a = both-true (keptOnly arch n) t h in (kept-sound arch n (a .0), a .1)
 
-pub keeps : (arch n : ℕ) (t : Bool) → (arch ≡ 2) ⊎ (n ≡ 0) → t ≡ true → (keptOnly arch n && t) ≡ true
+pub keeps : (arch n : ℕ) (t : Bool) → (keepsEvents arch ≡ true) ⊎ (n ≡ 0) → t ≡ true → (keptOnly arch n && t) ≡ true
 keeps arch n t h e = and-by (keptOnly arch n) t (kept-fits arch n h) e
 
 pub events-ordered : (arch : ℕ) (events : List ℕ) (n labels code : ℕ) → eventsFit arch events n labels code ≡ true → Ordered (startAt events) (endAt events) n

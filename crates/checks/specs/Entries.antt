@@ -29,7 +29,7 @@ eventFits events labels code j =
     formFits labels (wordAt events (j * eventWords)) (wordAt events (j * eventWords + 1)) (wordAt events (j * eventWords + 2)) (wordAt events (j * eventWords + 3)) (wordAt events (j * eventWords + 4))
     && (leb (endAt events j) code && leb (lastEnd events j) (startAt events j))
 
--- only X64 keeps events and refs
+-- not every architecture keeps events and refs
 unfoldable pub keptOnly : ℕ → ℕ → Bool
 keptOnly arch n = keepsEvents arch || eqb n 0
 

@@ -71,11 +71,11 @@ fn each_event_fits(events: &[u8], n: usize, labels: u32, code: u32) -> bool
     true
 }
 
-// Only X64 keeps events and refs.
+// Not every architecture keeps events and refs.
 fn is_kept(arch: u32, n: usize) -> bool
     ensures { λ r. ⌜ r ≡ keptOnly arch n ⌝ }
 {
-    buffer::either(arch == fields::X64, n == 0)
+    buffer::either(buffer::keeps_events(arch), n == 0)
 }
 
 pub fn events_fit(arch: u32, events: &[u8], n: usize, labels: u32, code: u32) -> bool

@@ -38,7 +38,7 @@ use Rattle.demands.specs.Constants.{alignmentOf, offsetOf, Constants}
 use Rattle.demands.proofs.Kept.{constant-written}
 use Rattle.demands.proofs.Relaxing.{Fitting}
 use Rattle.demands.proofs.Answers.{finish-answered}
-use Rattle.demands.proofs.Discharged.{x64, fitting}
+use Rattle.demands.proofs.Discharged.{keeps, fitting}
 use Rattle.demands.proofs.Offsets.{offsets-moved, offsets-kept}
 
 -- sums of multiples
@@ -201,7 +201,7 @@ constants-hold r ss output e =
     (λ jump.
     let done = a .jumped jump in
     subst (λ (code : List ℕ). Constants (view r) code labels (codeAlignment (p .pool))) (sym (done .is))
-    (constants-moved r sound few (settled p .choice) (fitting r sound few (x64 r sound few jump) (a .fit) (a .bound) done) labels (offsets-moved r ss output e jump)))
+    (constants-moved r sound few (settled p .choice) (fitting r sound few (keeps r sound few jump) (a .fit) (a .bound) done) labels (offsets-moved r ss output e jump)))
     (λ none·moves.
     let done = a .straight none·moves in
     subst (λ (code : List ℕ). Constants (view r) code labels (codeAlignment (p .pool))) (sym (done .is))

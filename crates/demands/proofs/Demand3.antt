@@ -18,7 +18,7 @@ use Rattle.fresh.specs.Forms.{moves}
 use Rattle.finish.specs.Finish.{finish}
 use Rattle.demands.specs.Demand2.{finishedCode}
 use Rattle.demands.proofs.Answers.{finish-answered}
-use Rattle.demands.proofs.Discharged.{x64, fitting}
+use Rattle.demands.proofs.Discharged.{keeps, fitting}
 use Rattle.demands.proofs.Offsets.{offsets-moved}
 
 -- With a jump: the finished bytes, the label table as it is left, and the length and the layouts reported.
@@ -34,7 +34,7 @@ demand3-holds r ss output e jump =
     let sound = a .fit .sound in
     let few = a .fit .few in
     let done = a .jumped jump in
-    let fits = fitting r sound few (x64 r sound few jump) (a .fit) (a .bound) done in
+    let fits = fitting r sound few (keeps r sound few jump) (a .fit) (a .bound) done in
     let code = finishedCode r ss output in
     let labels = entries (wordAt (finish r ss output .1 .0)) (b .labels) in
     subst (Demand3 p code labels (finish r ss output .0 .code .len)) (sym (done .rounds))

@@ -8,7 +8,7 @@ use native.Mathlib.Nat.{mod-self}
 use native.Mathlib.Omega.{arith}
 use lib.Dec.{eqb, ltb}
 use lib.ListN.{length, getD, take, length-append, List·getD-eq-default}
-use borrow.Author.Tests.{ne-eqb, eqb-false, ltb-false, not-true}
+use borrow.Author.Tests.{eqb-false, ltb-false, not-true}
 use Rattle.refusals.specs.Numbers as refusals
 use Rattle.seqs.proofs.Booleans.{both-true, true-is-not-false}
 use Rattle.seqs.proofs.Numbers.{lt-or-ge, eq-or-ne}
@@ -27,6 +27,7 @@ use Rattle.relax.specs.Events.{eventOf, eventAt, endOf, startOf, noEvent}
 use Rattle.buffer.specs.declared.CodeBuffer.{CodeBuffer}
 use Rattle.buffer.specs.State.{none, keepsEvents}
 use Rattle.buffer.specs.Refusals.{foreign}
+use Rattle.buffer.proofs.Keeping.{keeps-or-not, kept-x64}
 use Rattle.buffer.specs.Tables.{mostEntries, refWords}
 use Rattle.recording.specs.Calls.{Recording}
 use Rattle.recording.specs.Sound.{Sound}
@@ -48,7 +49,7 @@ use Rattle.fields.specs.Kinds.{sizeOf}
 use Rattle.fields.specs.Reach.{reachOf}
 use Rattle.layout.proofs.Pooling.{all-modest}
 use Rattle.emit.specs.steps.Emit.{Writes}
-use Rattle.finish.specs.steps.Tables.{poolPlaced, tablesPooled}
+use Rattle.finish.specs.steps.Tables.{poolPlaced, laidPooled}
 use Rattle.finish.specs.steps.Ready.{Landed, Ready}
 use Rattle.seqs.proofs.Every.{every-at}
 use Rattle.seqs.specs.Every.{every}
@@ -173,24 +174,27 @@ module _ (r : Recording) (s : Sound r) (few : r .buffer .asked ≤ mostEntries) 
       ≡ tables.entries (eventAt (r .events)) (b .events) ++ cond (keepsEvents (b .arch)) (tables.entries (poolEvent (b .code) (r .constants) (r .asked)) (b .asked)) []
   events-are = ap (λ (x : Pooled). x .events) (pooled-is r s few)
 
-  -- an alignment among the events, which only X64 has
+  -- what keeps no events has none
+  none-kept : keepsEvents (b .arch) ≡ false → b .events ≡ 0
+  none-kept off = ⊎-elim (λ (on : keepsEvents (b .arch) ≡ true). absurd (true-is-not-false (sym on ∙ off))) (λ (z : b .events ≡ 0). z) (s .events .tracked)
+
+  -- an alignment among the events
   spending : (i : ℕ) (a : Alignment) → i < length (p .events) → demand.eventOf p i ≡ Align a → demand.SpendsAsRecorded a
   unfolding eventAt
   spending i a h is =
       ⊎-elim
-      (λ (is64 : b .arch ≡ 2).
-      let e : p .events ≡ all-events = events-are ∙ rw is64 refl in
+      (λ (on : keepsEvents (b .arch) ≡ true).
+      let e : p .events ≡ all-events = events-are ∙ rw on refl in
       ⊎-elim
       (λ (t : AtTable (r .events) (b .events) i (getD all-events i noEvent)).
       column-spends (b .labels) _ _ _ _ _ (s .events .entry i (t .below) .form) a (sym (t .is) ∙ (ap (λ (es : List LayoutEvent). getD es i noEvent) (sym e) ∙ is)))
       (λ (t : AtPool (r .constants) (r .asked) (b .code) (b .events) (b .asked) i (getD all-events i noEvent)).
       pool-spends (b .code) (r .constants) (r .asked) (t .number) a (sym (t .is) ∙ (ap (λ (es : List LayoutEvent). getD es i noEvent) (sym e) ∙ is)))
       (event-at (r .events) (r .constants) (r .asked) (b .code) (b .events) (b .asked) i noEvent (omega (arith, ap length e, many-events))))
-      (λ (ne : b .arch ≢ 2).
-      let none : b .events ≡ 0 = ⊎-elim (λ (e : b .arch ≡ 2). absurd (ne e)) (λ (z : b .events ≡ 0). z) (s .events .tracked) in
-      let no : p .events ≡ [] = events-are ∙ rw (ne-eqb (b .arch) 2 ne, none) refl in
+      (λ (off : keepsEvents (b .arch) ≡ false).
+      let no : p .events ≡ [] = events-are ∙ rw (off, none-kept off) refl in
       absurd (omega (arith, ap length no)))
-      (eq-or-ne (b .arch) 2)
+      (keeps-or-not (b .arch))
 
   -- without a jump
   pub reaching : {ss : List Segment} {labels output code table : List ℕ} {len : ℕ} → Bytes (r .code) → Fit r ss output → Kept p labels output code table len → Reaching p
@@ -204,44 +208,38 @@ module _ (r : Recording) (s : Sound r) (few : r .buffer .asked ≤ mostEntries) 
         spends = spending;
       }
 
-  -- only X64 keeps events
+  -- a recording with a jump keeps events
   no-events : (t : Bool) (xs : List LayoutEvent) → b .events ≡ 0 → t ≡ false
       → moves (tables.entries (eventAt (r .events)) (b .events) ++ cond t xs []) ≡ false
   unfolding moves
   no-events t xs none e = rw (none, e) refl
 
-  pub x64 : moves (p .events) ≡ true → b .arch ≡ 2
-  x64 jump =
+  pub keeps : moves (p .events) ≡ true → keepsEvents (b .arch) ≡ true
+  keeps jump =
       ⊎-elim
-      (λ (e : b .arch ≡ 2). e)
-      (λ (ne : b .arch ≢ 2).
-      let none : b .events ≡ 0 = ⊎-elim (λ (e : b .arch ≡ 2). absurd (ne e)) (λ (z : b .events ≡ 0). z) (s .events .tracked) in
-      let still : moves (p .events) ≡ false = ap (λ (q : Pooled). moves (q .events)) (pooled-is r s few) ∙ no-events (eqb (b .arch) 2) _ none (ne-eqb (b .arch) 2 ne) in
+      (λ (on : keepsEvents (b .arch) ≡ true). on)
+      (λ (off : keepsEvents (b .arch) ≡ false).
+      let still : moves (p .events) ≡ false = ap (λ (q : Pooled). moves (q .events)) (pooled-is r s few) ∙ no-events (keepsEvents (b .arch)) _ (none-kept off) off in
       absurd (true-is-not-false (sym jump ∙ still)))
-      (eq-or-ne (b .arch) 2)
+      (keeps-or-not (b .arch))
 
-  module _ (is64 : b .arch ≡ 2) where
-    ready64 : Ready (r .code) bound (r .events) (r .constants) (r .asked) 2 (b .code) (b .labels) (b .events) (b .asked)
-    ready64 = subst (λ (a : ℕ). Ready (r .code) bound (r .events) (r .constants) (r .asked) a (b .code) (b .labels) (b .events) (b .asked)) is64 (ready r s few)
+  module _ (on : keepsEvents (b .arch) ≡ true) where
+    laid : Ready (r .code) bound (r .events) (r .constants) (r .asked) (b .arch) (b .code) (b .labels) (b .events) (b .asked)
+    laid = ready r s few
 
     abbrev q : Pooled
     q =
-        tablesPooled 2 (b .code) (take (b .code) (r .code)) (tables.entries (wordAt bound) (b .labels)) (tables.entries (eventAt (r .events)) (b .events))
+        laidPooled (b .arch) (b .code) (take (b .code) (r .code)) (tables.entries (wordAt bound) (b .labels)) (tables.entries (eventAt (r .events)) (b .events))
         (tables.entries (tables.useAt (r .uses)) (b .uses)) (tables.entries (tables.refAt (r .refs)) (b .refs)) (r .constants) (r .asked) (b .asked)
 
     pooled-q : p ≡ q
     pooled-q =
-        (pooled-is r s few)
-        ∙ ap
-        (λ (a : ℕ).
-        tablesPooled a (b .code) (take (b .code) (r .code)) (tables.entries (wordAt bound) (b .labels)) (tables.entries (eventAt (r .events)) (b .events))
-        (tables.entries (tables.useAt (r .uses)) (b .uses)) (tables.entries (tables.refAt (r .refs)) (b .refs)) (r .constants) (r .asked) (b .asked))
-        is64
+        pooled-is r s few ∙ rw on
 
     pub formed : every (refClear p) (p .refs) ≡ true → WellFormed p
     formed clear =
         subst WellFormed (sym pooled-q)
-        (well-formed (r .code) bound (r .events) (r .constants) (r .asked) (b .code) (b .labels) (b .events) (b .asked) ready64 (q .uses) (q .refs)
+        (well-formed (r .code) bound (r .events) (r .constants) (r .asked) (b .arch) (b .code) (b .labels) (b .events) (b .asked) laid (q .uses) (q .refs)
         (subst (λ (x : Pooled). every (refClear x) (x .refs) ≡ true) pooled-q clear))
 
     table-known : (i : ℕ) → i < b .events → Writes (eventAt (r .events) i)
@@ -262,7 +260,7 @@ module _ (r : Recording) (s : Sound r) (few : r .buffer .asked ≤ mostEntries) 
     constant-apart i h =
         let lt : i < b .asked = omega (arith, length-entries (poolPlaced (b .code) (r .constants) (r .asked)) (b .asked)) in
         rw (getD-entries (poolPlaced (b .code) (r .constants) (r .asked)) (b .asked) i (record { offset = 0; bytes = [] }) lt)
-        (pool-apart (r .code) bound (r .events) (r .constants) (r .asked) (b .code) (b .labels) (b .events) (b .asked) ready64 (q .uses) (q .refs) i lt)
+        (pool-apart (r .code) bound (r .events) (r .constants) (r .asked) (b .arch) (b .code) (b .labels) (b .events) (b .asked) laid (q .uses) (q .refs) i lt)
 
     -- the alignments of the constants from number i on, of which only those after a constant of no bytes start where it stands
     alignment-on : (i k : ℕ) → i ≤ k → poolStart (b .code) (r .constants) (r .asked) k ≤ poolOffset (b .code) (r .constants) (r .asked) i
@@ -317,7 +315,7 @@ module _ (r : Recording) (s : Sound r) (few : r .buffer .asked ≤ mostEntries) 
         let at = ref-is i h in
         let sound = s .refs .entry i (at .0) .native in
         x86-kind (decoded (wordAt (r .refs) (i * refWords + 2))) k (sym (ap (λ (f : tables.Ref). decoded (f .code)) (at .1)) ∙ is)
-        (subst (λ (a : ℕ). foreign (decoded (wordAt (r .refs) (i * refWords + 2))) a ≡ false) is64 sound)
+        (subst (λ (a : ℕ). foreign (decoded (wordAt (r .refs) (i * refWords + 2))) a ≡ false) (kept-x64 (b .arch) on) sound)
 
     -- with a jump
     pub fitting : {ss : List Segment} {output labels code table : List ℕ} {len layouts : ℕ} → Fit r ss output
@@ -329,10 +327,10 @@ module _ (r : Recording) (s : Sound r) (few : r .buffer .asked ≤ mostEntries) 
           recorded = omega (arith, fit .small);
           small = omega (arith, length-assembled p c, done .fits, fit .room);
           fits = none-fits p c (rounds-last (rounds-settle p));
-          padded = λ e. omega (arith, ap (λ (x : Pooled). x .arch) pooled-q, e);
+          padded = λ e. omega (arith, kept-x64 (b .arch) on, ap (λ (x : Pooled). x .arch) pooled-q, e);
           modest =
               subst (λ (x : Pooled). Modest (x .events)) (sym pooled-q)
-              (all-modest (r .events) (b .events) (b .code) (r .constants) (r .asked) (recorded ready64) (b .asked));
+              (all-modest (r .events) (b .events) (b .code) (r .constants) (r .asked) (recorded laid) (b .asked));
           bound = jumps-bound p (tables.view r .relocs) bounds;
           known = λ i v h is. subst Writes is (all-known i h);
           native = ref-native;

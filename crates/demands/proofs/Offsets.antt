@@ -24,7 +24,7 @@ use Rattle.finish.specs.Finish.{finish}
 use Rattle.finish.proofs.MappedTables.{word-over, map-entries}
 use Rattle.demands.proofs.Relaxing.{Fitting}
 use Rattle.demands.proofs.Answers.{finish-answered}
-use Rattle.demands.proofs.Discharged.{x64, label-word, labelled, fitting}
+use Rattle.demands.proofs.Discharged.{keeps, label-word, labelled, fitting}
 
 -- words written over a table are read from it
 words-read : (f : ℕ → ℕ) (t : List ℕ) (n : ℕ) → n * 4 ≤ length t → ((i : ℕ) → i < n → f i < 4294967296)
@@ -64,7 +64,7 @@ module _ (r : Recording) (ss : List Segment) (output : List ℕ) (e : finish r s
       let sound = a .fit .sound in
       let few = a .fit .few in
       let done = a .jumped jump in
-      let fits = fitting r sound few (x64 r sound few jump) (a .fit) (a .bound) done in
+      let fits = fitting r sound few (keeps r sound few jump) (a .fit) (a .bound) done in
       let at = labelled r sound few in
       let f : ℕ → ℕ = λ (i : ℕ). moved p c (at .0 i) in
       let all : map (moved p c) (p .labels) ≡ entries f count = ap (map (moved p c)) (at .1) ∙ map-entries (moved p c) (at .0) count in
@@ -100,7 +100,7 @@ module _ (r : Recording) (ss : List Segment) (output : List ℕ) (e : finish r s
       let sound = a .fit .sound in
       let few = a .fit .few in
       let c = settled p .choice in
-      let near = target-bound p c (fitting r sound few (x64 r sound few jump) (a .fit) (a .bound) (a .jumped jump)) l bound in
+      let near = target-bound p c (fitting r sound few (keeps r sound few jump) (a .fit) (a .bound) (a .jumped jump)) l bound in
       let goes : target p c l ≡ none =
       sym (ap (λ (n : ℕ). getD (map (moved p c) (p .labels)) l n) (sym (moved-none p c)) ∙ List·getD-map (moved p c) (p .labels) l none)
       ∙ (ap (λ (t : List ℕ). getD t l none) (sym (offsets-moved jump)) ∙ at) in

@@ -1,6 +1,6 @@
 -- What recording calls have written stays: later calls, pooling and, without a jump, finish leave the padding of an alignment.
 use mathlib.Core.Path.{_≡_, refl, sym, ap, _∙_, subst}
-use mathlib.Core.Logic.{_≢_, ⊎-elim}
+use mathlib.Core.Logic.{⊎-elim}
 use mathlib.Core.Bool.{true, false}
 use mathlib.Core.List.{List, [], _∷_, _++_, append-assoc, append-nil}
 use Prim.Native.Nat.{ℕ, zero, suc, _+_, _/_}
@@ -10,7 +10,6 @@ use lib.ListN.{length, take, drop, take-append-drop}
 use lib.Seq.{length-take-le}
 use borrow.Author.Tests.{eqb-true, eqb-false}
 use Rattle.seqs.specs.Over.{over}
-use Rattle.seqs.proofs.Numbers.{eq-or-ne}
 use Rattle.seqs.proofs.Picking.{yes-eq}
 use Rattle.seqs.proofs.Overwrites.{part-before}
 use Rattle.encoder.specs.Padding.{paddingWithin, Spends}
@@ -20,10 +19,11 @@ use Rattle.relax.specs.Events.{eventSize}
 use Rattle.buffer.specs.declared.CodeBuffer.{CodeBuffer}
 use Rattle.buffer.specs.declared.Recorded.{Recorded}
 use Rattle.buffer.specs.declared.Made.{Made}
-use Rattle.buffer.specs.State.{withRefusal, refusing}
+use Rattle.buffer.specs.State.{keepsEvents, withRefusal, refusing}
 use Rattle.buffer.specs.Refusals.{whyAlign}
 use Rattle.buffer.specs.Calls.{putBytes, getLabel, bindLabel, padding, alignedEvents, alignTo, useLabel, recordRef, recordJump, addConstant, askedFirst, constantLabel, addReloc}
 use Rattle.buffer.proofs.Appends.{padding-length}
+use Rattle.buffer.proofs.Keeping.{keeps-or-not}
 use Rattle.buffer.proofs.Accepted.{align-accepted}
 use Rattle.recording.specs.Calls.{
   Recording,
@@ -177,11 +177,9 @@ aligned : (r : Recording) (m most : Word) → answered (align m most) r ≡ 0
 aligned r m most e =
     let zero = taken r m most e in
     ⊎-elim
-    (λ (x64 : r .buffer .arch ≡ 2).
-    ap (λ (v : View). v .code) (see-align r m most zero x64)
-    ∙ ap (λ (arch : ℕ). view r .code ++ padding arch (paddingWithin (r .buffer .code) (m .value) (most .value))) (sym x64))
-    (λ (other : r .buffer .arch ≢ 2). ap (λ (v : View). v .code) (see-align-elsewhere r m most zero other))
-    (eq-or-ne (r .buffer .arch) 2)
+    (λ (kept : keepsEvents (r .buffer .arch) ≡ true). ap (λ (v : View). v .code) (see-align r m most zero kept))
+    (λ (other : keepsEvents (r .buffer .arch) ≡ false). ap (λ (v : View). v .code) (see-align-elsewhere r m most zero other))
+    (keeps-or-not (r .buffer .arch))
 
 -- Without a jump: the padding of an alignment recorded by a call, whatever calls and growth follow, byte by byte where no use and no constant covers it.
 pub recorded-padding : (r : Recording) → Sound r → (m most : Word) → answered (align m most) r ≡ 0 → (f : Recording) → Leads (after (align m most) r) f

@@ -32,7 +32,7 @@ use Rattle.fields.specs.declared.LabelUse.the-variants.{X86JmpRel32, A64Branch2
 use Rattle.relax.specs.declared.Condition.the-variants.{On}
 use Rattle.relax.specs.declared.Segment.{Segment}
 use Rattle.relax.specs.Events.{conditionOf, eventOf, eventAt}
-use Rattle.buffer.specs.State.{none}
+use Rattle.buffer.specs.State.{none, keepsEvents}
 use Rattle.buffer.specs.Refusals.{standing, isAlignment, lastEnd, foreignReloc}
 use Rattle.buffer.specs.Tables.{defaultMost}
 use Rattle.checks.specs.Entries.{formFits, eventFits, keptOnly, eventsFit, outside, labelFits, labelsFit, useFits, usesFit, refFits, refsFit, relocsFit, constantFits, constantsFit, askedFits, askedOnce, isAsked, orderFits, entriesFit}
@@ -122,7 +122,7 @@ x64-choice = false ∷ false ∷ false ∷ false ∷ false ∷ []
 
 x64-clear : (j : ℕ) → ConstantMisses (moved (pooledIn x64) x64-choice) (pooledIn x64) 0 4 j
 unfolding every all count naming over pick wordAt nop.form nop.nopsBy nop.nops paddingLength paddingWithin decoded signExtend range canReachDelta patched conditionOf eventOf eventAt standing isAlignment
-    lastEnd formFits eventFits keptOnly eventsFit outside labelFits labelsFit usesFit refFits refsFit relocsFit constantFits constantsFit askedFits askedOnce
+    lastEnd formFits eventFits keepsEvents keptOnly eventsFit outside labelFits labelsFit usesFit refFits refsFit relocsFit constantFits constantsFit askedFits askedOnce
     isAsked orderFits entriesFit countsFit withinLimits pooledOne form width roleOf moves items writes starts stands moved jumps reaches isFar farOf any join settle fillField
     fillRefs fillJump fillJumps fillPool fill assembled segments poolBoundBefore relocBound allBound refClear refReaches whyNotLaid whyNotWritten whyUnfit relocated relaxed
     placedBy finishing.finish finish
@@ -132,7 +132,7 @@ x64-clear (suc (suc j)) known x from to low high = let few : suc (suc j) < 2 = k
 
 x64-meets : X64Meets
 unfolding every all count naming over pick wordAt nop.form nop.nopsBy nop.nops paddingLength paddingWithin decoded signExtend range canReachDelta patched conditionOf eventOf eventAt standing isAlignment
-    lastEnd formFits eventFits keptOnly eventsFit outside labelFits labelsFit usesFit refFits refsFit relocsFit constantFits constantsFit askedFits askedOnce
+    lastEnd formFits eventFits keepsEvents keptOnly eventsFit outside labelFits labelsFit usesFit refFits refsFit relocsFit constantFits constantsFit askedFits askedOnce
     isAsked orderFits entriesFit countsFit withinLimits pooledOne form width roleOf moves items writes starts stands moved jumps reaches isFar farOf any join settle fillField
     fillRefs fillJump fillJumps fillPool fill assembled segments poolBoundBefore relocBound allBound refClear refReaches whyNotLaid whyNotWritten whyUnfit relocated relaxed
     placedBy finishing.finish finish
@@ -206,7 +206,7 @@ record LeastMeets : Type 0 where
 
 least-meets : LeastMeets
 unfolding every all count naming over pick wordAt decoded signExtend range canReachDelta patched conditionOf eventOf eventAt standing isAlignment
-    lastEnd formFits eventFits keptOnly eventsFit outside labelFits labelsFit usesFit refsFit relocsFit constantsFit askedOnce
+    lastEnd formFits eventFits keepsEvents keptOnly eventsFit outside labelFits labelsFit usesFit refsFit relocsFit constantsFit askedOnce
     orderFits entriesFit countsFit withinLimits form width roleOf moves items writes starts stands moved jumps reaches isFar farOf any join settle fillField
     fillRefs fillJump fillJumps fillPool fill assembled segments poolBoundBefore relocBound allBound whyNotLaid whyNotWritten whyUnfit relocated relaxed
     placedBy finishing.finish finish NoAlign Includes
@@ -262,38 +262,38 @@ abbrev pub here : ℕ → ℕ
 here offset = offset
 
 after-first : (j : ℕ) → 0 < j → UseMisses (pooledIn a64) 0 4 j
-unfolding wordAt decoded pooledOne nop.form nop.nopsBy nop.nops paddingLength
+unfolding keepsEvents wordAt decoded pooledOne nop.form nop.nopsBy nop.nops paddingLength
 after-first zero later known x from to low high = omega arith
 after-first (suc zero) later known x from to low high = omega arith
 after-first (suc (suc zero)) later known x from to low high = omega arith
 after-first (suc (suc (suc j))) later known x from to low high = let few : suc (suc (suc j)) < 3 = known in omega arith
 
 pub after-second : (j : ℕ) → 1 < j → UseMisses (pooledIn a64) 4 4 j
-unfolding wordAt decoded pooledOne nop.form nop.nopsBy nop.nops paddingLength
+unfolding keepsEvents wordAt decoded pooledOne nop.form nop.nopsBy nop.nops paddingLength
 after-second zero later known x from to low high = omega arith
 after-second (suc zero) later known x from to low high = omega arith
 after-second (suc (suc zero)) later known x from to low high = omega arith
 after-second (suc (suc (suc j))) later known x from to low high = let few : suc (suc (suc j)) < 3 = known in omega arith
 
 after-third : (j : ℕ) → 2 < j → UseMisses (pooledIn a64) 8 4 j
-unfolding wordAt decoded pooledOne nop.form nop.nopsBy nop.nops paddingLength
+unfolding keepsEvents wordAt decoded pooledOne nop.form nop.nopsBy nop.nops paddingLength
 after-third j later known x from to low high = let few : j < 3 = known in omega arith
 
 before-padding : (a n : ℕ) → 12 ≤ a → (i : ℕ) → UseMisses (pooledIn a64) a n i
-unfolding wordAt decoded pooledOne nop.form nop.nopsBy nop.nops paddingLength
+unfolding keepsEvents wordAt decoded pooledOne nop.form nop.nopsBy nop.nops paddingLength
 before-padding a n behind zero known x from to low high = omega arith
 before-padding a n behind (suc zero) known x from to low high = omega arith
 before-padding a n behind (suc (suc zero)) known x from to low high = omega arith
 before-padding a n behind (suc (suc (suc j))) known x from to low high = let few : suc (suc (suc j)) < 3 = known in omega arith
 
 pub behind-all : (a n : ℕ) → a + n ≤ 16 → (j : ℕ) → ConstantMisses here (pooledIn a64) a n j
-unfolding wordAt decoded pooledOne nop.form nop.nopsBy nop.nops paddingLength
+unfolding keepsEvents wordAt decoded pooledOne nop.form nop.nopsBy nop.nops paddingLength
 behind-all a n before zero known x from to low high = omega arith
 behind-all a n before (suc j) known x from to low high = let few : suc j < 1 = known in omega arith
 
 a64-meets : A64Meets
 unfolding every all count naming over pick wordAt paddingLength paddingWithin decoded signExtend range insertBits canReach canReachDelta pagesReach reachRefusal patched heldAddend conditionOf eventOf
-    eventAt standing lastEnd keptOnly eventsFit outside labelFits labelsFit useFits usesFit refsFit relocsFit constantFits constantsFit askedFits askedOnce isAsked orderFits
+    eventAt standing lastEnd keepsEvents keptOnly eventsFit outside labelFits labelsFit useFits usesFit refsFit relocsFit constantFits constantsFit askedFits askedOnce isAsked orderFits
     entriesFit countsFit withinLimits pooledOne roleOf moves fillUse fillUses fillPool inPlace poolBoundBefore relocBound allBound useRefusal usesRefusal whyNotInPlace whyUnfit
     unrelaxed placedBy finishing.finish finish
 a64-meets =
@@ -334,16 +334,16 @@ record HeldMeets : Type 0 where
   exact : (base : ℕ) → rel32 (plus base 0) 0 ≡ plus base 4
 
 no-use-after : (j : ℕ) → 0 < j → UseMisses (pooledIn minus-four) 0 4 j
-unfolding wordAt decoded pooledOne
+unfolding keepsEvents wordAt decoded pooledOne
 no-use-after j later known x from to low high = let few : j < 1 = known in omega arith
 
 no-constant : (j : ℕ) → ConstantMisses here (pooledIn minus-four) 0 4 j
-unfolding wordAt decoded pooledOne
+unfolding keepsEvents wordAt decoded pooledOne
 no-constant j known x from to low high = let few : j < 0 = known in omega arith
 
 held-meets : HeldMeets
 unfolding every all count naming over pick wordAt paddingLength paddingWithin decoded signExtend range insertBits canReach canReachDelta pagesReach reachRefusal patched heldAddend conditionOf eventOf
-    eventAt standing lastEnd keptOnly eventsFit outside labelFits labelsFit useFits usesFit refsFit relocsFit constantFits constantsFit askedFits askedOnce isAsked orderFits
+    eventAt standing lastEnd keepsEvents keptOnly eventsFit outside labelFits labelsFit useFits usesFit refsFit relocsFit constantFits constantsFit askedFits askedOnce isAsked orderFits
     entriesFit countsFit withinLimits pooledOne roleOf moves fillUse fillUses fillPool inPlace poolBoundBefore relocBound allBound useRefusal usesRefusal whyNotInPlace whyUnfit
     unrelaxed placedBy finishing.finish finish
 held-meets =
@@ -393,7 +393,7 @@ record WideMeets : Type 0 where
   less : (m : ℕ) → 32 ≤ m → wordOf (finish unasked [] (replicate 1 0) (replicate 24 0)) 2 ≤ m
 
 wide-meets : WideMeets
-unfolding every all count naming over pick wordAt nop.form nop.nopsBy nop.nops paddingLength paddingWithin standing lastEnd keptOnly eventsFit outside labelFits labelsFit usesFit refsFit relocsFit
+unfolding every all count naming over pick wordAt nop.form nop.nopsBy nop.nops paddingLength paddingWithin standing lastEnd keepsEvents keptOnly eventsFit outside labelFits labelsFit usesFit refsFit relocsFit
     constantFits constantsFit askedFits askedOnce isAsked orderFits entriesFit countsFit withinLimits pooledOne codeAlignment moves fillUses fillPool inPlace poolBoundBefore
     relocBound allBound usesRefusal whyNotInPlace whyUnfit unrelaxed placedBy finishing.finish finish
 wide-meets =

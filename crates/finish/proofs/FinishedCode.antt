@@ -35,17 +35,17 @@ use Rattle.fields.specs.Kinds.{sizeOf}
 use Rattle.seqs.proofs.Every.{every-at}
 use Rattle.seqs.specs.Every.{every}
 use Rattle.finish.specs.Refusals.{refClear}
-use Rattle.finish.specs.steps.Tables.{poolPlaced, tablesPooled}
+use Rattle.finish.specs.steps.Tables.{poolPlaced, tablesPooled, laidPooled}
 use Rattle.finish.specs.steps.Ready.{Ready, Keepable, endOfRuns, codeWritten}
 use Rattle.finish.proofs.PooledInOrder.{ref-apart, pooled-length, well-formed, constant-size, pool-apart, recorded-ordered}
 use Rattle.finish.proofs.FilledFields.{uses-filled, refs-filled, jumps-filled, pool-filled}
 use Rattle.finish.proofs.PooledRuns.{pool-runs}
 
 -- what the code is written from: the tables, the layout of a choice of long jumps, and labels at their new offsets
-pub record Placing (code labels final events refs constants asked : List ℕ) (len count n m f : ℕ) (us : List tables.Use) (c : Choice) (ss : List Segment) : Type 0 where
-  pub ready : Ready code labels events constants asked 2 len count n m
-  pub clear : every (refClear (tablesPooled 2 len (take len code) (tables.entries (wordAt labels) count) (tables.entries (eventAt events) n) us (tables.entries (tables.refAt refs) f) constants asked m)) (tables.entries (tables.refAt refs) f) ≡ true
-  pub laid : take (n + m) ss ≡ segmentsOf (tablesPooled 2 len (take len code) (tables.entries (wordAt labels) count) (tables.entries (eventAt events) n) us (tables.entries (tables.refAt refs) f) constants asked m) c
+pub record Placing (code labels final events refs constants asked : List ℕ) (arch len count n m f : ℕ) (us : List tables.Use) (c : Choice) (ss : List Segment) : Type 0 where
+  pub ready : Ready code labels events constants asked arch len count n m
+  pub clear : every (refClear (laidPooled arch len (take len code) (tables.entries (wordAt labels) count) (tables.entries (eventAt events) n) us (tables.entries (tables.refAt refs) f) constants asked m)) (tables.entries (tables.refAt refs) f) ≡ true
+  pub laid : take (n + m) ss ≡ segmentsOf (laidPooled arch len (take len code) (tables.entries (wordAt labels) count) (tables.entries (eventAt events) n) us (tables.entries (tables.refAt refs) f) constants asked m) c
   pub known : (i : ℕ) → i < f → wordAt refs (i * refWords + 1) < count
   pub named : (i : ℕ) (b : Branch) → i < n → roleOf (eventAt events i) ≡ branches b → b .label < count
   pub moved : (l : ℕ) → l < count → wordAt final l ≡ mapOffset (take (n + m) ss) (wordAt labels l)
@@ -65,13 +65,13 @@ over-at xs ys zs n h =
     ap (λ (k : ℕ). over (over xs 0 ys) k zs) e ∙ over-append xs 0 ys zs
 
 -- what the calls leave in the output, one after another, is what is written in the end
-pub written-in-order : (output code labels events refs constants asked : List ℕ) (c : Choice) (ss : List Segment) (len n m f : ℕ)
+pub written-in-order : (output code labels events refs constants asked : List ℕ) (c : Choice) (ss : List Segment) (arch len n m f : ℕ)
     {placed laid filled jumped last : List ℕ} {to : ℕ}
-    → placed ≡ over output 0 (runs 2 0 0 (take len code) (tables.entries (eventAt events) n) c) → to ≡ endOfRuns code events c len n
-    → laid ≡ over placed to (poolBytes 2 to constants asked m) → filled ≡ refsFilled laid refs labels ss (n + m) f
+    → placed ≡ over output 0 (runs arch 0 0 (take len code) (tables.entries (eventAt events) n) c) → to ≡ endOfRuns arch code events c len n
+    → laid ≡ over placed to (poolBytes arch to constants asked m) → filled ≡ refsFilled laid refs labels ss (n + m) f
     → jumped ≡ jumpsFilled filled events labels c ss n → last ≡ poolWritten jumped labels constants asked m
-    → last ≡ codeWritten output code labels events refs constants asked c ss len n m f
-written-in-order output code labels events refs constants asked c ss len n m f e1 e2 e3 e4 e5 e6 = rw (e6, e5, e4, e3, e2, e1)
+    → last ≡ codeWritten arch output code labels events refs constants asked c ss len n m f
+written-in-order output code labels events refs constants asked c ss arch len n m f e1 e2 e3 e4 e5 e6 = rw (e6, e5, e4, e3, e2, e1)
 
 -- a segment's new start, read from the table
 pub start-segment : (ss made : List Segment) (k i : ℕ) → i < k → take k ss ≡ made → startAt ss i ≡ getD (newStarts made) i 0
@@ -80,13 +80,13 @@ start-segment ss made k i h e =
     ∙ ap (λ (l : List Segment). getD l i zeroSegment .«new_start») e
     ∙ sym (List·getD-map (λ (s : Segment). s .«new_start») made i zeroSegment)
 
-module _ (code labels final events refs constants asked : List ℕ) (len count n m f : ℕ) (us : List tables.Use) (c : Choice) (ss : List Segment)
-    (pl : Placing code labels final events refs constants asked len count n m f us c ss) where
+module _ (code labels final events refs constants asked : List ℕ) (arch len count n m f : ℕ) (us : List tables.Use) (c : Choice) (ss : List Segment)
+    (pl : Placing code labels final events refs constants asked arch len count n m f us c ss) where
   abbrev p : Pooled
-  p = tablesPooled 2 len (take len code) (tables.entries (wordAt labels) count) (tables.entries (eventAt events) n) us (tables.entries (tables.refAt refs) f) constants asked m
+  p = laidPooled arch len (take len code) (tables.entries (wordAt labels) count) (tables.entries (eventAt events) n) us (tables.entries (tables.refAt refs) f) constants asked m
 
   formed : WellFormed p
-  formed = well-formed code labels events constants asked len count n m (pl .ready) us (tables.entries (tables.refAt refs) f) (pl .clear)
+  formed = well-formed code labels events constants asked arch len count n m (pl .ready) us (tables.entries (tables.refAt refs) f) (pl .clear)
 
   -- a label's new offset
   label-at : (l : ℕ) → l < count → wordAt final l ≡ mapOffset (segmentsOf p c) (getD (p .labels) l none)
@@ -100,20 +100,20 @@ module _ (code labels final events refs constants asked : List ℕ) (len count n
   starts-at : (i : ℕ) → i < n → startAt ss i ≡ getD (newStarts (segmentsOf p c)) i 0
   starts-at i h = start-segment ss (segmentsOf p c) (n + m) i (omega arith) (pl .laid)
 
-  all-runs : runs 2 0 0 (p .code) (p .events) c
-      ≡ runs 2 0 0 (take len code) (tables.entries (eventAt events) n) c
-      ++ poolBytes 2 (length (runs 2 0 0 (take len code) (tables.entries (eventAt events) n) c)) constants asked m
+  all-runs : runs arch 0 0 (p .code) (p .events) c
+      ≡ runs arch 0 0 (take len code) (tables.entries (eventAt events) n) c
+      ++ poolBytes arch (length (runs arch 0 0 (take len code) (tables.entries (eventAt events) n) c)) constants asked m
   all-runs =
       let long : len ≡ length (take len code) = sym (length-take-le len code (pl .ready .bytes .room)) in
-      pool-runs (take len code) (tables.entries (eventAt events) n) constants asked c len
-      (length (runs 2 0 0 (take len code) (tables.entries (eventAt events) n) c)) long
-      (rw (← long) (recorded-ordered events n count len 2 (pl .ready .recorded))) refl m .whole
+      pool-runs arch (take len code) (tables.entries (eventAt events) n) constants asked c len
+      (length (runs arch 0 0 (take len code) (tables.entries (eventAt events) n) c)) long
+      (rw (← long) (recorded-ordered events n count len arch (pl .ready .recorded))) refl m .whole
 
   -- What is written, call by call, is the fresh assembly.
   pub code-written : (output placed laid : List ℕ) (to : ℕ)
-      → placed ≡ over output 0 (runs 2 0 0 (take len code) (tables.entries (eventAt events) n) c)
-      → to ≡ length (runs 2 0 0 (take len code) (tables.entries (eventAt events) n) c)
-      → laid ≡ over placed to (poolBytes 2 to constants asked m)
+      → placed ≡ over output 0 (runs arch 0 0 (take len code) (tables.entries (eventAt events) n) c)
+      → to ≡ length (runs arch 0 0 (take len code) (tables.entries (eventAt events) n) c)
+      → laid ≡ over placed to (poolBytes arch to constants asked m)
       → length (assembled p c) ≤ length output
       → poolWritten (jumpsFilled (refsFilled laid refs final ss (n + m) f) events final c ss n) final constants asked m
       ≡ over output 0 (assembled p c)
@@ -121,9 +121,9 @@ module _ (code labels final events refs constants asked : List ℕ) (len count n
   code-written output placed laid to ep et el fits =
       let at = mapOffset (segmentsOf p c) in
       let named : ℕ → ℕ = λ label. at (getD (p .labels) label none) in
-      let recorded = runs 2 0 0 (take len code) (tables.entries (eventAt events) n) c in
-      let whole : laid ≡ over output 0 (runs 2 0 0 (p .code) (p .events) c)
-      = rw (el, ep, et, all-runs) (over-at output recorded (poolBytes 2 (length recorded) constants asked m) (length recorded) refl) in
+      let recorded = runs arch 0 0 (take len code) (tables.entries (eventAt events) n) c in
+      let whole : laid ≡ over output 0 (runs arch 0 0 (p .code) (p .events) c)
+      = rw (el, ep, et, all-runs) (over-at output recorded (poolBytes arch (length recorded) constants asked m) (length recorded) refl) in
       rw (
         refs-filled laid refs final (p .labels) ss (segmentsOf p c) (n + m) f (pl .laid) (λ i h. label-at (wordAt refs (i * refWords + 1)) (pl .known i h)),
         jumps-filled (fillRefs at (p .labels) (p .refs) laid) events final constants asked c ss named (newStarts (segmentsOf p c)) n len m starts-at
@@ -131,13 +131,13 @@ module _ (code labels final events refs constants asked : List ℕ) (len count n
         pool-filled (fillJumps named (p .events) c (newStarts (segmentsOf p c)) (fillRefs at (p .labels) (p .refs) laid)) final constants asked at len m pool-at,
         whole,
       )
-      (built-past p c formed (omega (arith, pooled-length code labels events constants asked len count n m (pl .ready) us (tables.entries (tables.refAt refs) f), pl .ready .bytes .limit, pl .ready .pool .few, poolStart-bound len constants asked m (pl .ready .pool) m (omega arith)))
+      (built-past p c formed (omega (arith, pooled-length code labels events constants asked arch len count n m (pl .ready) us (tables.entries (tables.refAt refs) f), pl .ready .bytes .limit, pl .ready .pool .few, poolStart-bound len constants asked m (pl .ready .pool) m (omega arith)))
       output any·ref any·constant
       (λ i k h e. subst (λ (s : ℕ). Apart p ((getD (p .refs) i any·ref) .offset) s) (ap sizeOf e) (ref-apart p (getD (p .refs) i any·ref) (every-at (refClear p) (p .refs) any·ref (pl .clear) i h)))
       (λ i h.
       let lt : i < m = omega (arith, length-entries (poolPlaced len constants asked) m) in
       rw (getD-entries (poolPlaced len constants asked) m i any·constant lt)
-      (pool-apart code labels events constants asked len count n m (pl .ready) us (tables.entries (tables.refAt refs) f) i lt))
+      (pool-apart code labels events constants asked arch len count n m (pl .ready) us (tables.entries (tables.refAt refs) f) i lt))
       (omega (arith, ap length (built-assembled p c formed), length-built p c))
       ∙ ap (over output 0) (built-assembled p c formed))
 

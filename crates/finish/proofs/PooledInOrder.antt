@@ -37,7 +37,7 @@ use Rattle.fields.specs.Kinds.{sizeOf}
 use Rattle.seqs.proofs.Every.{every-at}
 use Rattle.seqs.specs.Every.{every}
 use Rattle.finish.specs.Refusals.{refClear}
-use Rattle.finish.specs.steps.Tables.{poolPlaced, tablesPooled}
+use Rattle.finish.specs.steps.Tables.{laidPooled, poolPlaced, tablesPooled}
 use Rattle.finish.specs.steps.Ready.{Landed, Ready}
 
 -- the events of the table follow one another within the code
@@ -285,23 +285,23 @@ constant-size constants asked m pool j h =
     length-take-le (sizeAt constants asked j) (drop (wordAt asked j * constantSize + constantHead) constants)
     (omega (arith, length-drop (wordAt asked j * constantSize + constantHead) constants, pool .listed j h, pool .sized j h))
 
-module _ (code labels events constants asked : List ℕ) (len count n m : ℕ) (ready : Ready code labels events constants asked 2 len count n m)
+module _ (code labels events constants asked : List ℕ) (arch len count n m : ℕ) (ready : Ready code labels events constants asked arch len count n m)
     (us : List Use) (rs : List Ref) where
   abbrev p : Pooled
-  p = tablesPooled 2 len (take len code) (entries (wordAt labels) count) (entries (eventAt events) n) us rs constants asked m
+  p = laidPooled arch len (take len code) (entries (wordAt labels) count) (entries (eventAt events) n) us rs constants asked m
 
   -- the pooled code ends where the pool does
   pub pooled-length : length (p .code) ≡ poolStart len constants asked m
   pooled-length =
-      length-append (take len code) (poolBytes 2 len constants asked m)
-      ∙ rw (length-take-le len code (ready .bytes .room)) (length-poolBytes 2 len constants asked m)
+      length-append (take len code) (poolBytes arch len constants asked m)
+      ∙ rw (length-take-le len code (ready .bytes .room)) (length-poolBytes arch len constants asked m)
 
   label-lies : (l : ℕ) → getD (entries (wordAt labels) count) l none ≢ none → Lies p (getD (entries (wordAt labels) count) l none)
   label-lies l bound =
       ⊎-elim
       (λ (lt : l < count).
       let e = getD-entries (wordAt labels) count l none lt in
-      rw (e, pooled-length) (offset-lies code labels events constants asked 2 len count n m ready (p .events) refl (wordAt labels l) (ready .landed l lt) (λ z. bound (e ∙ z))))
+      rw (e, pooled-length) (offset-lies code labels events constants asked arch len count n m ready (p .events) refl (wordAt labels l) (ready .landed l lt) (λ z. bound (e ∙ z))))
       (λ ge. absurd (bound (List·getD-eq-default (entries (wordAt labels) count) none (omega (arith, length-entries (wordAt labels) count)))))
       (lt-or-ge l count)
 
@@ -309,14 +309,14 @@ module _ (code labels events constants asked : List ℕ) (len count n m : ℕ) (
   constant-lies i h =
       let lt : i < m = omega (arith, length-entries (poolPlaced len constants asked) m) in
       rw (getD-entries (poolPlaced len constants asked) m i (record { offset = 0; bytes = [] }) lt, pooled-length)
-      (offset-lies code labels events constants asked 2 len count n m ready (p .events) refl (poolOffset len constants asked i) (inr (i, lt, refl))
+      (offset-lies code labels events constants asked arch len count n m ready (p .events) refl (poolOffset len constants asked i) (inr (i, lt, refl))
       (λ e. omega (arith, ready .bytes .limit, ready .pool .few, poolOffset-bound len constants asked m (ready .pool) i lt)))
 
   -- A pooled recording whose refs are not refused with 17 is in good order.
   pub well-formed : every (refClear p) rs ≡ true → WellFormed p
   well-formed clear =
       record {
-        ordered = rw pooled-length (events-ordered code labels events constants asked 2 len count n m ready (p .events) refl);
+        ordered = rw pooled-length (events-ordered code labels events constants asked arch len count n m ready (p .events) refl);
         landed = label-lies;
         fields = refs-lie p rs (record { offset = 0; label = 0; code = 0; addend = 0 }) (λ i h. apart-lies p _ _ (ref-apart p _ (every-at (refClear p) rs (record { offset = 0; label = 0; code = 0; addend = 0 }) clear i h)));
         constants = pool-lies p (entries (poolPlaced len constants asked) m) (record { offset = 0; bytes = [] }) constant-lies;
@@ -327,5 +327,5 @@ module _ (code labels events constants asked : List ℕ) (len count n m : ℕ) (
   pool-apart j h =
       rw (constant-size constants asked m (ready .pool) j h, pooled-length) (
         omega (arith, poolStart-suc len constants asked j, poolStart-grows len constants asked (suc j) m h),
-        λ i k. constant-beside code labels events constants asked 2 len count n m ready (p .events) refl j h i k,
+        λ i k. constant-beside code labels events constants asked arch len count n m ready (p .events) refl j h i k,
       )

@@ -46,68 +46,68 @@ last-run code more o h =
     rw (e, drop-append code more o h) (take-append-seam (drop o code) more)
 
 -- one event more, past all code that stands there; `more` is what follows the code
-runs-snoc : (es : List LayoutEvent) (o n : ℕ) (code more : List ℕ) (c : Choice) (e : LayoutEvent) → Ordered o (length code) es
+runs-snoc : (arch : ℕ) (es : List LayoutEvent) (o n : ℕ) (code more : List ℕ) (c : Choice) (e : LayoutEvent) → Ordered o (length code) es
     → startOf e ≡ length code
-    → runs 2 o n (code ++ more) (es ++ (e ∷ [])) c
-    ≡ runs 2 o n code es c ++ (formAt 2 (code ++ more) e (getD c (length es) false) ((after (length es) o n es c) .new + (startOf e - (after (length es) o n es c) .old)) ++ drop (endOf e) (code ++ more))
+    → runs arch o n (code ++ more) (es ++ (e ∷ [])) c
+    ≡ runs arch o n code es c ++ (formAt arch (code ++ more) e (getD c (length es) false) ((after (length es) o n es c) .new + (startOf e - (after (length es) o n es c) .old)) ++ drop (endOf e) (code ++ more))
 unfolding runs after Ordered
-runs-snoc [] o n code more c e h s = rw (isLong-getD c, s, last-run code more o h) refl
-runs-snoc (x ∷ es) o n code more c e h s =
+runs-snoc arch [] o n code more c e h s = rw (isLong-getD c, s, last-run code more o h) refl
+runs-snoc arch (x ∷ es) o n code more c e h s =
     let next = (segment o n x (isLong c)) .«new_end» in
     let inside : endOf x ≤ length code = ordered-le (endOf x) (length code) es (h .1) in
     let within : o + (startOf x - o) ≤ length code = omega (arith, h .0, ordered-le (endOf x) (length code) es (h .1)) in
-    rw (part-append code more o (startOf x - o) within, part-append code more (startOf x) (extentOf x) inside, runs-snoc es (endOf x) next code more (others c) e (h .1) s, others-getD c (length es))
+    rw (part-append code more o (startOf x - o) within, part-append code more (startOf x) (extentOf x) inside, runs-snoc arch es (endOf x) next code more (others c) e (h .1) s, others-getD c (length es))
     (simp append-assoc)
 
 -- What holds once n constants are pooled after the recorded code, whose runs end at `to`: the runs end with the pool laid out from there, and so does
 -- the layout.
-pub record PoolRuns (code : List ℕ) (es : List LayoutEvent) (constants asked : List ℕ) (c : Choice) (n len to : ℕ) : Type 0 where
-  pub whole : runs 2 0 0 (code ++ poolBytes 2 len constants asked n) (es ++ entries (poolEvent len constants asked) n) c
-      ≡ runs 2 0 0 code es c ++ poolBytes 2 to constants asked n
+pub record PoolRuns (arch : ℕ) (code : List ℕ) (es : List LayoutEvent) (constants asked : List ℕ) (c : Choice) (n len to : ℕ) : Type 0 where
+  pub whole : runs arch 0 0 (code ++ poolBytes arch len constants asked n) (es ++ entries (poolEvent len constants asked) n) c
+      ≡ runs arch 0 0 code es c ++ poolBytes arch to constants asked n
   pub here : (after (length (es ++ entries (poolEvent len constants asked) n)) 0 0 (es ++ entries (poolEvent len constants asked) n) c) .new
       + (poolStart len constants asked n
       - (after (length (es ++ entries (poolEvent len constants asked) n)) 0 0 (es ++ entries (poolEvent len constants asked) n) c) .old)
       ≡ poolStart to constants asked n
   pub ordered : Ordered 0 (poolStart len constants asked n) (es ++ entries (poolEvent len constants asked) n)
 
-module _ (code : List ℕ) (es : List LayoutEvent) (constants asked : List ℕ) (c : Choice) (len to : ℕ) (long : len ≡ length code)
-    (order : Ordered 0 (length code) es) (new : to ≡ length (runs 2 0 0 code es c)) where
-  pool-runs-none : PoolRuns code es constants asked c 0 len to
+module _ (arch : ℕ) (code : List ℕ) (es : List LayoutEvent) (constants asked : List ℕ) (c : Choice) (len to : ℕ) (long : len ≡ length code)
+    (order : Ordered 0 (length code) es) (new : to ≡ length (runs arch 0 0 code es c)) where
+  pool-runs-none : PoolRuns arch code es constants asked c 0 len to
   unfolding poolBytes poolStart
   pool-runs-none =
       record {
-        whole = rw (append-nil code, append-nil es, append-nil (runs 2 0 0 code es c));
-        here = rw (append-nil es, new, long) (omega (arith, length-runs 2 es 0 0 code c order));
+        whole = rw (append-nil code, append-nil es, append-nil (runs arch 0 0 code es c));
+        here = rw (append-nil es, new, long) (omega (arith, length-runs arch es 0 0 code c order));
         ordered = rw (append-nil es, long) order;
       }
 
-  pool-runs-more : (n : ℕ) → PoolRuns code es constants asked c n len to → PoolRuns code es constants asked c (suc n) len to
+  pool-runs-more : (n : ℕ) → PoolRuns arch code es constants asked c n len to → PoolRuns arch code es constants asked c (suc n) len to
   unfolding form width poolBytes
   pool-runs-more n r =
-      let pool = poolBytes 2 len constants asked n in
+      let pool = poolBytes arch len constants asked n in
       let before = es ++ entries (poolEvent len constants asked) n in
       let e = poolEvent len constants asked n in
-      let pad = padding 2 (poolPadding len constants asked n) in
+      let pad = padding arch (poolPadding len constants asked n) in
       let zeros : List ℕ = replicate (sizeAt constants asked n) 0 in
       let there = after (length before) 0 0 before c in
       let ends : length (code ++ pool) ≡ poolStart len constants asked n
-      = length-append code pool ∙ rw (← long) (length-poolBytes 2 len constants asked n) in
+      = length-append code pool ∙ rw (← long) (length-poolBytes arch len constants asked n) in
       let at : there .new + (startOf e - there .old) ≡ poolStart to constants asked n = r .here in
       let spent = constant-spends (poolStart to constants asked n) (sizeAt constants asked n) in
       let all-events = sym (append-assoc es (entries (poolEvent len constants asked) n) (e ∷ [])) in
       let padded : endOf e ≡ length ((code ++ pool) ++ pad)
-      = omega (arith, ends, length-append (code ++ pool) pad, padding-length 2 (poolPadding len constants asked n)) in
+      = omega (arith, ends, length-append (code ++ pool) pad, padding-length arch (poolPadding len constants asked n)) in
       let rest : drop (endOf e) ((code ++ pool) ++ (pad ++ zeros)) ≡ zeros
       = ap (λ (l : List ℕ). drop (endOf e) l) (sym (append-assoc (code ++ pool) pad zeros))
       ∙ ap (λ (k : ℕ). drop k (((code ++ pool) ++ pad) ++ zeros)) padded
       ∙ drop-append-seam ((code ++ pool) ++ pad) zeros in
       record {
         whole =
-            ap (λ (l : List ℕ). runs 2 0 0 l (es ++ (entries (poolEvent len constants asked) n ++ (e ∷ []))) c) (sym (append-assoc code pool (pad ++ zeros)))
-            ∙ ap (λ (l : List LayoutEvent). runs 2 0 0 ((code ++ pool) ++ (pad ++ zeros)) l c) all-events
-            ∙ runs-snoc before 0 0 (code ++ pool) (pad ++ zeros) c e (rw ends (r .ordered)) (sym ends)
+            ap (λ (l : List ℕ). runs arch 0 0 l (es ++ (entries (poolEvent len constants asked) n ++ (e ∷ []))) c) (sym (append-assoc code pool (pad ++ zeros)))
+            ∙ ap (λ (l : List LayoutEvent). runs arch 0 0 ((code ++ pool) ++ (pad ++ zeros)) l c) all-events
+            ∙ runs-snoc arch before 0 0 (code ++ pool) (pad ++ zeros) c e (rw ends (r .ordered)) (sym ends)
             ∙ rw (r .whole, at, rest, spent)
-            (append-assoc (runs 2 0 0 code es c) (poolBytes 2 to constants asked n) (padding 2 (poolPadding to constants asked n) ++ zeros));
+            (append-assoc (runs arch 0 0 code es c) (poolBytes arch to constants asked n) (padding arch (poolPadding to constants asked n) ++ zeros));
         here =
             ap (λ (l : List LayoutEvent). (after (length l) 0 0 l c) .new + (poolStart len constants asked (suc n) - (after (length l) 0 0 l c) .old)) all-events
             ∙ rw (after-snoc before 0 0 c e, at, spent)
@@ -123,6 +123,6 @@ module _ (code : List ℕ) (es : List LayoutEvent) (constants asked : List ℕ) 
       }
 
   -- The runs of a pooled recording are those of its recorded code, and then the pool laid out where they end.
-  pub pool-runs : (n : ℕ) → PoolRuns code es constants asked c n len to
+  pub pool-runs : (n : ℕ) → PoolRuns arch code es constants asked c n len to
   pool-runs zero = pool-runs-none
   pool-runs (suc n) = pool-runs-more n (pool-runs n)

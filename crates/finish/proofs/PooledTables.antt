@@ -4,10 +4,10 @@ use mathlib.Core.Bool.{Bool, true, false, cond}
 use mathlib.Core.List.{List, [], _∷_, _++_, append-assoc, append-nil}
 use Prim.Native.Nat.{ℕ, zero, suc, _*_, _≤_, _<_}
 use native.Mathlib.Omega.{arith}
-use lib.Dec.{eqb}
 use lib.ListN.{length, replicate, length-append}
 use Rattle.words.specs.Words.{wordAt}
 use Rattle.relax.specs.declared.LayoutEvent.{LayoutEvent}
+use Rattle.buffer.specs.State.{keepsEvents}
 use Rattle.buffer.specs.Calls.{padding}
 use Rattle.buffer.specs.Tables.{labelSize}
 use Rattle.recording.specs.View.{entries, View}
@@ -51,7 +51,7 @@ no-events false events = append-nil events
 -- one constant more, of a pooled recording whose fields are given
 one-more : (arch : ℕ) (code : List ℕ) (events : List LayoutEvent) (labels constants asked : List ℕ) (count n from : ℕ) (p : Pooled)
     → p .arch ≡ arch → p .code ≡ code ++ poolBytes arch from constants asked n
-    → p .events ≡ events ++ cond (eqb arch 2) (entries (poolEvent from constants asked) n) []
+    → p .events ≡ events ++ cond (keepsEvents arch) (entries (poolEvent from constants asked) n) []
     → p .labels ≡ entries (wordAt (poolBound from labels constants asked n)) count
     → p .pool ≡ entries (poolPlaced from constants asked) n
     → length (p .code) ≡ poolStart from constants asked n
@@ -61,7 +61,7 @@ one-more : (arch : ℕ) (code : List ℕ) (events : List LayoutEvent) (labels co
     ≡ record {
       arch = arch;
       code = code ++ poolBytes arch from constants asked (suc n);
-      events = events ++ cond (eqb arch 2) (entries (poolEvent from constants asked) (suc n)) [];
+      events = events ++ cond (keepsEvents arch) (entries (poolEvent from constants asked) (suc n)) [];
       labels = entries (wordAt (poolBound from labels constants asked (suc n))) count;
       uses = p .uses;
       refs = p .refs;
@@ -78,7 +78,7 @@ one-more arch code events labels constants asked count n from p a c e l k len si
       l,
       k,
       append-assoc code (poolBytes arch from constants asked n) (padding arch (poolPadding from constants asked n) ++ replicate (sizeAt constants asked n) 0),
-      events-more (eqb arch 2) events (entries (poolEvent from constants asked) n) (poolEvent from constants asked n),
+      events-more (keepsEvents arch) events (entries (poolEvent from constants asked) n) (poolEvent from constants asked n),
       ← word-set (poolBound from labels constants asked n) (labelAt constants asked n) (poolOffset from constants asked n) count known
           (omega (arith, length-poolBound from labels constants asked n)) small,
     )
@@ -88,7 +88,7 @@ pub pooledTo-tables : (arch : ℕ) (v : View) (labels constants asked : List ℕ
     → pooledTo arch v n
     ≡ tablesPooled arch (length (v .code)) (v .code) (entries (wordAt (poolBound (length (v .code)) labels constants asked n)) count) (v .events) (v .uses) (v .refs) constants asked n
 unfolding poolBytes poolBound
-pooledTo-tables arch v labels constants asked count zero t = rw (t .labelled, no-events (eqb arch 2) (v .events), append-nil (v .code))
+pooledTo-tables arch v labels constants asked count zero t = rw (t .labelled, no-events (keepsEvents arch) (v .events), append-nil (v .code))
 pooledTo-tables arch v labels constants asked count (suc n) t =
     let from = length (v .code) in
     rw (pooledTo-tables arch v labels constants asked count n (fewer v labels constants asked count n t), t .constant n (omega arith))

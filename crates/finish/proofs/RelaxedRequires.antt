@@ -12,7 +12,7 @@ use Rattle.seqs.specs.Over.{over}
 use Rattle.words.specs.Words.{wordAt}
 use Rattle.fields.specs.declared.Decoded.{Decoded}
 use Rattle.fields.specs.declared.Decoded.the-variants.{Use, Unsupported, Unknown}
-use Rattle.fields.specs.Kinds.{decoded, archX64}
+use Rattle.fields.specs.Kinds.{decoded}
 use Rattle.relax.specs.declared.LayoutEvent.{LayoutEvent}
 use Rattle.relax.specs.declared.Segment.{Segment}
 use Rattle.relax.specs.Events.{eventAt, endOf, noEvent}
@@ -41,7 +41,7 @@ use Rattle.checks.specs.steps.Fields.{refsClear}
 use Rattle.seqs.proofs.Every.{every-at}
 use Rattle.seqs.specs.Every.{every}
 use Rattle.finish.specs.Refusals.{refClear}
-use Rattle.finish.specs.steps.Tables.{tablesPooled}
+use Rattle.finish.specs.steps.Tables.{laidPooled}
 use Rattle.finish.specs.steps.Ready.{Ready, Clearing, Writing, endOfRuns}
 use Rattle.finish.proofs.PooledInOrder.{recorded-ordered, recorded-modest, recorded-writes, jump-label, offset-lies, ref-apart, constant-size, pooled-length, well-formed, pool-apart}
 use Rattle.finish.proofs.ScansAgree.{refs-clear}
@@ -64,7 +64,7 @@ unfolding segments
 take-segments [] ys o n c = refl
 take-segments (x ∷ xs) ys o n c = ap (λ l. segment o n x (isLong c) ∷ l) (take-segments xs ys (endOf x) ((segment o n x (isLong c)) .«new_end») (others c))
 
-module _ {code labels events constants asked : List ℕ} {len count n m : ℕ} (ready : Ready code labels events constants asked 2 len count n m)
+module _ {code labels events constants asked : List ℕ} {arch len count n m : ℕ} (ready : Ready code labels events constants asked arch len count n m)
     (before ss : List Segment) (c : Choice) (laid : ss ≡ over before 0 (segments 0 0 (allEvents events n len constants asked m) c))
     (few : n + m ≤ mostEntries) (room : n + m ≤ length before) where
   abbrev es : List LayoutEvent
@@ -103,17 +103,17 @@ module _ {code labels events constants asked : List ℕ} {len count n m : ℕ} (
 
   -- where the recorded code ends
   abbrev to : ℕ
-  to = length (runs 2 0 0 (take len code) (tables.entries (eventAt events) n) c)
+  to = length (runs arch 0 0 (take len code) (tables.entries (eventAt events) n) c)
 
   size : length (take len code) ≡ len
   size = length-take-le len code (ready .bytes .room)
 
   first-ordered : Ordered 0 (length (take len code)) (tables.entries (eventAt events) n)
-  first-ordered = rw size (recorded-ordered events n count len 2 (ready .recorded))
+  first-ordered = rw size (recorded-ordered events n count len arch (ready .recorded))
 
   -- the recorded code alone, in good order
   alone : Pooled
-  alone = record { arch = archX64; code = take len code; events = tables.entries (eventAt events) n; labels = []; uses = []; refs = []; pool = [] }
+  alone = record { arch = arch; code = take len code; events = tables.entries (eventAt events) n; labels = []; uses = []; refs = []; pool = [] }
 
   alone-formed : WellFormed alone
   unfolding alone RefsLie PoolLies
@@ -129,8 +129,8 @@ module _ {code labels events constants asked : List ℕ} {len count n m : ℕ} (
       ∙ ap length (placed-runs alone c alone-formed)))
 
   -- the finished length, and the pool within it
-  pooled-runs : PoolRuns (take len code) (tables.entries (eventAt events) n) constants asked c m len to
-  pooled-runs = pool-runs (take len code) (tables.entries (eventAt events) n) constants asked c len to (sym size) first-ordered refl m
+  pooled-runs : PoolRuns arch (take len code) (tables.entries (eventAt events) n) constants asked c m len to
+  pooled-runs = pool-runs arch (take len code) (tables.entries (eventAt events) n) constants asked c len to (sym size) first-ordered refl m
 
   pub pool-ends : poolStart to constants asked m ≡ finishedLength es c (poolStart len constants asked m)
   pool-ends = sym (pooled-runs .here)
@@ -200,20 +200,20 @@ within-size (Use k) offset room h = h
 within-size Unsupported offset room h = tt
 within-size Unknown offset room h = tt
 
-module _ {code labels events constants asked refs : List ℕ} {len count n m f : ℕ} (ready : Ready code labels events constants asked 2 len count n m)
-    (referred : RefsSound refs f 2 count) (clear : refsClear refs f events n len constants asked m ≡ true) where
+module _ {code labels events constants asked refs : List ℕ} {arch len count n m f : ℕ} (ready : Ready code labels events constants asked arch len count n m)
+    (referred : RefsSound refs f arch count) (clear : refsClear refs f events n len constants asked m ≡ true) where
   abbrev pooled·of : List tables.Use → Pooled
   pooled·of us =
-      tablesPooled 2 len (take len code) (tables.entries (wordAt labels) count) (tables.entries (eventAt events) n) us (tables.entries (tables.refAt refs) f) constants asked m
+      laidPooled arch len (take len code) (tables.entries (wordAt labels) count) (tables.entries (eventAt events) n) us (tables.entries (tables.refAt refs) f) constants asked m
 
   pub clear-all : (us : List tables.Use) → every (refClear (pooled·of us)) (tables.entries (tables.refAt refs) f) ≡ true
   clear-all us =
       refs-clear (pooled·of us) refs events constants asked f n m len refl refl
-      (pooled-length code labels events constants asked len count n m ready us (tables.entries (tables.refAt refs) f))
+      (pooled-length code labels events constants asked arch len count n m ready us (tables.entries (tables.refAt refs) f))
       ∙ clear
 
   pub formed : (us : List tables.Use) → WellFormed (pooled·of us)
-  formed us = well-formed code labels events constants asked len count n m ready us (tables.entries (tables.refAt refs) f) (clear-all us)
+  formed us = well-formed code labels events constants asked arch len count n m ready us (tables.entries (tables.refAt refs) f) (clear-all us)
 
   pub ref-beside : (us : List tables.Use) (i : ℕ) → i < f → Apart (pooled·of us) (wordAt refs (i * refWords)) (sizeOf (decoded (wordAt refs (i * refWords + 2))))
   ref-beside us i h =
@@ -228,7 +228,7 @@ module _ {code labels events constants asked refs : List ℕ} {len count n m f :
       omega (
         arith,
         ref-beside [] i h .0,
-        pooled-length code labels events constants asked len count n m ready [] (tables.entries (tables.refAt refs) f),
+        pooled-length code labels events constants asked arch len count n m ready [] (tables.entries (tables.refAt refs) f),
         end-small ready,
       )
 
@@ -239,7 +239,7 @@ module _ {code labels events constants asked refs : List ℕ} {len count n m f :
       entry = omega (arith, referred .room);
       known = omega (arith, referred .entry i h .label, ready .room);
       recorded = λ bound. omega (arith, ref-small i h);
-      bound = λ bound. omega (arith, landed-small code labels events constants asked 2 len count n m ready (wordAt refs (i * refWords + 1)) (referred .entry i h .label) bound);
+      bound = λ bound. omega (arith, landed-small code labels events constants asked arch len count n m ready (wordAt refs (i * refWords + 1)) (referred .entry i h .label) bound);
     };
   }
 
@@ -251,12 +251,12 @@ module _ {code labels events constants asked refs : List ℕ} {len count n m f :
     p = pooled·of []
 
     -- the code is as long as the layout says
-    length-all-runs : length (runs 2 0 0 (p .code) (p .events) c) ≤ length output
+    length-all-runs : length (runs arch 0 0 (p .code) (p .events) c) ≤ length output
     length-all-runs =
         omega (
           arith,
-          length-runs 2 (p .events) 0 0 (p .code) c (formed [] .ordered),
-          pooled-length code labels events constants asked len count n m ready [] (tables.entries (tables.refAt refs) f),
+          length-runs arch (p .events) 0 0 (p .code) c (formed [] .ordered),
+          pooled-length code labels events constants asked arch len count n m ready [] (tables.entries (tables.refAt refs) f),
           fits,
         )
 
@@ -295,7 +295,7 @@ module _ {code labels events constants asked refs : List ℕ} {len count n m f :
       laid = omega (arith, rising-all ready before ss c laid few room .fits);
       each = λ i h. record {
         entry = omega (arith, ready .recorded .room);
-        known = λ b r. omega (arith, same, jump-label events n count len 2 (ready .recorded) i b h r, ready .room);
+        known = λ b r. omega (arith, same, jump-label events n count len arch (ready .recorded) i b h r, ready .room);
         within = λ b r.
             omega (
               arith,
@@ -317,23 +317,23 @@ module _ {code labels events constants asked refs : List ℕ} {len count n m f :
             ap (λ (ss : List Segment). mapOffset ss (poolOffset len constants asked j)) table,
             mapped-within p c (formed []) (poolOffset len constants asked j) (length (bytesAt constants asked j))
                 (omega (arith, ready .bytes .limit, ready .pool .few, poolOffset-bound len constants asked m (ready .pool) j h))
-                (pool-apart code labels events constants asked len count n m ready [] (tables.entries (tables.refAt refs) f) j h),
+                (pool-apart code labels events constants asked arch len count n m ready [] (tables.entries (tables.refAt refs) f) j h),
             constant-size constants asked m (ready .pool) j h,
             length-all-runs,
           );
     }
 
-    to-fits : endOfRuns code events c len n ≤ length output
+    to-fits : endOfRuns arch code events c len n ≤ length output
     to-fits =
         omega (
           arith,
-          from-poolStart (endOfRuns code events c len n) constants asked m,
+          from-poolStart (endOfRuns arch code events c len n) constants asked m,
           pool-ends ready before ss c laid few room,
           fits,
         )
 
     -- What a relaxed finish writes the code from.
-    pub writing : Writing output code final events refs constants asked c ss len n m f (endOfRuns code events c len n)
+    pub writing : Writing output code final events refs constants asked c ss arch len n m f (endOfRuns arch code events c len n)
     writing = record {
       small = ready .bytes .limit;
       rising = rising ready before ss c laid few room;
@@ -342,9 +342,9 @@ module _ {code labels events constants asked refs : List ℕ} {len count n m f :
         recorded = omega (arith, ready .recorded .room);
         chosen = omega (arith, chosen);
         laid = table-first ready before ss c laid few room;
-        ordered = recorded-ordered events n count len 2 (ready .recorded);
+        ordered = recorded-ordered events n count len arch (ready .recorded);
         coded = ready .bytes .room;
-        writes = recorded-writes events n count len 2 (ready .recorded);
+        writes = recorded-writes events n count len arch (ready .recorded);
         room = to-fits;
       };
       ends = end-mapped ready before ss c laid few room;

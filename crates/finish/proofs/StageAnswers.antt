@@ -50,7 +50,7 @@ use Rattle.finish.specs.declared.Outcome.{Outcome}
 use Rattle.seqs.specs.Every.{every}
 use Rattle.finish.specs.Refusals.{reachesBy, refReaches, whyNotLaid, whyNotWritten, whyNotInPlace}
 use Rattle.finish.specs.Finish.{refusedWith, relocated, settledSegments, relaxed}
-use Rattle.finish.specs.steps.Tables.{tablesPooled}
+use Rattle.finish.specs.steps.Tables.{tablesPooled, laidPooled}
 use Rattle.finish.specs.steps.Ready.{Relaxable, Layable, codeWritten, endOfRuns, Writing, codeCopied, Copying, Keepable, kept}
 use Rattle.finish.proofs.ScansAgree.{refs-clear, uses-refused}
 use Rattle.finish.proofs.RelaxedRequires.{rising-all, within-size, ref-beside, clear-all, formed, table-all, writing, landed-small}
@@ -136,8 +136,8 @@ field-reaches Unsupported offset label addend = refl
 field-reaches Unknown offset label addend = refl
 
 -- what nothing refused before the layout says
-module _ {code labels events refs constants asked relocs output : List ℕ} {cap len count n m f l : ℕ}
-    (x : Layable code labels events refs constants asked relocs output cap len count n m f l) where
+module _ {code labels events refs constants asked relocs output : List ℕ} {cap arch len count n m f l : ℕ}
+    (x : Layable code labels events refs constants asked relocs output cap arch len count n m f l) where
   early·passed : (ltb cap (n + m) ≡ false) × (first ((not (refsClear refs f events n len constants asked m), refusals.refOverlaps) ∷ []) ≡ 0)
   early·passed = passed (ltb cap (n + m)) refusals.tooFewSegments _ (λ e. omega arith) (sym (x .unrefused))
 
@@ -155,18 +155,18 @@ pub segments-are : {es : List LayoutEvent} {labels : ℕ → ℕ} {from layouts 
 segments-are {es} {ss} laid = laid .table ∙ ap (λ (d : Choice). over ss 0 (segments 0 0 es d)) (sym (laid .choice))
 
 -- the segments that the rounds leave rise
-pub segments-rise : {code labels events refs constants asked relocs output : List ℕ} {len count n m f l layouts len′ total : ℕ} {at : ℕ → ℕ} {ss ss′ : List Segment} {initial c : Choice}
-    → Layable code labels events refs constants asked relocs output (length ss) len count n m f l
+pub segments-rise : {code labels events refs constants asked relocs output : List ℕ} {arch len count n m f l layouts len′ total : ℕ} {at : ℕ → ℕ} {ss ss′ : List Segment} {initial c : Choice}
+    → Layable code labels events refs constants asked relocs output (length ss) arch len count n m f l
     → Relaxed (allEvents events n len constants asked m) at initial total ss ss′ c layouts len′ → Rising ss′ (n + m)
 segments-rise x laid = rising-all (x .relaxable .ready) _ _ _ (segments-are laid) (few x) (room x)
 
-module _ {code labels events refs constants asked relocs output : List ℕ} {len count n m f l : ℕ} (ss : List Segment)
-    (x : Relaxable code labels events refs constants asked relocs output (length ss) len count n m f l) (us : List tables.Use) where
+module _ {code labels events refs constants asked relocs output : List ℕ} {arch len count n m f l : ℕ} (ss : List Segment)
+    (x : Relaxable code labels events refs constants asked relocs output (length ss) arch len count n m f l) (us : List tables.Use) where
   abbrev p : Pooled
-  p = tablesPooled 2 len (take len code) (tables.entries (wordAt labels) count) (tables.entries (eventAt events) n) us (tables.entries (tables.refAt refs) f) constants asked m
+  p = laidPooled arch len (take len code) (tables.entries (wordAt labels) count) (tables.entries (eventAt events) n) us (tables.entries (tables.refAt refs) f) constants asked m
 
   p-length : length (p .code) ≡ poolStart len constants asked m
-  p-length = pooled-length code labels events constants asked len count n m (x .ready) us (tables.entries (tables.refAt refs) f)
+  p-length = pooled-length code labels events constants asked arch len count n m (x .ready) us (tables.entries (tables.refAt refs) f)
 
   early-is : whyNotLaid p (length ss) ≡ first ((ltb (length ss) (n + m), refusals.tooFewSegments) ∷ (not (refsClear refs f events n len constants asked m), refusals.refOverlaps) ∷ [])
   unfolding whyNotLaid
@@ -179,7 +179,7 @@ module _ {code labels events refs constants asked relocs output : List ℕ} {len
     refused-early ne e = rw (e, early-is ∙ sym early·answer) (sym (no-eq early 0 _ _ ne))
 
     module _ (none·early : early ≡ 0) where
-      y : Layable code labels events refs constants asked relocs output (length ss) len count n m f l
+      y : Layable code labels events refs constants asked relocs output (length ss) arch len count n m f l
       y = record { relaxable = x; unrefused = sym none·early ∙ early·answer }
 
       wf : WellFormed p
@@ -191,7 +191,7 @@ module _ {code labels events refs constants asked relocs output : List ℕ} {len
         settled-is =
             ap (relaxedBy (allEvents events n len constants asked m) (wordAt labels))
             (short ∙ ap (λ (k : ℕ). replicate k false) (sym (length-all events n len constants asked m)) ∙ all-short (allEvents events n len constants asked m))
-            ∙ relaxed-entries events n len constants asked m labels count (λ i b h r. jump-label events n count len 2 (x .ready .recorded) i b h r)
+            ∙ relaxed-entries events n len constants asked m labels count (λ i b h r. jump-label events n count len arch (x .ready .recorded) i b h r)
             ∙ relaxed-settled p wf
 
         choice-is : c ≡ settled p .choice
@@ -256,7 +256,7 @@ module _ {code labels events refs constants asked relocs output : List ℕ} {len
                 let same = getD-entries (wordAt labels) count i none h in
                 omega (
                   arith,
-                  mapped-le p c wf (wordAt labels i) (omega (arith, landed-small code labels events constants asked 2 len count n m (x .ready) i h ne)) (rw same at (wf .landed i (λ z. ne (sym same ∙ z)))),
+                  mapped-le p c wf (wordAt labels i) (omega (arith, landed-small code labels events constants asked arch len count n m (x .ready) i h ne)) (rw same at (wf .landed i (λ z. ne (sym same ∙ z)))),
                   ap length (placed-runs p c wf),
                   length-assembled p c,
                   code-fits,
@@ -273,7 +273,7 @@ module _ {code labels events refs constants asked relocs output : List ℕ} {len
             final-long = rw (final-is, labels-mapped (mapOffset (take (n + m) ss′)) labels count) (length-over labels 0 _)
 
             -- what the code is written from
-            pub writing-is : Writing output code final events refs constants asked c ss′ len n m f (endOfRuns code events c len n)
+            pub writing-is : Writing output code final events refs constants asked c ss′ arch len n m f (endOfRuns arch code events c len n)
             writing-is =
                 writing (x .ready) (x .referred) (clear y) ss ss′ c (segments-are laid) (few y) (room y) chosen final output label-moved final-long
                 (omega (arith, ap (λ (d : Choice). finishedLength (allEvents events n len constants asked m) d (poolStart len constants asked m)) (laid .choice), laid .finished, len-is, code-fits))
@@ -288,22 +288,22 @@ module _ {code labels events refs constants asked relocs output : List ℕ} {len
                 ∙ ap (λ (ss : List Segment). map (mapOffset ss) (p .labels)) table-is
                 ∙ labels-same p c wf)
 
-            code-is : codeWritten output code final events refs constants asked c ss′ len n m f ≡ over output 0 (assembled p c)
+            code-is : codeWritten arch output code final events refs constants asked c ss′ len n m f ≡ over output 0 (assembled p c)
             code-is =
-                code-written code labels final events refs constants asked len count n m f us c ss′
+                code-written code labels final events refs constants asked arch len count n m f us c ss′
                 (record {
                   ready = x .ready;
                   clear = clear-all (x .ready) (x .referred) (clear y) us;
                   laid = table-is;
                   known = λ i h. x .referred .entry i h .label;
-                  named = λ i b h r. jump-label events n count len 2 (x .ready .recorded) i b h r;
+                  named = λ i b h r. jump-label events n count len arch (x .ready .recorded) i b h r;
                   moved = label-moved;
                 })
                 output _ _ _ refl refl refl code-fits
 
             pub done : {r : Outcome} {relocs′ left : List ℕ} → r ≡ record { refusal = 0; len = len′; layouts = layouts }
                 → relocs′ ≡ mappedWords (mapOffset (take (n + m) ss′)) relocs 6 l
-                → left ≡ codeWritten output code final events refs constants asked c ss′ len n m f
+                → left ≡ codeWritten arch output code final events refs constants asked c ss′ len n m f
                 → (r, (final, (relocs′, (ss′, left)))) ≡ relaxed p l labels relocs ss output
             unfolding relaxed
             done er em el =

@@ -16,6 +16,7 @@ use Rattle.relax.specs.declared.LayoutEvent.{LayoutEvent}
 use Rattle.relax.specs.Events.{eventAt}
 use Rattle.relax.specs.declared.Segment.{Segment}
 use Rattle.buffer.specs.declared.CodeBuffer.{CodeBuffer}
+use Rattle.buffer.specs.State.{keepsEvents}
 use Rattle.buffer.specs.steps.Count.{openCount}
 use Rattle.recording.specs.Sound.{RefsSound}
 use Rattle.recording.specs.View as tables
@@ -29,7 +30,7 @@ use Rattle.checks.specs.steps.Fields.{refsClear}
 use Rattle.finish.specs.declared.Outcome.{Outcome}
 use Rattle.finish.specs.Refusals.{allBound, whyNotInPlace}
 use Rattle.finish.specs.Finish.{Left, refusedWith, relaxed, unrelaxed}
-use Rattle.finish.specs.steps.Tables.{tablesPooled}
+use Rattle.finish.specs.steps.Tables.{tablesPooled, laidPooled}
 use Rattle.finish.specs.steps.Ready.{Ready, Relaxable, Keepable, kept, Placeable, pooledOf, placedAs, Starts}
 use Rattle.finish.proofs.ScansAgree.{none-open, moves-is}
 use Rattle.finish.proofs.StageAnswers.{refused-early}
@@ -59,8 +60,8 @@ module _ {b : CodeBuffer} {code labels events uses refs constants asked relocs o
   abbrev p : Pooled
   p = pooledOf b code labels events uses refs constants asked
 
-  events-are : p .events ≡ tables.entries (eventAt events) (b .events) ++ tables.entries (poolEvent (b .code) constants asked) (cond (eqb (b .arch) 2) (b .asked) 0)
-  events-are = ap (λ (l : List LayoutEvent). tables.entries (eventAt events) (b .events) ++ l) (no-entries (poolEvent (b .code) constants asked) (eqb (b .arch) 2) (b .asked))
+  events-are : p .events ≡ tables.entries (eventAt events) (b .events) ++ tables.entries (poolEvent (b .code) constants asked) (cond (keepsEvents (b .arch)) (b .asked) 0)
+  events-are = ap (λ (l : List LayoutEvent). tables.entries (eventAt events) (b .events) ++ l) (no-entries (poolEvent (b .code) constants asked) (keepsEvents (b .arch)) (b .asked))
 
   -- 15, as the count over the tables says it
   bound-is : allBound p (tables.entries (tables.relocAt relocs) (b .relocs)) ≡ eqb (openCount b labels events uses refs relocs) 0
@@ -69,14 +70,14 @@ module _ {b : CodeBuffer} {code labels events uses refs constants asked relocs o
       none-open (tables.view r) (b .arch) (b .code) (take (b .code) code) constants asked (b .asked) ∙ ap (λ (k : ℕ). eqb k 0) (open-count r)
 
   jump-is : moves (p .events) ≡ moves (tables.entries (eventAt events) (b .events))
-  jump-is = moves-is p events constants asked (b .code) (b .events) (cond (eqb (b .arch) 2) (b .asked) 0) events-are
+  jump-is = moves-is p events constants asked (b .code) (b .events) (cond (keepsEvents (b .arch)) (b .asked) 0) events-are
 
-  -- only X64 keeps events
-  arch-is : moves (tables.entries (eventAt events) (b .events)) ≡ true → b .arch ≡ 2
+  -- a recording with a jump keeps events
+  keeps-them : moves (tables.entries (eventAt events) (b .events)) ≡ true → keepsEvents (b .arch) ≡ true
   unfolding moves
-  arch-is h =
+  keeps-them h =
       ⊎-elim
-      (λ (e : b .arch ≡ 2). e)
+      (λ (e : keepsEvents (b .arch) ≡ true). e)
       (λ (e : b .events ≡ 0).
       absurd (true-is-not-false (sym h ∙ ap (λ (k : ℕ). moves (tables.entries (eventAt events) k)) e)))
       (x .ready .recorded .tracked)
@@ -89,10 +90,10 @@ module _ {b : CodeBuffer} {code labels events uses refs constants asked relocs o
   }
 
   pub relaxable : moves (tables.entries (eventAt events) (b .events)) ≡ true
-      → Relaxable code labels events refs constants asked relocs output segments (b .code) (b .labels) (b .events) (b .asked) (b .refs) (b .relocs)
+      → Relaxable code labels events refs constants asked relocs output segments (b .arch) (b .code) (b .labels) (b .events) (b .asked) (b .refs) (b .relocs)
   relaxable h = record {
-    ready = subst (λ (a : ℕ). Ready code labels events constants asked a (b .code) (b .labels) (b .events) (b .asked)) (arch-is h) (x .ready);
-    referred = subst (λ (a : ℕ). RefsSound refs (b .refs) a (b .labels)) (arch-is h) (x .entered .referred);
+    ready = x .ready;
+    referred = x .entered .referred;
     moved = relocs-fit;
     few = x .namers .events-few;
     segments-limit = x .segments-limit;
@@ -116,18 +117,22 @@ module _ {b : CodeBuffer} {code labels events uses refs constants asked relocs o
     placed-unbound e er ss = rw (er, bound-is ∙ sym bound·answer) (sym (pick-no bound _ _ e))
 
     module _ (all·bound : bound ≡ true) {jump : Bool} (jump·answer : jump ≡ moves (tables.entries (eventAt events) (b .events))) where
+      -- what keeps events has the pool's alignments among them
+      laid-is : keepsEvents (b .arch) ≡ true → p ≡ laidPooled (b .arch) (b .code) (take (b .code) code) (tables.entries (wordAt labels) (b .labels)) (tables.entries (eventAt events) (b .events)) (tables.entries (tables.useAt uses) (b .uses)) (tables.entries (tables.refAt refs) (b .refs)) constants asked (b .asked)
+      laid-is e = rw e
+
       placed-relaxed : jump ≡ true → (ss : List Segment) (left : Outcome × Left)
-          → ((us : List tables.Use) → left ≡ relaxed (tablesPooled 2 (b .code) (take (b .code) code) (tables.entries (wordAt labels) (b .labels)) (tables.entries (eventAt events) (b .events)) us (tables.entries (tables.refAt refs) (b .refs)) constants asked (b .asked)) (b .relocs) labels relocs ss output)
+          → ((us : List tables.Use) → left ≡ relaxed (laidPooled (b .arch) (b .code) (take (b .code) code) (tables.entries (wordAt labels) (b .labels)) (tables.entries (eventAt events) (b .events)) us (tables.entries (tables.refAt refs) (b .refs)) constants asked (b .asked)) (b .relocs) labels relocs ss output)
           → left ≡ placedAs p b labels relocs ss output
       unfolding placedAs
       placed-relaxed e ss left is =
           rw (bound-is ∙ sym bound·answer, jump-is ∙ sym jump·answer)
-          (sym (pick-yes bound _ _ all·bound ∙ pick-yes jump _ _ e ∙ rw (arch-is (sym jump·answer ∙ e)) (sym (is (tables.entries (tables.useAt uses) (b .uses))))))
+          (sym (pick-yes bound _ _ all·bound ∙ pick-yes jump _ _ e ∙ rw (laid-is (keeps-them (sym jump·answer ∙ e))) (sym (is (tables.entries (tables.useAt uses) (b .uses))))))
 
       -- with a jump: 16 and 17, or a layout
       module _ (jumps : jump ≡ true) {why : ℕ}
           (why·answer : why ≡ first ((ltb segments (b .events + b .asked), refusals.tooFewSegments) ∷ (not (refsClear refs (b .refs) events (b .events) (b .code) constants asked (b .asked)), refusals.refOverlaps) ∷ [])) where
-        relaxes : Relaxable code labels events refs constants asked relocs output segments (b .code) (b .labels) (b .events) (b .asked) (b .refs) (b .relocs)
+        relaxes : Relaxable code labels events refs constants asked relocs output segments (b .arch) (b .code) (b .labels) (b .events) (b .asked) (b .refs) (b .relocs)
         relaxes = relaxable (sym jump·answer ∙ jumps)
 
         pub started-refused : why ≢ 0 → {r : Outcome} → r ≡ refusedWith why → (ss : List Segment) → length ss ≡ segments
@@ -135,7 +140,7 @@ module _ {b : CodeBuffer} {code labels events uses refs constants asked relocs o
         started-refused ne er ss l =
             placed-relaxed jumps ss _
             (λ us.
-            let x : Relaxable code labels events refs constants asked relocs output (length ss) (b .code) (b .labels) (b .events) (b .asked) (b .refs) (b .relocs) = rw l relaxes in
+            let x : Relaxable code labels events refs constants asked relocs output (length ss) (b .arch) (b .code) (b .labels) (b .events) (b .asked) (b .refs) (b .relocs) = rw l relaxes in
             refused-early ss x us (rw l why·answer) ne er)
 
         pub starts : why ≡ 0 → Starts b code labels events uses refs constants asked relocs output output segments

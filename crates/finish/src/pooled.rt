@@ -8,7 +8,6 @@ ghost use lib.ListN.{length, take, replicate};
 ghost use Rattle.refusals.specs.Numbers as refusals;
 ghost use Rattle.seqs.specs.Pick.{first, orElse};
 ghost use Rattle.words.specs.Words.{wordAt};
-ghost use Rattle.fields.specs.Kinds.{archX64};
 ghost use Rattle.lookup.specs.steps.Index.{indexSize, Indexed};
 ghost use Rattle.relax.specs.declared.LayoutEvent.{LayoutEvent};
 ghost use Rattle.relax.specs.declared.Segment.{Segment};
@@ -20,7 +19,7 @@ ghost use Rattle.buffer.specs.steps.Count.{NamersFit, openCount};
 ghost use Rattle.checks.specs.steps.Fields.{refsClear, whyUses};
 ghost use Rattle.checks.specs.steps.Handed.{fewMarks, useLabel, Named};
 ghost use Rattle.finish.specs.Finish.{relaxed};
-ghost use Rattle.finish.specs.steps.Tables.{tablesPooled};
+ghost use Rattle.finish.specs.steps.Tables.{tablesPooled, laidPooled};
 ghost use Rattle.finish.specs.steps.Ready.{Clearing, endOfRuns, codeWritten, Writing, Layable, codeCopied, Copying, Keepable, kept, Placeable, pooledOf, placedAs, Starts};
 use crate::Outcome;
 use crate::Started;
@@ -119,8 +118,8 @@ pub(crate) fn write_relaxed(
     index: &[u32],
     shift: u32,
 )
-    requires { ⌜ Indexed (now index) (startAt (now segments)) (b .events + b .asked) shift ⌝ ∗ ⌜ Writing (now output) (now code) (now labels) (now events) (now refs) (now constants) (now asked) (now long) (now segments) (b .code) (b .events) (b .asked) (b .refs) (endOfRuns (now code) (now events) (now long) (b .code) (b .events)) ⌝ }
-    ensures { λ _. ⌜ now (output .exit) ≡ codeWritten (now (output .entry)) (now (code .entry)) (now (labels .entry)) (now (events .entry)) (now (refs .entry)) (now (constants .entry)) (now (asked .entry)) (now (long .entry)) (now (segments .entry)) (b .code) (b .events) (b .asked) (b .refs) ⌝ }
+    requires { ⌜ Indexed (now index) (startAt (now segments)) (b .events + b .asked) shift ⌝ ∗ ⌜ Writing (now output) (now code) (now labels) (now events) (now refs) (now constants) (now asked) (now long) (now segments) (b .arch) (b .code) (b .events) (b .asked) (b .refs) (endOfRuns (b .arch) (now code) (now events) (now long) (b .code) (b .events)) ⌝ }
+    ensures { λ _. ⌜ now (output .exit) ≡ codeWritten (b .arch) (now (output .entry)) (now (code .entry)) (now (labels .entry)) (now (events .entry)) (now (refs .entry)) (now (constants .entry)) (now (asked .entry)) (now (long .entry)) (now (segments .entry)) (b .code) (b .events) (b .asked) (b .refs) ⌝ }
 {
     let recorded = b.events as usize;
     let pooled = b.asked as usize;
@@ -132,11 +131,11 @@ pub(crate) fn write_relaxed(
         segments,
         recorded,
         b.code as usize,
-        fields::X64,
+        b.arch,
     );
     // Among the recorded events alone, and so without the index, which is of all.
     let to = layout::map(segments, recorded, &index[0..0], shift, b.code);
-    pool::emit(output, fields::X64, to, constants, asked, pooled);
+    pool::emit(output, b.arch, to, constants, asked, pooled);
     emit::patch_refs(
         output,
         refs,
@@ -167,8 +166,8 @@ pub(crate) fn relax_and_write(
     long: &mut [bool],
     index: &mut [u32],
 ) -> Outcome
-    requires { ⌜ Layable (now code) (now labels) (now events) (now refs) (now constants) (now asked) (now relocs) (now output) (length (now segments)) (b .code) (b .labels) (b .events) (b .asked) (b .refs) (b .relocs) ⌝ ∗ ⌜ now long ≡ replicate (b .events + b .asked) false ⌝ }
-    ensures { λ r. ⌜ ((us : List tables.Use) → (r, (now (labels .exit), (now (relocs .exit), (now (segments .exit), now (output .exit))))) ≡ relaxed (tablesPooled archX64 (b .code) (take (b .code) (now (code .entry))) (tables.entries (wordAt (now (labels .entry))) (b .labels)) (tables.entries (eventAt (now (events .entry))) (b .events)) us (tables.entries (tables.refAt (now (refs .entry))) (b .refs)) (now (constants .entry)) (now (asked .entry)) (b .asked)) (b .relocs) (now (labels .entry)) (now (relocs .entry)) (now (segments .entry)) (now (output .entry))) ⌝ }
+    requires { ⌜ Layable (now code) (now labels) (now events) (now refs) (now constants) (now asked) (now relocs) (now output) (length (now segments)) (b .arch) (b .code) (b .labels) (b .events) (b .asked) (b .refs) (b .relocs) ⌝ ∗ ⌜ now long ≡ replicate (b .events + b .asked) false ⌝ }
+    ensures { λ r. ⌜ ((us : List tables.Use) → (r, (now (labels .exit), (now (relocs .exit), (now (segments .exit), now (output .exit))))) ≡ relaxed (laidPooled (b .arch) (b .code) (take (b .code) (now (code .entry))) (tables.entries (wordAt (now (labels .entry))) (b .labels)) (tables.entries (eventAt (now (events .entry))) (b .events)) us (tables.entries (tables.refAt (now (refs .entry))) (b .refs)) (now (constants .entry)) (now (asked .entry)) (b .asked)) (b .relocs) (now (labels .entry)) (now (relocs .entry)) (now (segments .entry)) (now (output .entry))) ⌝ }
 {
     let recorded = b.events as usize;
     let pooled = b.asked as usize;
@@ -247,8 +246,8 @@ pub(crate) fn tiny_relaxed(
     segments: &mut [Segment],
     output: &mut [u8],
 ) -> Outcome
-    requires { ⌜ Layable (now code) (now labels) (now events) (now refs) (now constants) (now asked) (now relocs) (now output) (length (now segments)) (b .code) (b .labels) (b .events) (b .asked) (b .refs) (b .relocs) ⌝ ∗ ⌜ b .events + b .asked < 24 ⌝ }
-    ensures { λ r. ⌜ ((us : List tables.Use) → (r, (now (labels .exit), (now (relocs .exit), (now (segments .exit), now (output .exit))))) ≡ relaxed (tablesPooled archX64 (b .code) (take (b .code) (now (code .entry))) (tables.entries (wordAt (now (labels .entry))) (b .labels)) (tables.entries (eventAt (now (events .entry))) (b .events)) us (tables.entries (tables.refAt (now (refs .entry))) (b .refs)) (now (constants .entry)) (now (asked .entry)) (b .asked)) (b .relocs) (now (labels .entry)) (now (relocs .entry)) (now (segments .entry)) (now (output .entry))) ⌝ }
+    requires { ⌜ Layable (now code) (now labels) (now events) (now refs) (now constants) (now asked) (now relocs) (now output) (length (now segments)) (b .arch) (b .code) (b .labels) (b .events) (b .asked) (b .refs) (b .relocs) ⌝ ∗ ⌜ b .events + b .asked < 24 ⌝ }
+    ensures { λ r. ⌜ ((us : List tables.Use) → (r, (now (labels .exit), (now (relocs .exit), (now (segments .exit), now (output .exit))))) ≡ relaxed (laidPooled (b .arch) (b .code) (take (b .code) (now (code .entry))) (tables.entries (wordAt (now (labels .entry))) (b .labels)) (tables.entries (eventAt (now (events .entry))) (b .events)) us (tables.entries (tables.refAt (now (refs .entry))) (b .refs)) (now (constants .entry)) (now (asked .entry)) (b .asked)) (b .relocs) (now (labels .entry)) (now (relocs .entry)) (now (segments .entry)) (now (output .entry))) ⌝ }
 {
     let all = b.events as usize + b.asked as usize;
     let mut long = [false; lookup::FEW];
@@ -282,8 +281,8 @@ pub(crate) fn small_relaxed(
     segments: &mut [Segment],
     output: &mut [u8],
 ) -> Outcome
-    requires { ⌜ Layable (now code) (now labels) (now events) (now refs) (now constants) (now asked) (now relocs) (now output) (length (now segments)) (b .code) (b .labels) (b .events) (b .asked) (b .refs) (b .relocs) ⌝ ∗ ⌜ b .events + b .asked ≤ fewMarks ⌝ }
-    ensures { λ r. ⌜ ((us : List tables.Use) → (r, (now (labels .exit), (now (relocs .exit), (now (segments .exit), now (output .exit))))) ≡ relaxed (tablesPooled archX64 (b .code) (take (b .code) (now (code .entry))) (tables.entries (wordAt (now (labels .entry))) (b .labels)) (tables.entries (eventAt (now (events .entry))) (b .events)) us (tables.entries (tables.refAt (now (refs .entry))) (b .refs)) (now (constants .entry)) (now (asked .entry)) (b .asked)) (b .relocs) (now (labels .entry)) (now (relocs .entry)) (now (segments .entry)) (now (output .entry))) ⌝ }
+    requires { ⌜ Layable (now code) (now labels) (now events) (now refs) (now constants) (now asked) (now relocs) (now output) (length (now segments)) (b .arch) (b .code) (b .labels) (b .events) (b .asked) (b .refs) (b .relocs) ⌝ ∗ ⌜ b .events + b .asked ≤ fewMarks ⌝ }
+    ensures { λ r. ⌜ ((us : List tables.Use) → (r, (now (labels .exit), (now (relocs .exit), (now (segments .exit), now (output .exit))))) ≡ relaxed (laidPooled (b .arch) (b .code) (take (b .code) (now (code .entry))) (tables.entries (wordAt (now (labels .entry))) (b .labels)) (tables.entries (eventAt (now (events .entry))) (b .events)) us (tables.entries (tables.refAt (now (refs .entry))) (b .refs)) (now (constants .entry)) (now (asked .entry)) (b .asked)) (b .relocs) (now (labels .entry)) (now (relocs .entry)) (now (segments .entry)) (now (output .entry))) ⌝ }
 {
     let all = b.events as usize + b.asked as usize;
     let mut long = [false; checks::entries::FEW_MARKS];
@@ -320,8 +319,8 @@ pub(crate) fn large_relaxed(
     output: &mut [u8],
     again: usize,
 ) -> Outcome
-    requires { ⌜ (again ≡ 0) × Layable (now code) (now labels) (now events) (now refs) (now constants) (now asked) (now relocs) (now output) (length (now segments)) (b .code) (b .labels) (b .events) (b .asked) (b .refs) (b .relocs) ⌝ }
-    ensures { λ r. ⌜ ((us : List tables.Use) → (r, (now (labels .exit), (now (relocs .exit), (now (segments .exit), now (output .exit))))) ≡ relaxed (tablesPooled archX64 (b .code) (take (b .code) (now (code .entry))) (tables.entries (wordAt (now (labels .entry))) (b .labels)) (tables.entries (eventAt (now (events .entry))) (b .events)) us (tables.entries (tables.refAt (now (refs .entry))) (b .refs)) (now (constants .entry)) (now (asked .entry)) (b .asked)) (b .relocs) (now (labels .entry)) (now (relocs .entry)) (now (segments .entry)) (now (output .entry))) ⌝ }
+    requires { ⌜ (again ≡ 0) × Layable (now code) (now labels) (now events) (now refs) (now constants) (now asked) (now relocs) (now output) (length (now segments)) (b .arch) (b .code) (b .labels) (b .events) (b .asked) (b .refs) (b .relocs) ⌝ }
+    ensures { λ r. ⌜ ((us : List tables.Use) → (r, (now (labels .exit), (now (relocs .exit), (now (segments .exit), now (output .exit))))) ≡ relaxed (laidPooled (b .arch) (b .code) (take (b .code) (now (code .entry))) (tables.entries (wordAt (now (labels .entry))) (b .labels)) (tables.entries (eventAt (now (events .entry))) (b .events)) us (tables.entries (tables.refAt (now (refs .entry))) (b .refs)) (now (constants .entry)) (now (asked .entry)) (b .asked)) (b .relocs) (now (labels .entry)) (now (relocs .entry)) (now (segments .entry)) (now (output .entry))) ⌝ }
 {
     if again != 0 {
         let before = large_relaxed(
@@ -375,8 +374,8 @@ pub(crate) fn relaxed(
     segments: &mut [Segment],
     output: &mut [u8],
 ) -> Outcome
-    requires { ⌜ Layable (now code) (now labels) (now events) (now refs) (now constants) (now asked) (now relocs) (now output) (length (now segments)) (b .code) (b .labels) (b .events) (b .asked) (b .refs) (b .relocs) ⌝ }
-    ensures { λ r. ⌜ ((us : List tables.Use) → (r, (now (labels .exit), (now (relocs .exit), (now (segments .exit), now (output .exit))))) ≡ relaxed (tablesPooled archX64 (b .code) (take (b .code) (now (code .entry))) (tables.entries (wordAt (now (labels .entry))) (b .labels)) (tables.entries (eventAt (now (events .entry))) (b .events)) us (tables.entries (tables.refAt (now (refs .entry))) (b .refs)) (now (constants .entry)) (now (asked .entry)) (b .asked)) (b .relocs) (now (labels .entry)) (now (relocs .entry)) (now (segments .entry)) (now (output .entry))) ⌝ }
+    requires { ⌜ Layable (now code) (now labels) (now events) (now refs) (now constants) (now asked) (now relocs) (now output) (length (now segments)) (b .arch) (b .code) (b .labels) (b .events) (b .asked) (b .refs) (b .relocs) ⌝ }
+    ensures { λ r. ⌜ ((us : List tables.Use) → (r, (now (labels .exit), (now (relocs .exit), (now (segments .exit), now (output .exit))))) ≡ relaxed (laidPooled (b .arch) (b .code) (take (b .code) (now (code .entry))) (tables.entries (wordAt (now (labels .entry))) (b .labels)) (tables.entries (eventAt (now (events .entry))) (b .events)) us (tables.entries (tables.refAt (now (refs .entry))) (b .refs)) (now (constants .entry)) (now (asked .entry)) (b .asked)) (b .relocs) (now (labels .entry)) (now (relocs .entry)) (now (segments .entry)) (now (output .entry))) ⌝ }
 {
     if (b.events as usize + b.asked as usize) < lookup::FEW {
         return tiny_relaxed(

@@ -17,7 +17,7 @@ use Rattle.words.specs.Words.{setWord}
 use Rattle.buffer.specs.declared.CodeBuffer.{CodeBuffer}
 use Rattle.buffer.specs.declared.Recorded.{Recorded}
 use Rattle.buffer.specs.declared.Made.{Made}
-use Rattle.buffer.specs.State.{none, withRefusal, withCode, withLabels, withEvents, withUses, withRefs, withAsked, withRelocs, withOpen, refusing, noneMade}
+use Rattle.buffer.specs.State.{none, keepsEvents, withRefusal, withCode, withLabels, withEvents, withUses, withRefs, withAsked, withRelocs, withOpen, refusing, noneMade}
 use Rattle.buffer.specs.Tables.{mostEntries, mostOpen, labelSize, useWords, useSize, refWords, refSize, askedSize, relocWords, relocSize}
 use Rattle.buffer.specs.Refusals.{whyLabel, whyAlign, whyUse, whyRef, whyJump, noRoomToAsk, whyReloc}
 use Rattle.buffer.specs.Calls.{padding, putBytes, getLabel, bindLabel, alignedEvents, alignTo, useLabel, recordRef, recordJump, addConstant, askedFirst, constantLabel, addReloc}
@@ -28,7 +28,7 @@ use Rattle.recording.specs.View.{useAt, refAt, relocAt, view}
 use Rattle.recording.specs.Open.{isOpen, openOf}
 use Rattle.recording.specs.steps.Righted.{Fitting}
 use Rattle.recording.proofs.Naming.{naming-le}
-use Rattle.recording.proofs.Steps.{either, tested, unless}
+use Rattle.recording.proofs.Steps.{either, tested, whether, unless}
 use Rattle.recording.proofs.Views.{length-entries}
 
 -- no more entries are open than the four tables hold
@@ -147,12 +147,12 @@ module _ (r : Recording) (f : Fitting r) where
       tested (whyAlign b (length (r .code)) (length (r .events) / eventSize) (m .value) (most .value)) 0
       (λ (a : Recorded × (List ℕ × List ℕ)). Fitting (withEventTable (withCodeTable r (a .0 .buffer) (a .1 .0)) (a .0 .buffer) (a .1 .1))) _ _
       (λ h.
-      tested (b .arch) archX64
+      whether (keepsEvents (b .arch))
       (λ (a : CodeBuffer × List ℕ). Fitting (withEventTable (withCodeTable r (withCode (a .0) (b .code + pad)) (over (r .code) (b .code) (padding (b .arch) pad))) (withCode (a .0) (b .code + pad)) (a .1))) _ _
-      (λ x64.
+      (λ kept.
       let g = align-accepted h in
-      events-fit f (b .events + 1) _ _ _ _ (omega (arith, g .event x64, ap length (five-words (r .events) k alignmentKind (b .code) pad (m .value) (most .value)), length-setWords (r .events) k (alignmentKind ∷ b .code ∷ pad ∷ m .value ∷ most .value ∷ [])))
-      (omega (arith, g .event x64, g .fewEvents)))
+      events-fit f (b .events + 1) _ _ _ _ (omega (arith, g .event kept, ap length (five-words (r .events) k alignmentKind (b .code) pad (m .value) (most .value)), length-setWords (r .events) k (alignmentKind ∷ b .code ∷ pad ∷ m .value ∷ most .value ∷ [])))
+      (omega (arith, g .event kept, g .fewEvents)))
       (record { namers = namers-of _ refl refl refl refl; labels = f .labels }))
       (record { namers = refused _ .namers; labels = refused _ .labels })
 
@@ -174,9 +174,9 @@ module _ (r : Recording) (f : Fitting r) where
       let P : Recorded × List ℕ → Type 0 = λ a. Fitting (withRefTable r (a .0 .buffer) (a .1)) in
       tested (whyRef b (length (r .labels) / labelSize) (length (r .refs) / refSize) (l .value) (c .value)) 0 P _ _
       (λ h.
-      tested (b .arch) archX64 P _ _
-      (λ x64.
-      let g = ref-accepted h x64 in
+      whether (keepsEvents (b .arch)) P _ _
+      (λ kept.
+      let g = ref-accepted h kept in
       refs-fit f (b .refs + 1) _ _ (omega (arith, g .fits, ap length (four-words (r .refs) k (o .value) (l .value) (c .value) (d .value)), length-setWords (r .refs) k (o .value ∷ l .value ∷ c .value ∷ d .value ∷ [])))
       (omega (arith, g .fits, g .few)))
       f)

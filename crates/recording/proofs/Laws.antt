@@ -1,7 +1,7 @@
 -- The law of each call over the view of a recording: what a call that is not turned down adds, and that one that is changes nothing.
 use mathlib.Core.Path.{_≡_, refl, sym, ap, _∙_}
 use mathlib.Core.Logic.{_≢_}
-use mathlib.Core.Bool.{false}
+use mathlib.Core.Bool.{true, false}
 use mathlib.Core.List.{List, [], _∷_, _++_}
 use Prim.Native.Nat.{ℕ, _+_, _*_, _/_, _%_, _<_}
 use native.Mathlib.Omega.{arith}
@@ -11,14 +11,14 @@ use lib.ListN.{length, set, take}
 use Rattle.seqs.specs.Over.{over}
 use Rattle.seqs.proofs.Overwrites.{take-over-end}
 use Rattle.seqs.proofs.Booleans.{both-false}
-use Rattle.seqs.proofs.Picking.{pick-no, yes-eq, no-eq}
+use Rattle.seqs.proofs.Picking.{pick-yes, pick-no, yes-eq, no-eq}
 use Rattle.words.proofs.Entries.{three-words, four-words, five-words, six-words}
 use Rattle.encoder.specs.Padding.{paddingWithin}
 use Rattle.relax.specs.Events.{eventOf, setEvent, eventWords, eventSize}
 use Rattle.buffer.specs.declared.CodeBuffer.{CodeBuffer}
 use Rattle.buffer.specs.declared.Recorded.{Recorded}
 use Rattle.buffer.specs.declared.Made.{Made}
-use Rattle.buffer.specs.State.{none, withCode, withRefusal, refusing}
+use Rattle.buffer.specs.State.{none, keepsEvents, withCode, withRefusal, refusing}
 use Rattle.buffer.specs.Refusals.{whyBytes, whyLabel, whyBind, whyAlign, whyUse, whyRef, whyJump, whyConstant, whyConstantLabel, noRoomToAsk, whyReloc}
 use Rattle.buffer.specs.Calls.{putBytes, getLabel, bindLabel, padding, alignedEvents, alignTo, useLabel, recordRef, recordJump, addConstant, askedFirst, constantLabel, addReloc}
 use Rattle.buffer.proofs.Appends.{padding-length}
@@ -124,24 +124,24 @@ module _ (r : Recording) where
       (appended (r .uses) _ (n * useWords) (o .value ∷ l .value ∷ c .value ∷ []) (three-words (r .uses) (n * useWords) (o .value) (l .value) (c .value)) (omega arith)
       (o .small, (l .small, (c .small, tt)))))
 
-  -- refs and jumps are kept on X64
-  pub see-ref : (o l c d : Word) → whyRef (r .buffer) (length (r .labels) / labelSize) (length (r .refs) / refSize) (l .value) (c .value) ≡ 0 → r .buffer .arch ≡ 2
+  -- refs are kept where events are, jumps on X64
+  pub see-ref : (o l c d : Word) → whyRef (r .buffer) (length (r .labels) / labelSize) (length (r .refs) / refSize) (l .value) (c .value) ≡ 0 → keepsEvents (r .buffer .arch) ≡ true
       → view (after (ref o l c d) r) ≡ seeRefs (view r) (view r .refs ++ (record { offset = o .value; label = l .value; code = c .value; addend = d .value } ∷ []))
   unfolding recordRef
-  see-ref o l c d h x64 =
+  see-ref o l c d h kept =
       let n = r .buffer .refs in
-      let f = ref-accepted h x64 in
+      let f = ref-accepted h kept in
       let fits = f .fits in
-      ap (λ (a : Recorded × List ℕ). view (withRefTable r (a .0 .buffer) (a .1))) (yes-eq _ 0 _ _ h ∙ yes-eq _ 2 _ _ x64)
+      ap (λ (a : Recorded × List ℕ). view (withRefTable r (a .0 .buffer) (a .1))) (yes-eq _ 0 _ _ h ∙ pick-yes _ _ _ kept)
       ∙ rw (one-ref-more (r .refs) _ n (o .value) (l .value) (c .value) (d .value)
       (appended (r .refs) _ (n * refWords) (o .value ∷ l .value ∷ c .value ∷ d .value ∷ []) (four-words (r .refs) (n * refWords) (o .value) (l .value) (c .value) (d .value))
       (omega arith) (o .small, (l .small, (c .small, (d .small, tt))))))
 
-  pub see-ref-elsewhere : (o l c d : Word) → whyRef (r .buffer) (length (r .labels) / labelSize) (length (r .refs) / refSize) (l .value) (c .value) ≡ 0 → r .buffer .arch ≢ 2
+  pub see-ref-elsewhere : (o l c d : Word) → whyRef (r .buffer) (length (r .labels) / labelSize) (length (r .refs) / refSize) (l .value) (c .value) ≡ 0 → keepsEvents (r .buffer .arch) ≡ false
       → view (after (ref o l c d) r) ≡ view r
   unfolding recordRef
   see-ref-elsewhere o l c d h other =
-      ap (λ (a : Recorded × List ℕ). view (withRefTable r (a .0 .buffer) (a .1))) (yes-eq _ 0 _ _ h ∙ no-eq _ 2 _ _ other)
+      ap (λ (a : Recorded × List ℕ). view (withRefTable r (a .0 .buffer) (a .1))) (yes-eq _ 0 _ _ h ∙ pick-no _ _ _ other)
 
   pub see-jump : (p n l c : Word) → whyJump (r .buffer) (r .labels) (r .events) (p .value) (n .value) (l .value) (c .value) ≡ 0 → r .buffer .arch ≡ 2
       → view (after (jump p n l c) r) ≡ seeEvents (view r) (view r .events ++ (eventOf 1 (p .value) (n .value) (l .value) (c .value) ∷ []))
@@ -188,34 +188,33 @@ module _ (r : Recording) where
       ap (λ (n : ℕ). take (b .code + n) (over (r .code) (b .code) (padding (b .arch) pad))) (sym size)
       ∙ take-over-end (r .code) (b .code) (padding (b .arch) pad) (omega arith)
 
-  -- an alignment pads, and on X64 it is an event
-  pub see-align : (m most : Word) → whyAlign (r .buffer) (length (r .code)) (length (r .events) / eventSize) (m .value) (most .value) ≡ 0 → r .buffer .arch ≡ 2
+  -- an alignment pads, and where events are kept it is one
+  pub see-align : (m most : Word) → whyAlign (r .buffer) (length (r .code)) (length (r .events) / eventSize) (m .value) (most .value) ≡ 0 → keepsEvents (r .buffer .arch) ≡ true
       → view (after (align m most) r)
-      ≡ seeEvents (seeCode (view r) (view r .code ++ padding 2 (paddingWithin (r .buffer .code) (m .value) (most .value))))
+      ≡ seeEvents (seeCode (view r) (view r .code ++ padding (r .buffer .arch) (paddingWithin (r .buffer .code) (m .value) (most .value))))
       (view r .events ++ (eventOf 2 (r .buffer .code) (paddingWithin (r .buffer .code) (m .value) (most .value)) (m .value) (most .value) ∷ []))
   unfolding alignTo alignedEvents setEvent
-  see-align m most h x64 =
+  see-align m most h kept =
       let b = r .buffer in
       let k = b .events in
       let pad = paddingWithin (b .code) (m .value) (most .value) in
       let f = align-accepted h in
       let fits = f .fits in
       let few = f .few in
-      let room = f .event x64 in
+      let room = f .event kept in
       ap (λ (a : Recorded × (List ℕ × List ℕ)). view (withEventTable (withCodeTable r (a .0 .buffer) (a .1 .0)) (a .0 .buffer) (a .1 .1))) (yes-eq _ 0 _ _ h)
       ∙ ap
       (λ (a : CodeBuffer × List ℕ).
       view (withEventTable (withCodeTable r (withCode (a .0) (b .code + pad)) (over (r .code) (b .code) (padding (b .arch) pad))) (withCode (a .0) (b .code + pad)) (a .1)))
-      (yes-eq _ 2 _ _ x64)
+      (pick-yes _ _ _ kept)
       ∙ rw (
         padded m most h,
-        x64,
         one-event-more (r .events) _ k 2 (b .code) pad (m .value) (most .value)
             (appended (r .events) _ (k * eventWords) (2 ∷ b .code ∷ pad ∷ m .value ∷ most .value ∷ []) (five-words (r .events) (k * eventWords) 2 (b .code) pad (m .value) (most .value)) (omega arith)
             (omega arith, (omega arith, (omega arith, (m .small, (most .small, tt)))))),
       )
 
-  pub see-align-elsewhere : (m most : Word) → whyAlign (r .buffer) (length (r .code)) (length (r .events) / eventSize) (m .value) (most .value) ≡ 0 → r .buffer .arch ≢ 2
+  pub see-align-elsewhere : (m most : Word) → whyAlign (r .buffer) (length (r .code)) (length (r .events) / eventSize) (m .value) (most .value) ≡ 0 → keepsEvents (r .buffer .arch) ≡ false
       → view (after (align m most) r) ≡ seeCode (view r) (view r .code ++ padding (r .buffer .arch) (paddingWithin (r .buffer .code) (m .value) (most .value)))
   unfolding alignTo alignedEvents
   see-align-elsewhere m most h other =
@@ -225,7 +224,7 @@ module _ (r : Recording) where
       ∙ ap
       (λ (a : CodeBuffer × List ℕ).
       view (withEventTable (withCodeTable r (withCode (a .0) (b .code + pad)) (over (r .code) (b .code) (padding (b .arch) pad))) (withCode (a .0) (b .code + pad)) (a .1)))
-      (no-eq _ 2 _ _ other)
+      (pick-no _ _ _ other)
       ∙ rw (padded m most h)
 
   -- asking again changes nothing

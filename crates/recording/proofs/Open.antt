@@ -1,6 +1,7 @@
 -- The number of open entries that a recording keeps: every call changes it by what the tables say.
 use mathlib.Core.Path.{_≡_, refl, sym, ap, _∙_, subst}
 use mathlib.Core.Logic.{⊎-elim}
+use mathlib.Core.Bool.{true}
 use mathlib.Core.List.{List, [], _∷_}
 use Prim.Native.Nat.{ℕ, _+_, _-_, _/_, _<_}
 use native.Mathlib.Omega.{arith}
@@ -11,18 +12,19 @@ use Rattle.seqs.specs.Counting.{one, count}
 use Rattle.seqs.specs.Pick.{pick}
 use Rattle.seqs.proofs.Booleans.{both-false}
 use Rattle.seqs.proofs.Numbers.{eq-or-ne}
-use Rattle.seqs.proofs.Picking.{yes-eq, no-eq}
+use Rattle.seqs.proofs.Picking.{pick-yes, pick-no, yes-eq, no-eq}
 use Rattle.words.specs.Words.{wordAt, setWord}
 use Rattle.encoder.specs.Padding.{paddingWithin}
 use Rattle.relax.specs.Events.{eventOf, eventSize, jumpKind, alignmentKind}
 use Rattle.buffer.specs.declared.CodeBuffer.{CodeBuffer}
 use Rattle.buffer.specs.declared.Recorded.{Recorded}
 use Rattle.buffer.specs.declared.Made.{Made}
-use Rattle.buffer.specs.State.{none, withRefusal, refusing}
+use Rattle.buffer.specs.State.{none, keepsEvents, withRefusal, refusing}
 use Rattle.buffer.specs.Tables.{labelSize, useSize, refSize, askedSize, relocSize}
 use Rattle.buffer.specs.Refusals.{whyLabel, whyBind, whyAlign, whyUse, whyRef, whyJump, noRoomToAsk, whyReloc}
 use Rattle.buffer.specs.Open.{opened, targetOpened, settled}
 use Rattle.buffer.specs.Calls.{started, putBytes, getLabel, bindLabel, alignedEvents, alignTo, useLabel, recordRef, recordJump, addConstant, askedFirst, constantLabel, addReloc}
+use Rattle.buffer.proofs.Keeping.{keeps-or-not}
 use Rattle.buffer.proofs.Accepted.{label-accepted, bind-accepted, use-accepted, ref-accepted, jump-accepted, reloc-accepted, target-label}
 use Rattle.recording.specs.Calls.{Recording, Word, Word64, Call, bytes, newLabel, bind, align, use-label, ref, jump, constant, constant-label, relocation, begun, withBuffer, withLabelTable, withEventTable, withUseTable, withRefTable, withAskedTable, withConstantTable, withRelocTable, after, afterAll}
 use Rattle.recording.specs.View.{entries, Relocation, view, seeLabels}
@@ -139,12 +141,12 @@ module _ (r : Recording) where
       ⊎-elim
       (λ (h : why ≡ 0).
       ⊎-elim
-      (λ (x64 : b .arch ≡ 2).
-      ap openOf (see-align r m most h x64)
+      (λ (kept : keepsEvents (b .arch) ≡ true).
+      ap openOf (see-align r m most h kept)
       ∙ naming-event (isOpen (view r .labels)) (view r) (eventOf alignmentKind (b .code) pad (m .value) (most .value))
       ∙ rw (alignment-names-none (isOpen (view r .labels)) (b .code) pad (m .value) (most .value)) (omega arith))
       (λ other. ap openOf (see-align-elsewhere r m most h other))
-      (eq-or-ne (b .arch) 2))
+      (keeps-or-not (b .arch)))
       (λ ne.
       ap openOf
       (turned-down-unseen (align m most) r
@@ -168,7 +170,7 @@ module _ (r : Recording) where
       (λ ne. subst (λ (a : Recorded × List ℕ). Kept r (withUseTable r (a .0 .buffer) (a .1))) (sym (no-eq why 0 _ _ ne)) (refused r why))
       (eq-or-ne why 0)
 
-  -- off X64 nothing is kept
+  -- elsewhere nothing is kept
   kept-ref : (o l c d : Word) → Kept r (after (ref o l c d) r)
   unfolding recordRef naming
   kept-ref o l c d =
@@ -177,14 +179,14 @@ module _ (r : Recording) where
       ⊎-elim
       (λ (h : why ≡ 0).
       ⊎-elim
-      (λ (x64 : b .arch ≡ 2).
-      more (opened (r .labels) (l .value)) (ap (λ (a : Recorded × List ℕ). a .0 .buffer .unresolved) (yes-eq why 0 _ _ h ∙ yes-eq (b .arch) 2 _ _ x64))
-      (ap openOf (see-ref r o l c d h x64)
+      (λ (kept : keepsEvents (b .arch) ≡ true).
+      more (opened (r .labels) (l .value)) (ap (λ (a : Recorded × List ℕ). a .0 .buffer .unresolved) (yes-eq why 0 _ _ h ∙ pick-yes (keepsEvents (b .arch)) _ _ kept))
+      (ap openOf (see-ref r o l c d h kept)
       ∙ naming-ref (isOpen (view r .labels)) (view r) (record { offset = o .value; label = l .value; code = c .value; addend = d .value })
-      ∙ ap (λ (k : ℕ). openOf (view r) + k) (opened-is (r .labels) (b .labels) (l .value) (ref-accepted h x64 .known))))
+      ∙ ap (λ (k : ℕ). openOf (view r) + k) (opened-is (r .labels) (b .labels) (l .value) (ref-accepted h kept .known))))
       (λ other.
-      unchanged (ap (λ (a : Recorded × List ℕ). a .0 .buffer .unresolved) (yes-eq why 0 _ _ h ∙ no-eq (b .arch) 2 _ _ other)) (ap openOf (see-ref-elsewhere r o l c d h other)))
-      (eq-or-ne (b .arch) 2))
+      unchanged (ap (λ (a : Recorded × List ℕ). a .0 .buffer .unresolved) (yes-eq why 0 _ _ h ∙ pick-no (keepsEvents (b .arch)) _ _ other)) (ap openOf (see-ref-elsewhere r o l c d h other)))
+      (keeps-or-not (b .arch)))
       (λ ne. subst (λ (a : Recorded × List ℕ). Kept r (withRefTable r (a .0 .buffer) (a .1))) (sym (no-eq why 0 _ _ ne)) (refused r why))
       (eq-or-ne why 0)
 

@@ -9,7 +9,7 @@ use lib.ListN.{length}
 use Rattle.seqs.specs.Pick.{pick}
 use Rattle.seqs.specs.Over.{over}
 use Rattle.encoder.specs.Padding.{paddingWithin}
-use Rattle.fields.specs.Kinds.{lastCode}
+use Rattle.fields.specs.Kinds.{lastCode, archX64}
 use Rattle.words.specs.Words.{wordAt}
 use Rattle.relax.specs.Events.{eventSize}
 use Rattle.buffer.specs.declared.CodeBuffer.{CodeBuffer}
@@ -179,7 +179,7 @@ module _ (r : Recording) (n : ℕ) (few : n ≤ mostOpen) (few-before : r .buffe
       apart-by
       (decided (Recorded·same (withEventTable r)) (jump-why (r .labels) (r .events) (p .value) (m .value) (l .value) (c .value)) _ _
       (λ (i : ℕ). (turnedDown other i, r .events)) (λ (i : ℕ). (turnedDown b i, r .events))
-      (together (keepsEvents (b .arch)) (Recorded·same (withEventTable r)) _ _ _ _ (refl, λ k. refl) (refl, λ k. refl))
+      (together (eqb (b .arch) archX64) (Recorded·same (withEventTable r)) _ _ _ _ (refl, λ k. refl) (refl, λ k. refl))
       (λ i. (refl, left-same i)))
 
   constant-why : (room m : ℕ) → whyConstant other room m ≡ whyConstant b room m

@@ -20,7 +20,7 @@ use Rattle.words.proofs.Entries.{three-words, four-words, five-words, six-words
 use Rattle.buffer.specs.declared.CodeBuffer.{CodeBuffer}
 use Rattle.buffer.specs.declared.Recorded.{Recorded}
 use Rattle.buffer.specs.declared.Made.{Made}
-use Rattle.buffer.specs.State.{none, withRefusal, withCode, refusing}
+use Rattle.buffer.specs.State.{none, keepsEvents, withRefusal, withCode, refusing}
 use Rattle.buffer.specs.Refusals.{noRoomToAsk, whyBytes, whyLabel, whyBind, whyAlign, whyUse, whyRef, whyJump, whyConstant, whyConstantLabel, whyReloc}
 use Rattle.buffer.specs.Calls.{putBytes, getLabel, bindLabel, alignedEvents, alignTo, useLabel, recordRef, recordJump, padding, addConstant, askedFirst, constantLabel, addReloc}
 use Rattle.recording.specs.Calls.{Recording, Word, Word64, bytes, newLabel, bind, align, use-label, ref, jump, constant, constant-label, relocation, withBuffer, withCodeTable, withLabelTable, withEventTable, withUseTable, withRefTable, withConstantTable, withAskedTable, withRelocTable, after}
@@ -29,6 +29,7 @@ use Rattle.recording.proofs.Growth.{more-labels-events, more-labels-use
 use Rattle.recording.proofs.Tables.{appended, appended-before, append-label, bind-label, append-use, append-ref, append-reloc, append-event, labels-beside-event, ends-by-last}
 use Rattle.recording.proofs.Constants.{append-constant, asked-before-constant, label-constant, ask}
 use Rattle.recording.proofs.Tables.{known-target}
+use Rattle.buffer.proofs.Keeping.{x64-keeps}
 use Rattle.buffer.proofs.Accepted.{label-accepted, bind-accepted, bytes-accepted, align-accepted, use-accepted, ref-accepted, jump-accepted, constant-accepted, constant-label-accepted, reloc-accepted}
 use Rattle.buffer.specs.Tables.{labelSize, useWords, useSize, refSize, constantWords, constantSize, constantHead, askedSize, relocWords, relocSize}
 
@@ -46,6 +47,12 @@ tested m n P x y held other = by (eqb m n) refl
     by : (t : Bool) → eqb m n ≡ t → P (pick t x y)
     by true e = held (eqb-true m n e)
     by false e = other
+
+-- a test, and what it shows where it holds
+pub whether : {A : Type 0} (t : Bool) (P : A → Type 0) (x y : A) → (t ≡ true → P x) → P y → P (pick t x y)
+unfolding pick
+whether true P x y held other = held refl
+whether false P x y held other = other
 
 -- a test that turns down, and what it shows where it does not
 pub unless : {A : Type 0} (t : Bool) (P : A → Type 0) (x y : A) → P x → (t ≡ false → P y) → P (pick t x y)
@@ -167,9 +174,9 @@ keeps-ref r o l c d s =
     let P : Recorded × List ℕ → Type 0 = λ a. Sound (withRefTable r (a .0 .buffer) (a .1)) in
     tested why 0 P _ _
     (λ h.
-    tested (b .arch) 2 P _ _
-    (λ x64.
-    let f = ref-accepted h x64 in
+    whether (keepsEvents (b .arch)) P _ _
+    (λ kept.
+    let f = ref-accepted h kept in
     let fits = f .fits in
     let a =
     appended (r .refs) _ k (o .value ∷ l .value ∷ c .value ∷ d .value ∷ []) (four-words (r .refs) k (o .value) (l .value) (c .value) (d .value)) (omega arith)
@@ -179,7 +186,7 @@ keeps-ref r o l c d s =
       labels = s .labels;
       events = s .events;
       uses = s .uses;
-      refs = append-ref (r .refs) _ (b .refs) (b .arch) (b .labels) (o .value) (l .value) (c .value) (d .value) a fits x64 (f .native) (f .known) (s .refs);
+      refs = append-ref (r .refs) _ (b .refs) (b .arch) (b .labels) (o .value) (l .value) (c .value) (d .value) a fits kept (f .native) (f .known) (s .refs);
       constants = s .constants;
       asked = s .asked;
       relocs = s .relocs;
@@ -272,7 +279,7 @@ keeps-jump r p n l c s =
           labels-beside-event (r .events) _ (b .events) 1 start len (l .value) (c .value) a (r .labels) (b .labels) (b .code) (b .code) (omega arith)
           (λ i h. inr (f .outside i h)) (s .labels);
       events =
-          append-event (r .events) _ (b .events) 1 start len (l .value) (c .value) a (b .labels) (b .code) (b .code) (b .arch) fits x64
+          append-event (r .events) _ (b .events) 1 start len (l .value) (c .value) a (b .labels) (b .code) (b .code) (b .arch) fits (x64-keeps (b .arch) x64)
           (inl (refl, f .long, f .short, f .known, f .form)) (omega arith) (omega arith)
           (λ i h. let e = ends-by-last (r .events) (b .events) (b .labels) (b .code) (b .arch) (s .events) i h in omega arith)
           (s .events);
@@ -301,10 +308,10 @@ keeps-align r m most s =
     let few = f .few in
     let code = over (r .code) (b .code) (padding (b .arch) pad) in
     let grown : CodeSound code (b .code + pad) = record { room = rw (length-over (r .code) (b .code) (padding (b .arch) pad)) fits; limit = omega arith } in
-    tested (b .arch) 2
+    whether (keepsEvents (b .arch))
     (λ (e : CodeBuffer × List ℕ). Sound (withEventTable (withCodeTable r (withCode (e .0) (b .code + pad)) code) (withCode (e .0) (b .code + pad)) (e .1))) _ _
-    (λ x64.
-    let room = f .event x64 in
+    (λ kept.
+    let room = f .event kept in
     let a =
     appended (r .events) _ k (2 ∷ b .code ∷ pad ∷ m .value ∷ most .value ∷ []) (five-words (r .events) k 2 (b .code) pad (m .value) (most .value)) (omega arith)
     (omega arith, (omega arith, (omega arith, (m .small, (most .small, tt))))) in
@@ -314,7 +321,7 @@ keeps-align r m most s =
           labels-beside-event (r .events) _ (b .events) 2 (b .code) pad (m .value) (most .value) a (r .labels) (b .labels) (b .code) (b .code + pad) more
           (λ i h. ⊎-elim (λ u. inl u) (λ bound. inr (inl (bound .0))) (s .labels .entry i h)) (s .labels);
       events =
-          append-event (r .events) _ (b .events) 2 (b .code) pad (m .value) (most .value) a (b .labels) (b .code) (b .code + pad) (b .arch) room x64
+          append-event (r .events) _ (b .events) 2 (b .code) pad (m .value) (most .value) a (b .labels) (b .code) (b .code + pad) (b .arch) room kept
           (inr (refl, f .aligned, refl)) (le-refl _) more
           (λ i h. s .events .entry i h .ends)
           (s .events);

@@ -18,10 +18,10 @@ use Rattle.seqs.specs.Over.{over}
 use Rattle.seqs.proofs.Overwrites.{length-over}
 use Rattle.words.proofs.Laws.{length-setWord, wordAt-same, wordAt-before, wordAt-other}
 use Rattle.words.proofs.Entries.{Small, small-at, setWords, length-setWords, setWords-below, setWords-in}
-use Rattle.fields.specs.Kinds.{decoded, archX64}
+use Rattle.fields.specs.Kinds.{decoded}
 use Rattle.relax.proofs.Columns.{end-at}
 use Rattle.buffer.specs.declared.CodeBuffer.{CodeBuffer}
-use Rattle.buffer.specs.State.{none}
+use Rattle.buffer.specs.State.{none, keepsEvents}
 use Rattle.buffer.specs.Refusals.{foreign, foreignReloc, targetKnown, lastEnd}
 use Rattle.buffer.specs.Tables.{mostEntries, mostCode, labelSize, useWords, useSize, refWords, refSize, relocWords, relocSize}
 use Rattle.recording.specs.Sound.{
@@ -92,11 +92,11 @@ module _ (t u : List ℕ) (n arch labels : ℕ) where
       }
 
   pub append-ref : (offset label code addend : ℕ) → Appended t u (n * refWords) (offset ∷ label ∷ code ∷ addend ∷ []) → n < length t / refSize
-      → arch ≡ archX64 → foreign (decoded code) arch ≡ false → label < labels → RefsSound t n arch labels → RefsSound u (n + 1) arch labels
-  append-ref offset label code addend a room x64 native known s =
+      → keepsEvents arch ≡ true → foreign (decoded code) arch ≡ false → label < labels → RefsSound t n arch labels → RefsSound u (n + 1) arch labels
+  append-ref offset label code addend a room kept native known s =
       record {
         room = rw (a .size) (omega arith);
-        tracked = inl x64;
+        tracked = inl kept;
         entry =
             one-more n (RefSound u arch labels)
             (λ i l.
@@ -150,12 +150,12 @@ module _ (t u : List ℕ) (n kind start len what cc : ℕ) (a : Appended t u (n 
   new-kind : wordAt u (n * eventWords) ≡ kind
   new-kind = let at : n * eventWords + 0 ≡ n * eventWords = omega arith in ap (λ (x : ℕ). wordAt u x) (sym at) ∙ a .written 0 (omega arith)
 
-  pub append-event : (labels code code′ arch : ℕ) → n < length t / eventSize → arch ≡ archX64 → FormOf labels kind start len what cc → start + len ≤ code′ → code ≤ code′
+  pub append-event : (labels code code′ arch : ℕ) → n < length t / eventSize → keepsEvents arch ≡ true → FormOf labels kind start len what cc → start + len ≤ code′ → code ≤ code′
       → ((i : ℕ) → i < n → endAt t i ≤ start) → EventsSound t n labels code arch → EventsSound u (n + 1) labels code′ arch
-  append-event labels code code′ arch room x64 form ends more before s =
+  append-event labels code code′ arch room kept form ends more before s =
       record {
         room = rw (a .size) (omega arith);
-        tracked = inl x64;
+        tracked = inl kept;
         entry =
             one-more n (EventSound u labels code′)
             (λ j l.

@@ -17,7 +17,7 @@ use Rattle.buffer.specs.declared.Recorded.{Recorded}
 use Rattle.buffer.specs.declared.Made.{Made}
 use Rattle.buffer.specs.Tables.{labelSize, useSize, refSize, constantSize, askedSize, relocSize}
 use Rattle.buffer.specs.Open.{targetOpened}
-use Rattle.buffer.specs.State.{none, labelTarget, withOpen, withRefusal, withCode, withLabels, withEvents, withUses, withRefs, withConstants, withAsked, withRelocs, refusing}
+use Rattle.buffer.specs.State.{none, labelTarget, keepsEvents, withOpen, withRefusal, withCode, withLabels, withEvents, withUses, withRefs, withConstants, withAsked, withRelocs, refusing}
 use Rattle.buffer.specs.Refusals.{standing, whyBytes, whyLabel, whyAlign, whyUse, whyRef, whyJump, whyConstant, whyConstantLabel, noRoomToAsk, whyReloc}
 use Rattle.buffer.specs.Calls.{started, putBytes, getLabel, bindLabel, alignedEvents, alignTo, useLabel, recordRef, recordJump, addConstant, askedFirst, constantLabel, addReloc}
 use Rattle.buffer.proofs.Accepted.{label-accepted, bytes-accepted, align-accepted, use-accepted, ref-accepted, jump-accepted, constant-accepted, constant-label-accepted, reloc-accepted}
@@ -37,7 +37,7 @@ use Rattle.recording.specs.Calls.{
   after,
   afterAll,
 }
-use Rattle.recording.proofs.Steps.{either, tested, unless}
+use Rattle.recording.proofs.Steps.{either, tested, whether, unless}
 
 pub record Words (b : CodeBuffer) : Type 0 where
   pub arch : b .arch < 4294967296
@@ -163,8 +163,8 @@ call-words (align m most) r w =
     (λ h.
     let f = align-accepted h in
     word-code
-    (tested (r .buffer .arch) archX64 (λ (a : CodeBuffer × List ℕ). Words (a .0)) _ _
-    (λ x64. word-events w (omega (arith, f .event x64, f .fewEvents)))
+    (whether (keepsEvents (r .buffer .arch)) (λ (a : CodeBuffer × List ℕ). Words (a .0)) _ _
+    (λ kept. word-events w (omega (arith, f .event kept, f .fewEvents)))
     w)
     (omega (arith, f .fits, f .few)))
     (turned-down w (align-word (length (r .code)) (length (r .events) / eventSize) (m .value) (most .value) w))
@@ -175,8 +175,8 @@ call-words (use-label o l c) r w =
 call-words (ref o l c d) r w =
     tested (whyRef (r .buffer) (length (r .labels) / labelSize) (length (r .refs) / refSize) (l .value) (c .value)) 0 Recorded·words _ _
     (λ h.
-    tested (r .buffer .arch) archX64 Recorded·words _ _
-    (λ x64. let f = ref-accepted h x64 in word-open (word-refs w (omega (arith, f .fits, f .few))) (omega (arith, f .few-open, one-le (eqb (wordAt (r .labels) (l .value)) none))))
+    whether (keepsEvents (r .buffer .arch)) Recorded·words _ _
+    (λ kept. let f = ref-accepted h kept in word-open (word-refs w (omega (arith, f .fits, f .few))) (omega (arith, f .few-open, one-le (eqb (wordAt (r .labels) (l .value)) none))))
     w)
     (turned-down w (ref-word (length (r .labels) / labelSize) (length (r .refs) / refSize) (l .value) (c .value) w))
 call-words (jump p n l c) r w =

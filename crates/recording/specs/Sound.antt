@@ -7,9 +7,9 @@ use Prim.Native.Nat.{ℕ, _+_, _*_, _/_, _≤_, _<_}
 use lib.ListN.{length}
 use Rattle.words.specs.Words.{wordAt}
 use Rattle.encoder.specs.Padding.{paddingWithin}
-use Rattle.fields.specs.Kinds.{decoded, archX64, unsupportedCode, lastCode}
+use Rattle.fields.specs.Kinds.{decoded, unsupportedCode, lastCode}
 use Rattle.relax.specs.Events.{eventWords, eventSize, jumpKind, alignmentKind, noCondition, mostJump, shortLen}
-use Rattle.buffer.specs.State.{none, labelTarget}
+use Rattle.buffer.specs.State.{none, labelTarget, keepsEvents}
 use Rattle.buffer.specs.Refusals.{foreign, foreignReloc, isAlignment}
 use Rattle.buffer.specs.Tables.{mostEntries, mostCode, lastOffset, mostConstant, lastReloc, labelSize, useWords, useSize, refWords, refSize, constantWords, constantSize, askedSize, relocWords, relocSize}
 use Rattle.recording.specs.Calls.{Recording}
@@ -52,10 +52,10 @@ pub record EventSound (events : List ℕ) (labels code j : ℕ) : Type 0 where
   pub ends : endAt events j ≤ code
   pub follows : (i : ℕ) → i < j → endAt events i ≤ startAt events j
 
--- only X64 keeps events
+-- not every architecture keeps events
 pub record EventsSound (events : List ℕ) (count labels code arch : ℕ) : Type 0 where
   pub room : count ≤ length events / eventSize
-  pub tracked : (arch ≡ archX64) ⊎ (count ≡ 0)
+  pub tracked : (keepsEvents arch ≡ true) ⊎ (count ≡ 0)
   pub entry : (j : ℕ) → j < count → EventSound events labels code j
 
 -- A use: a code of the architecture other than 15, a known label.
@@ -73,10 +73,10 @@ pub record RefSound (refs : List ℕ) (arch labels i : ℕ) : Type 0 where
   pub native : foreign (decoded (wordAt refs (i * refWords + 2))) arch ≡ false
   pub label : wordAt refs (i * refWords + 1) < labels
 
--- only X64 keeps refs
+-- nor refs
 pub record RefsSound (refs : List ℕ) (count arch labels : ℕ) : Type 0 where
   pub room : count ≤ length refs / refSize
-  pub tracked : (arch ≡ archX64) ⊎ (count ≡ 0)
+  pub tracked : (keepsEvents arch ≡ true) ⊎ (count ≡ 0)
   pub entry : (i : ℕ) → i < count → RefSound refs arch labels i
 
 -- a symbol below the count, or a known label + 2^31

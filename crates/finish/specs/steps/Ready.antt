@@ -10,7 +10,6 @@ use Rattle.refusals.specs.Numbers as refusals
 use Rattle.seqs.specs.Pick.{pick, first}
 use Rattle.seqs.specs.Over.{over}
 use Rattle.words.specs.Words.{wordAt}
-use Rattle.fields.specs.Kinds.{archX64}
 use Rattle.recording.specs.Sound.{startAt, endAt, CodeSound, LabelSound, EventsSound, UsesSound, RefsSound, RelocsSound}
 use Rattle.relax.specs.declared.Segment.{Segment}
 use Rattle.relax.specs.Events.{eventAt, eventSize}
@@ -33,7 +32,7 @@ use Rattle.finish.specs.declared.Finished.{Finished}
 use Rattle.finish.specs.declared.Outcome.{Outcome}
 use Rattle.finish.specs.Refusals.{allBound, whyNotInPlace}
 use Rattle.finish.specs.Finish.{Left, refusedWith, relaxed, unrelaxed, finishedWith, unfinished, finish}
-use Rattle.finish.specs.steps.Tables.{tablesPooled}
+use Rattle.finish.specs.steps.Tables.{tablesPooled, laidPooled}
 
 -- a label as recordings leave it, or one of the pool
 abbrev pub Landed : List ℕ → ℕ → ℕ → List ℕ → List ℕ → ℕ → ℕ → Type 0
@@ -69,24 +68,24 @@ pub record Clearing (refs events labels constants asked : List ℕ) (f n m code 
   pub placed : search.Placed labels constants asked code m
 
 -- where the recorded code ends in the output
-abbrev pub endOfRuns : List ℕ → List ℕ → List Bool → ℕ → ℕ → ℕ
-endOfRuns code events long len n = length (runs archX64 0 0 (take len code) (entries (eventAt events) n) long)
+abbrev pub endOfRuns : ℕ → List ℕ → List ℕ → List Bool → ℕ → ℕ → ℕ
+endOfRuns arch code events long len n = length (runs arch 0 0 (take len code) (entries (eventAt events) n) long)
 
 -- the output once all is written, in the order of the calls
-abbrev pub codeWritten : List ℕ → List ℕ → List ℕ → List ℕ → List ℕ → List ℕ → List ℕ → List Bool → List Segment → ℕ → ℕ → ℕ → ℕ → List ℕ
-codeWritten output code labels events refs constants asked long ss len n m f =
-    let to = endOfRuns code events long len n in
-    let placed = over output 0 (runs archX64 0 0 (take len code) (entries (eventAt events) n) long) in
-    let laid = over placed to (poolBytes archX64 to constants asked m) in
+abbrev pub codeWritten : ℕ → List ℕ → List ℕ → List ℕ → List ℕ → List ℕ → List ℕ → List ℕ → List Bool → List Segment → ℕ → ℕ → ℕ → ℕ → List ℕ
+codeWritten arch output code labels events refs constants asked long ss len n m f =
+    let to = endOfRuns arch code events long len n in
+    let placed = over output 0 (runs arch 0 0 (take len code) (entries (eventAt events) n) long) in
+    let laid = over placed to (poolBytes arch to constants asked m) in
     poolWritten (jumpsFilled (refsFilled laid refs labels ss (n + m) f) events labels long ss n) labels constants asked m
 
 -- what the code is written from: a layout of a choice of long jumps in the table, labels at their new offsets, and an output that has room. `to` is where
 -- the recorded code ends in the output.
-pub record Writing (output code labels events refs constants asked : List ℕ) (long : List Bool) (ss : List Segment) (len n m f to : ℕ) : Type 0 where
+pub record Writing (output code labels events refs constants asked : List ℕ) (long : List Bool) (ss : List Segment) (arch len n m f to : ℕ) : Type 0 where
   pub small : len ≤ mostCode
   pub rising : Rising ss n
   pub rising-all : Rising ss (n + m)
-  pub emits : Emits output code events long ss n len archX64
+  pub emits : Emits output code events long ss n len arch
   pub ends : mapOffset (take n ss) len ≡ to
   pub near : to ≤ mostCode
   pub pool : PoolFits constants asked m
@@ -114,17 +113,17 @@ pub record Copying (output code labels uses constants asked : List ℕ) (len u m
   pub written : PoolRoom output labels constants asked m
 
 -- what a finish with a jump is handed
-pub record Relaxable (code labels events refs constants asked relocs output : List ℕ) (segments len count n m f l : ℕ) : Type 0 where
-  pub ready : Ready code labels events constants asked archX64 len count n m
-  pub referred : RefsSound refs f archX64 count
+pub record Relaxable (code labels events refs constants asked relocs output : List ℕ) (segments arch len count n m f l : ℕ) : Type 0 where
+  pub ready : Ready code labels events constants asked arch len count n m
+  pub referred : RefsSound refs f arch count
   pub moved : WordsFit relocs 6 l
   pub few : n ≤ mostEntries
   pub segments-limit : segments ≤ mostEntries
   pub output-limit : length output ≤ mostCode
 
 -- what a layout is handed: nothing refused it
-pub record Layable (code labels events refs constants asked relocs output : List ℕ) (segments len count n m f l : ℕ) : Type 0 where
-  pub relaxable : Relaxable code labels events refs constants asked relocs output segments len count n m f l
+pub record Layable (code labels events refs constants asked relocs output : List ℕ) (segments arch len count n m f l : ℕ) : Type 0 where
+  pub relaxable : Relaxable code labels events refs constants asked relocs output segments arch len count n m f l
   pub unrefused : 0 ≡ first ((ltb segments (n + m), refusals.tooFewSegments) ∷ (not (refsClear refs f events n len constants asked m), refusals.refOverlaps) ∷ [])
 
 -- what one without a jump is handed
@@ -168,10 +167,10 @@ placedAs p b labels relocs ss output =
 -- what is left before a layout that is to be made: the output is as it was, and what is then relaxed is what is placed
 pub record Starts (b : CodeBuffer) (code labels events uses refs constants asked relocs output left : List ℕ) (segments : ℕ) : Type 0 where
   pub kept : left ≡ output
-  pub relaxable : Relaxable code labels events refs constants asked relocs output segments (b .code) (b .labels) (b .events) (b .asked) (b .refs) (b .relocs)
+  pub relaxable : Relaxable code labels events refs constants asked relocs output segments (b .arch) (b .code) (b .labels) (b .events) (b .asked) (b .refs) (b .relocs)
   pub laid : 0 ≡ first ((ltb segments (b .events + b .asked), refusals.tooFewSegments) ∷ (not (refsClear refs (b .refs) events (b .events) (b .code) constants asked (b .asked)), refusals.refOverlaps) ∷ [])
   pub placed : (ss : List Segment) (x : Outcome × Left)
-      → ((us : List Use) → x ≡ relaxed (tablesPooled archX64 (b .code) (take (b .code) code) (entries (wordAt labels) (b .labels)) (entries (eventAt events) (b .events)) us (entries (refAt refs) (b .refs)) constants asked (b .asked)) (b .relocs) labels relocs ss output)
+      → ((us : List Use) → x ≡ relaxed (laidPooled (b .arch) (b .code) (take (b .code) code) (entries (wordAt labels) (b .labels)) (entries (eventAt events) (b .events)) us (entries (refAt refs) (b .refs)) constants asked (b .asked)) (b .relocs) labels relocs ss output)
       → x ≡ placedAs (pooledOf b code labels events uses refs constants asked) b labels relocs ss output
 
 -- the answer and the labels once a recording is placed: one that is refused gets the pool's labels back
@@ -182,8 +181,8 @@ concluded b constants asked placed labels =
 -- what finish leaves before a layout that is to be made: what is then relaxed and concluded is what finish answers and leaves
 pub record Begins (r : Recording) (labels output left : List ℕ) (segments : ℕ) : Type 0 where
   pub kept : left ≡ output
-  pub relaxable : Relaxable (r .code) labels (r .events) (r .refs) (r .constants) (r .asked) (r .relocs) output segments (r .buffer .code) (r .buffer .labels) (r .buffer .events) (r .buffer .asked) (r .buffer .refs) (r .buffer .relocs)
+  pub relaxable : Relaxable (r .code) labels (r .events) (r .refs) (r .constants) (r .asked) (r .relocs) output segments (r .buffer .arch) (r .buffer .code) (r .buffer .labels) (r .buffer .events) (r .buffer .asked) (r .buffer .refs) (r .buffer .relocs)
   pub laid : 0 ≡ first ((ltb segments (r .buffer .events + r .buffer .asked), refusals.tooFewSegments) ∷ (not (refsClear (r .refs) (r .buffer .refs) (r .events) (r .buffer .events) (r .buffer .code) (r .constants) (r .asked) (r .buffer .asked)), refusals.refOverlaps) ∷ [])
   pub concludes : (ss : List Segment) → length ss ≡ segments → (placed : Outcome) (x : Left)
-      → ((us : List Use) → (placed, x) ≡ relaxed (tablesPooled archX64 (r .buffer .code) (take (r .buffer .code) (r .code)) (entries (wordAt labels) (r .buffer .labels)) (entries (eventAt (r .events)) (r .buffer .events)) us (entries (refAt (r .refs)) (r .buffer .refs)) (r .constants) (r .asked) (r .buffer .asked)) (r .buffer .relocs) labels (r .relocs) ss output)
+      → ((us : List Use) → (placed, x) ≡ relaxed (laidPooled (r .buffer .arch) (r .buffer .code) (take (r .buffer .code) (r .code)) (entries (wordAt labels) (r .buffer .labels)) (entries (eventAt (r .events)) (r .buffer .events)) us (entries (refAt (r .refs)) (r .buffer .refs)) (r .constants) (r .asked) (r .buffer .asked)) (r .buffer .relocs) labels (r .relocs) ss output)
       → (f : Finished) (back : List ℕ) → (f, back) ≡ concluded (r .buffer) (r .constants) (r .asked) placed (x .0) → (f, (back, x .1)) ≡ finish r ss output

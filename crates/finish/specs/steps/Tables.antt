@@ -23,3 +23,16 @@ tablesPooled arch from code labels events uses refs constants asked m =
       refs = refs;
       pool = entries (poolPlaced from constants asked) m;
     }
+
+-- the same where the pool's alignments are events, on any architecture that keeps them
+abbrev pub laidPooled : ℕ → ℕ → List ℕ → List ℕ → List LayoutEvent → List Use → List Ref → List ℕ → List ℕ → ℕ → Pooled
+laidPooled arch from code labels events uses refs constants asked m =
+    record {
+      arch = arch;
+      code = code ++ poolBytes arch from constants asked m;
+      events = events ++ entries (poolEvent from constants asked) m;
+      labels = labels;
+      uses = uses;
+      refs = refs;
+      pool = entries (poolPlaced from constants asked) m;
+    }

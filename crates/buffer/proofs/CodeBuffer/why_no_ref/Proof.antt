@@ -1,6 +1,7 @@
 -- `why_no_ref` meets its contract: each return is where the chain of tests ends.
 use mathlib.Core.Path.{_≡_}
-use mathlib.Core.Bool.{_&&_}
+use mathlib.Core.Bool.{true, false, _&&_}
+use borrow.Author.Tests.{not-true, not-false}
 use lib.Dec.{leb}
 use Rattle.seqs.proofs.Picking.{picks}
 use Rattle.fields.specs.Kinds.{lastCode}
@@ -33,35 +34,49 @@ returns-2 : tie.Need-returns-2
 unfolding whyRef
 returns-2 c =
     let asked : tie.After-standing = search in
-    search (picks, ← stood asked)
+    let kept : tie.After-keeps-events = search in
+    let off : kept .keeps-events .result ≡ false = not-true _ (c .if2 .taken) in
+    search (picks, ← stood asked, ← kept .keeps-events .ensures)
 
 returns-3 : tie.Need-returns-3
 unfolding whyRef
 returns-3 c =
+    let kept : tie.After-keeps-events = search in
+    let else2 : tie.Else2 = search in
+    let on : kept .keeps-events .result ≡ true = not-false _ (else2 .if2 .left) in
     let told : tie.After-is-foreign = search in
     let asked : tie.After-standing = search in
-    search (picks, ← stood asked, ← told .is-foreign .ensures)
+    search (picks, ← stood asked, ← told .is-foreign .ensures, ← kept .keeps-events .ensures)
 
 returns-4 : tie.Need-returns-4
 unfolding whyRef
 returns-4 c =
+    let kept : tie.After-keeps-events = search in
+    let else2 : tie.Else2 = search in
+    let on : kept .keeps-events .result ≡ true = not-false _ (else2 .if2 .left) in
     let told : tie.After-is-foreign = search in
     let asked : tie.After-standing = search in
-    search (picks, ← stood asked, ← told .is-foreign .ensures)
+    search (picks, ← stood asked, ← told .is-foreign .ensures, ← kept .keeps-events .ensures)
 
 returns-5 : tie.Need-returns-5
 unfolding whyRef
 returns-5 c =
+    let kept : tie.After-keeps-events = search in
+    let else2 : tie.Else2 = search in
+    let on : kept .keeps-events .result ≡ true = not-false _ (else2 .if2 .left) in
     let told : tie.After-is-foreign = search in
     let asked : tie.After-standing = search in
-    search (picks, ← stood asked, ← told .is-foreign .ensures)
+    search (picks, ← stood asked, ← told .is-foreign .ensures, ← kept .keeps-events .ensures)
 
 returns-6 : tie.Need-returns-6
 unfolding whyRef
 returns-6 c =
+    let kept : tie.After-keeps-events = search in
+    let else2 : tie.Else2 = search in
+    let on : kept .keeps-events .result ≡ true = not-false _ (else2 .if2 .left) in
     let told : tie.After-is-foreign = search in
     let asked : tie.After-standing = search in
-    search (picks, ← stood asked, ← told .is-foreign .ensures)
+    search (picks, ← stood asked, ← told .is-foreign .ensures, ← kept .keeps-events .ensures)
 
 pub why-no-ref-spec : {M : Type 1} → statement M
 why-no-ref-spec =
@@ -74,6 +89,7 @@ why-no-ref-spec =
     (λ c κs. search needs)
     (λ c κs. search needs)
     returns
+    (λ c κs. search needs)
     returns-2
     (λ c κs. search needs)
     returns-3

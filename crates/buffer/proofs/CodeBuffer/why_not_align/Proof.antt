@@ -39,10 +39,11 @@ returns-2 c =
 returns-3 : tie.Need-returns-3
 unfolding whyAlign
 returns-3 c =
+    let kept : tie.After-keeps-events = search in
     let full : tie.After-both3 = search in
     let told : tie.After-is-alignment = search in
     let asked : tie.After-standing = search in
-    search (picks, ← stood asked, ← told .is-alignment .ensures, ← full .both3 .ensures)
+    search (picks, ← stood asked, ← told .is-alignment .ensures, ← kept .keeps-events .ensures, ← full .both3 .ensures)
 
 sub-if4 : tie.Need-sub-if4
 sub-if4 c =
@@ -54,20 +55,22 @@ sub-if4 c =
 returns-4 : tie.Need-returns-4
 unfolding whyAlign
 returns-4 c =
+    let kept : tie.After-keeps-events = search in
     let padded : tie.After-padding-within = search in
     let full : tie.After-both3 = search in
     let told : tie.After-is-alignment = search in
     let asked : tie.After-standing = search in
-    search (picks, ← stood asked, ← told .is-alignment .ensures, ← full .both3 .ensures, ← padded .padding-within .ensures)
+    search (picks, ← stood asked, ← told .is-alignment .ensures, ← kept .keeps-events .ensures, ← full .both3 .ensures, ← padded .padding-within .ensures)
 
 returns-5 : tie.Need-returns-5
 unfolding whyAlign
 returns-5 c =
+    let kept : tie.After-keeps-events = search in
     let padded : tie.After-padding-within = search in
     let full : tie.After-both3 = search in
     let told : tie.After-is-alignment = search in
     let asked : tie.After-standing = search in
-    search (picks, ← stood asked, ← told .is-alignment .ensures, ← full .both3 .ensures, ← padded .padding-within .ensures)
+    search (picks, ← stood asked, ← told .is-alignment .ensures, ← kept .keeps-events .ensures, ← full .both3 .ensures, ← padded .padding-within .ensures)
 
 pub why-not-align-spec : {M : Type 1} → statement M
 why-not-align-spec =
@@ -81,6 +84,7 @@ why-not-align-spec =
     returns
     (λ c κs. search needs)
     returns-2
+    (λ c κs. search needs)
     (λ c κs. search needs)
     returns-3
     sub-if4

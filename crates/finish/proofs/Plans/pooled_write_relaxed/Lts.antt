@@ -374,7 +374,7 @@ abbrev b4 : Syntax.Body
 b4 = Syntax.assign (Syntax.place 19 List.[]) (Syntax.op1 (Syntax.cast Syntax.unsigned Syntax.unsigned Syntax.w64) (Syntax.copy (Syntax.place 1 ((Syntax.field 4) ∷ []))))
 
 abbrev b5 : Syntax.Body
-b5 = Syntax.call "emit::emit_events" ((Syntax.copy (Syntax.place 18 List.[])) ∷ (Syntax.copy (Syntax.place 3 List.[])) ∷ (Syntax.copy (Syntax.place 5 List.[])) ∷ (Syntax.copy (Syntax.place 9 List.[])) ∷ (Syntax.copy (Syntax.place 10 List.[])) ∷ (Syntax.copy (Syntax.place 13 List.[])) ∷ (Syntax.copy (Syntax.place 19 List.[])) ∷ (Syntax.int Syntax.w32 2) ∷ []) (Syntax.place 16 List.[])
+b5 = Syntax.call "emit::emit_events" ((Syntax.copy (Syntax.place 18 List.[])) ∷ (Syntax.copy (Syntax.place 3 List.[])) ∷ (Syntax.copy (Syntax.place 5 List.[])) ∷ (Syntax.copy (Syntax.place 9 List.[])) ∷ (Syntax.copy (Syntax.place 10 List.[])) ∷ (Syntax.copy (Syntax.place 13 List.[])) ∷ (Syntax.copy (Syntax.place 19 List.[])) ∷ (Syntax.copy (Syntax.place 1 ((Syntax.field 0) ∷ []))) ∷ []) (Syntax.place 16 List.[])
 
 abbrev b6 : Syntax.Body
 b6 = Syntax.assign (Syntax.place 20 List.[]) (Syntax.op2 Syntax.offset (Syntax.copy (Syntax.place 11 ((Syntax.field 0) ∷ []))) (Syntax.int Syntax.w64 0))
@@ -398,7 +398,7 @@ abbrev b12 : Syntax.Body
 b12 = Syntax.assign (Syntax.place 24 List.[]) (Syntax.aggregate ((Syntax.copy (Syntax.place 23 List.[])) ∷ (Syntax.copy (Syntax.place 2 ((Syntax.field 1) ∷ []))) ∷ []))
 
 abbrev b13 : Syntax.Body
-b13 = Syntax.call "pool::emit" ((Syntax.copy (Syntax.place 24 List.[])) ∷ (Syntax.int Syntax.w32 2) ∷ (Syntax.copy (Syntax.place 15 List.[])) ∷ (Syntax.copy (Syntax.place 7 List.[])) ∷ (Syntax.copy (Syntax.place 8 List.[])) ∷ (Syntax.copy (Syntax.place 14 List.[])) ∷ []) (Syntax.place 16 List.[])
+b13 = Syntax.call "pool::emit" ((Syntax.copy (Syntax.place 24 List.[])) ∷ (Syntax.copy (Syntax.place 1 ((Syntax.field 0) ∷ []))) ∷ (Syntax.copy (Syntax.place 15 List.[])) ∷ (Syntax.copy (Syntax.place 7 List.[])) ∷ (Syntax.copy (Syntax.place 8 List.[])) ∷ (Syntax.copy (Syntax.place 14 List.[])) ∷ []) (Syntax.place 16 List.[])
 
 abbrev b14 : Syntax.Body
 b14 = Syntax.assign (Syntax.place 25 List.[]) (Syntax.addrOf (Syntax.place 2 ((Syntax.field 0) ∷ (Syntax.deref y2·) ∷ [])))
@@ -927,7 +927,7 @@ module _ (claims· : Claims) where
   s17 = Scalar.k-op1 T18 (Syntax.cast Syntax.unsigned Syntax.unsigned Syntax.w64) (Scalar.oFld 1 ((Syntax.field 4) ∷ []) y1· 16 (Reads.fieldV CodeBuffer.the-type Laws.the-laws 4)) 19 (Rows.sc-here (Row.sInt Syntax.w64)) (Row.sInt Syntax.w64 .of)
 
   abbrev s18 : Typed.Both T19 T20
-  s18 = Call.callB ps·0 r·0 (claims· .0) (claims· .1) T19 (record { pos = 18; ty = Syntax.tyRef Syntax.erased Syntax.mut y2·; ref = λ x. x }, (record { pos = 3; ty = Syntax.tyRef (Syntax.named 1) Syntax.imm y2·; ref = λ x. x }, (record { pos = 5; ty = Syntax.tyRef (Syntax.named 3) Syntax.imm y2·; ref = λ x. x }, (record { pos = 9; ty = Syntax.tyRef (Syntax.named 7) Syntax.imm Syntax.tyBool; ref = λ x. x }, (record { pos = 10; ty = Syntax.tyRef (Syntax.named 8) Syntax.imm (MEM·.pointee (ROW·.the-row .written)); ref = λ x. x }, (Num.vAt 13 λ x. x, (Num.vAt 19 λ x. x, (Num.vLit 2, tt)))))))) 16 (10 ∷ 1 ∷ 3 ∷ 7 ∷ 8 ∷ []) Syntax.tyUnit
+  s18 = Call.callB ps·0 r·0 (claims· .0) (claims· .1) T19 (record { pos = 18; ty = Syntax.tyRef Syntax.erased Syntax.mut y2·; ref = λ x. x }, (record { pos = 3; ty = Syntax.tyRef (Syntax.named 1) Syntax.imm y2·; ref = λ x. x }, (record { pos = 5; ty = Syntax.tyRef (Syntax.named 3) Syntax.imm y2·; ref = λ x. x }, (record { pos = 9; ty = Syntax.tyRef (Syntax.named 7) Syntax.imm Syntax.tyBool; ref = λ x. x }, (record { pos = 10; ty = Syntax.tyRef (Syntax.named 8) Syntax.imm (MEM·.pointee (ROW·.the-row .written)); ref = λ x. x }, (Num.vAt 13 λ x. x, (Num.vAt 19 λ x. x, (Num.vFld 1 ((Syntax.field 0) ∷ []) 0 λ x. CodeBuffer.struct .as-values x .0, tt)))))))) 16 (10 ∷ 1 ∷ 3 ∷ 7 ∷ 8 ∷ []) Syntax.tyUnit
 
   abbrev s19 : Typed.Mo T20 → Typed.Mo T21
   s19 = Scalar.n-room T20 16 Syntax.tyUnit
@@ -972,7 +972,7 @@ module _ (claims· : Claims) where
   s35 = Relend.k-sl-aggregate e0· (Relend.asMut e0·) T36 23 24 11 y5· y5· (λ x. x) (Scalar.oFld 2 ((Syntax.field 1) ∷ []) y0· 8 λ v. Shared.lenV (v .0))
 
   abbrev s36 : Typed.Both T37 T38
-  s36 = Call.callB ps·2 r·2 (claims· .4) (claims· .5) T37 (record { pos = 24; ty = Syntax.tyRef Syntax.erased Syntax.mut y2·; ref = λ x. x }, (Num.vLit 2, (Num.vAt 15 λ x. x, (record { pos = 7; ty = Syntax.tyRef (Syntax.named 5) Syntax.imm y2·; ref = λ x. x }, (record { pos = 8; ty = Syntax.tyRef (Syntax.named 6) Syntax.imm y2·; ref = λ x. x }, (Num.vAt 14 λ x. x, tt)))))) 16 (11 ∷ 5 ∷ 6 ∷ []) Syntax.tyUnit
+  s36 = Call.callB ps·2 r·2 (claims· .4) (claims· .5) T37 (record { pos = 24; ty = Syntax.tyRef Syntax.erased Syntax.mut y2·; ref = λ x. x }, (Num.vFld 1 ((Syntax.field 0) ∷ []) 0 λ x. CodeBuffer.struct .as-values x .0, (Num.vAt 15 λ x. x, (record { pos = 7; ty = Syntax.tyRef (Syntax.named 5) Syntax.imm y2·; ref = λ x. x }, (record { pos = 8; ty = Syntax.tyRef (Syntax.named 6) Syntax.imm y2·; ref = λ x. x }, (Num.vAt 14 λ x. x, tt)))))) 16 (11 ∷ 5 ∷ 6 ∷ []) Syntax.tyUnit
 
   abbrev s37 : Typed.Mo T38 → Typed.Mo T39
   s37 = Scalar.n-room T38 16 Syntax.tyUnit
@@ -1839,7 +1839,7 @@ module _ (claims· : Claims) where
           d43 = Typed.g-pre 𝓤 H A W 𝓣 E G38 G39 b38 Δ0 (Typed.pass T38 T39 s37) at42 (Scalar.g-room 𝓤 H A W E G38 16 Syntax.tyUnit (Scalar.room-sc 𝓤 H A W Row.sUnit)) d42
 
           d44 : Typed.Typed 𝓤 H A 𝓣 E G37 b39 Δ0 at44
-          d44 = Typed.s-seq 𝓤 H A W 𝓣 E G37 G38 b13 b38 Δ0 (Typed.both s36) at43 (Plain.t-call-plain 𝓤 H A W 𝓣 3 ps·2 r·2 (claims· .4) (claims· .5) "pool::emit" (known .2) E (λ pos β. β) G37 (record { pos = 24; ty = Syntax.tyRef Syntax.erased Syntax.mut y2·; ref = λ x. x }, (Num.vLit 2, (Num.vAt 15 λ x. x, (record { pos = 7; ty = Syntax.tyRef (Syntax.named 5) Syntax.imm y2·; ref = λ x. x }, (record { pos = 8; ty = Syntax.tyRef (Syntax.named 6) Syntax.imm y2·; ref = λ x. x }, (Num.vAt 14 λ x. x, tt)))))) 16 (11 ∷ 5 ∷ 6 ∷ []) (Call.sub-id 𝓤 H A W (G37 .slots)) (Reads'.as-is 𝓤 H A (Mut.mslice e0· y5· 11), Mut.reads-mslice 𝓤 H A W e0· y5· 11, Path'.refl, (tt, ((Scalar.reads-sc 𝓤 H A W (Row.sInt Syntax.w32), Path'.refl), (ShrSlice.spares-sslice 𝓤 H A W e0· y12· 5, Shared.reads-sslice 𝓤 H A W e0· y12· 5, Path'.refl, (ShrSlice.spares-sslice 𝓤 H A W e0· y13· 6, Shared.reads-sslice 𝓤 H A W e0· y13· 6, Path'.refl, ((Scalar.reads-sc 𝓤 H A W (Row.sInt Syntax.w64), Path'.refl), tt)))))) (Reads'.room-gone 𝓤 H A Syntax.tyUnit) (tt, (tt, (tt, tt))) Path'.refl) d43
+          d44 = Typed.s-seq 𝓤 H A W 𝓣 E G37 G38 b13 b38 Δ0 (Typed.both s36) at43 (Plain.t-call-plain 𝓤 H A W 𝓣 3 ps·2 r·2 (claims· .4) (claims· .5) "pool::emit" (known .2) E (λ pos β. β) G37 (record { pos = 24; ty = Syntax.tyRef Syntax.erased Syntax.mut y2·; ref = λ x. x }, (Num.vFld 1 ((Syntax.field 0) ∷ []) 0 λ x. CodeBuffer.struct .as-values x .0, (Num.vAt 15 λ x. x, (record { pos = 7; ty = Syntax.tyRef (Syntax.named 5) Syntax.imm y2·; ref = λ x. x }, (record { pos = 8; ty = Syntax.tyRef (Syntax.named 6) Syntax.imm y2·; ref = λ x. x }, (Num.vAt 14 λ x. x, tt)))))) 16 (11 ∷ 5 ∷ 6 ∷ []) (Call.sub-id 𝓤 H A W (G37 .slots)) (Reads'.as-is 𝓤 H A (Mut.mslice e0· y5· 11), Mut.reads-mslice 𝓤 H A W e0· y5· 11, Path'.refl, ((Reads.reads-field 𝓤 H A W CodeBuffer.the-type Laws.the-laws 0 y1· 0 Path'.refl, Path'.refl), ((Scalar.reads-sc 𝓤 H A W (Row.sInt Syntax.w32), Path'.refl), (ShrSlice.spares-sslice 𝓤 H A W e0· y12· 5, Shared.reads-sslice 𝓤 H A W e0· y12· 5, Path'.refl, (ShrSlice.spares-sslice 𝓤 H A W e0· y13· 6, Shared.reads-sslice 𝓤 H A W e0· y13· 6, Path'.refl, ((Scalar.reads-sc 𝓤 H A W (Row.sInt Syntax.w64), Path'.refl), tt)))))) (Reads'.room-gone 𝓤 H A Syntax.tyUnit) (tt, (tt, (tt, tt))) Path'.refl) d43
 
           d45 : Typed.Typed 𝓤 H A 𝓣 E G36 b40 Δ0 at45
           d45 = Typed.s-seq 𝓤 H A W 𝓣 E G36 G37 b12 b39 Δ0 (Typed.ask s35) at44 (Relend.t-sl-aggregate 𝓤 H A W E e0· 𝓣 (Relend.asMut e0·) G36 23 24 11 y5· y5· (λ x. x) (Scalar.oFld 2 ((Syntax.field 1) ∷ []) y0· 8 λ v. Shared.lenV (v .0)) (Reads'.as-is 𝓤 H A (Relend.msptr e0· y5· 11)) (Reads'.room-gone 𝓤 H A y16·) (Relend.reads-owed-len 𝓤 H A W e0· y7· 0 11 k0· 8 Path'.refl, Path'.refl) Path'.refl Path'.refl λ b o k. tt) d44
@@ -1893,7 +1893,7 @@ module _ (claims· : Claims) where
           d61 = Typed.g-pre 𝓤 H A W 𝓣 E G20 G21 b46 Δ0 (Typed.pass T20 T21 s19) at60 (Scalar.g-room 𝓤 H A W E G20 16 Syntax.tyUnit (Scalar.room-sc 𝓤 H A W Row.sUnit)) d60
 
           d62 : Typed.Typed 𝓤 H A 𝓣 E G19 b47 Δ0 at62
-          d62 = Typed.s-seq 𝓤 H A W 𝓣 E G19 G20 b5 b46 Δ0 (Typed.both s18) at61 (Plain.t-call-plain 𝓤 H A W 𝓣 5 ps·0 r·0 (claims· .0) (claims· .1) "emit::emit_events" (known .0) E (λ pos β. β) G19 (record { pos = 18; ty = Syntax.tyRef Syntax.erased Syntax.mut y2·; ref = λ x. x }, (record { pos = 3; ty = Syntax.tyRef (Syntax.named 1) Syntax.imm y2·; ref = λ x. x }, (record { pos = 5; ty = Syntax.tyRef (Syntax.named 3) Syntax.imm y2·; ref = λ x. x }, (record { pos = 9; ty = Syntax.tyRef (Syntax.named 7) Syntax.imm Syntax.tyBool; ref = λ x. x }, (record { pos = 10; ty = Syntax.tyRef (Syntax.named 8) Syntax.imm (MEM·.pointee (ROW·.the-row .written)); ref = λ x. x }, (Num.vAt 13 λ x. x, (Num.vAt 19 λ x. x, (Num.vLit 2, tt)))))))) 16 (10 ∷ 1 ∷ 3 ∷ 7 ∷ 8 ∷ []) (Call.sub-id 𝓤 H A W (G19 .slots)) (Reads'.as-is 𝓤 H A (Mut.mslice e0· y5· 10), Mut.reads-mslice 𝓤 H A W e0· y5· 10, Path'.refl, (ShrSlice.spares-sslice 𝓤 H A W e0· y8· 1, Shared.reads-sslice 𝓤 H A W e0· y8· 1, Path'.refl, (ShrSlice.spares-sslice 𝓤 H A W e0· y10· 3, Shared.reads-sslice 𝓤 H A W e0· y10· 3, Path'.refl, (ShrSlice.spares-sslice 𝓤 H A W (Referent.rtF Referent.fBool) y3· 7, Shared.reads-sslice 𝓤 H A W (Referent.rtF Referent.fBool) y3· 7, Path'.refl, (ShrSlice.spares-sslice 𝓤 H A W ROW·.the-row y4· 8, Shared.reads-sslice 𝓤 H A W ROW·.the-row y4· 8, Path'.refl, ((Scalar.reads-sc 𝓤 H A W (Row.sInt Syntax.w64), Path'.refl), ((Scalar.reads-sc 𝓤 H A W (Row.sInt Syntax.w64), Path'.refl), (tt, tt)))))))) (Reads'.room-gone 𝓤 H A Syntax.tyUnit) (tt, (tt, (tt, (tt, (tt, tt))))) Path'.refl) d61
+          d62 = Typed.s-seq 𝓤 H A W 𝓣 E G19 G20 b5 b46 Δ0 (Typed.both s18) at61 (Plain.t-call-plain 𝓤 H A W 𝓣 5 ps·0 r·0 (claims· .0) (claims· .1) "emit::emit_events" (known .0) E (λ pos β. β) G19 (record { pos = 18; ty = Syntax.tyRef Syntax.erased Syntax.mut y2·; ref = λ x. x }, (record { pos = 3; ty = Syntax.tyRef (Syntax.named 1) Syntax.imm y2·; ref = λ x. x }, (record { pos = 5; ty = Syntax.tyRef (Syntax.named 3) Syntax.imm y2·; ref = λ x. x }, (record { pos = 9; ty = Syntax.tyRef (Syntax.named 7) Syntax.imm Syntax.tyBool; ref = λ x. x }, (record { pos = 10; ty = Syntax.tyRef (Syntax.named 8) Syntax.imm (MEM·.pointee (ROW·.the-row .written)); ref = λ x. x }, (Num.vAt 13 λ x. x, (Num.vAt 19 λ x. x, (Num.vFld 1 ((Syntax.field 0) ∷ []) 0 λ x. CodeBuffer.struct .as-values x .0, tt)))))))) 16 (10 ∷ 1 ∷ 3 ∷ 7 ∷ 8 ∷ []) (Call.sub-id 𝓤 H A W (G19 .slots)) (Reads'.as-is 𝓤 H A (Mut.mslice e0· y5· 10), Mut.reads-mslice 𝓤 H A W e0· y5· 10, Path'.refl, (ShrSlice.spares-sslice 𝓤 H A W e0· y8· 1, Shared.reads-sslice 𝓤 H A W e0· y8· 1, Path'.refl, (ShrSlice.spares-sslice 𝓤 H A W e0· y10· 3, Shared.reads-sslice 𝓤 H A W e0· y10· 3, Path'.refl, (ShrSlice.spares-sslice 𝓤 H A W (Referent.rtF Referent.fBool) y3· 7, Shared.reads-sslice 𝓤 H A W (Referent.rtF Referent.fBool) y3· 7, Path'.refl, (ShrSlice.spares-sslice 𝓤 H A W ROW·.the-row y4· 8, Shared.reads-sslice 𝓤 H A W ROW·.the-row y4· 8, Path'.refl, ((Scalar.reads-sc 𝓤 H A W (Row.sInt Syntax.w64), Path'.refl), ((Scalar.reads-sc 𝓤 H A W (Row.sInt Syntax.w64), Path'.refl), ((Reads.reads-field 𝓤 H A W CodeBuffer.the-type Laws.the-laws 0 y1· 0 Path'.refl, Path'.refl), tt)))))))) (Reads'.room-gone 𝓤 H A Syntax.tyUnit) (tt, (tt, (tt, (tt, (tt, tt))))) Path'.refl) d61
 
           d63 : Typed.Typed 𝓤 H A 𝓣 E G18 b48 Δ0 at63
           d63 = Typed.s-seq 𝓤 H A W 𝓣 E G18 G19 b4 b47 Δ0 (Typed.ask s17) at62 (Scalar.t-op1 𝓤 H A W E 𝓣 G18 (Syntax.cast Syntax.unsigned Syntax.unsigned Syntax.w64) (Scalar.oFld 1 ((Syntax.field 4) ∷ []) y1· 16 (Reads.fieldV CodeBuffer.the-type Laws.the-laws 4)) 19 (Rows.sc-here (Row.sInt Syntax.w64)) y0· (Row.valS (Row.sInt Syntax.w64)) (Row.sInt Syntax.w64 .of) (Reads.reads-field 𝓤 H A W CodeBuffer.the-type Laws.the-laws 4 y1· 16 Path'.refl, Path'.refl) (Reads'.room-gone 𝓤 H A y0·) (Scalar.holds-sc 𝓤 H A W (Row.sInt Syntax.w64)) Path'.refl (λ u. Path'.refl) λ u. tt) d62
@@ -2159,14 +2159,14 @@ module _ (claims· : Claims) where
 
       module _ (before· : After-struct-known3) where
         abbrev pub After-emit-events·own : Type 0
-        After-emit-events·own = Called.Called ps·0 r·0 (claims· .1) T19 (record { pos = 18; ty = Syntax.tyRef Syntax.erased Syntax.mut y2·; ref = λ x. x }, (record { pos = 3; ty = Syntax.tyRef (Syntax.named 1) Syntax.imm y2·; ref = λ x. x }, (record { pos = 5; ty = Syntax.tyRef (Syntax.named 3) Syntax.imm y2·; ref = λ x. x }, (record { pos = 9; ty = Syntax.tyRef (Syntax.named 7) Syntax.imm Syntax.tyBool; ref = λ x. x }, (record { pos = 10; ty = Syntax.tyRef (Syntax.named 8) Syntax.imm (MEM·.pointee (ROW·.the-row .written)); ref = λ x. x }, (Num.vAt 13 λ x. x, (Num.vAt 19 λ x. x, (Num.vLit 2, tt)))))))) (m17 (before· .before) (before· .struct-known3 .given))
+        After-emit-events·own = Called.Called ps·0 r·0 (claims· .1) T19 (record { pos = 18; ty = Syntax.tyRef Syntax.erased Syntax.mut y2·; ref = λ x. x }, (record { pos = 3; ty = Syntax.tyRef (Syntax.named 1) Syntax.imm y2·; ref = λ x. x }, (record { pos = 5; ty = Syntax.tyRef (Syntax.named 3) Syntax.imm y2·; ref = λ x. x }, (record { pos = 9; ty = Syntax.tyRef (Syntax.named 7) Syntax.imm Syntax.tyBool; ref = λ x. x }, (record { pos = 10; ty = Syntax.tyRef (Syntax.named 8) Syntax.imm (MEM·.pointee (ROW·.the-row .written)); ref = λ x. x }, (Num.vAt 13 λ x. x, (Num.vAt 19 λ x. x, (Num.vFld 1 ((Syntax.field 0) ∷ []) 0 λ x. CodeBuffer.struct .as-values x .0, tt)))))))) (m17 (before· .before) (before· .struct-known3 .given))
 
       pub record After-emit-events : Type 0 where
         pub before : After-struct-known3
         pub emit-events : After-emit-events·own before
 
       abbrev pub After-emit-events·gave : (c : After-emit-events) → s18 .gives (m17 (c .before .before) (c .before .struct-known3 .given))
-      After-emit-events·gave = λ c. Called.given ps·0 r·0 (claims· .1) T19 (record { pos = 18; ty = Syntax.tyRef Syntax.erased Syntax.mut y2·; ref = λ x. x }, (record { pos = 3; ty = Syntax.tyRef (Syntax.named 1) Syntax.imm y2·; ref = λ x. x }, (record { pos = 5; ty = Syntax.tyRef (Syntax.named 3) Syntax.imm y2·; ref = λ x. x }, (record { pos = 9; ty = Syntax.tyRef (Syntax.named 7) Syntax.imm Syntax.tyBool; ref = λ x. x }, (record { pos = 10; ty = Syntax.tyRef (Syntax.named 8) Syntax.imm (MEM·.pointee (ROW·.the-row .written)); ref = λ x. x }, (Num.vAt 13 λ x. x, (Num.vAt 19 λ x. x, (Num.vLit 2, tt)))))))) (m17 (c .before .before) (c .before .struct-known3 .given)) (c .emit-events)
+      After-emit-events·gave = λ c. Called.given ps·0 r·0 (claims· .1) T19 (record { pos = 18; ty = Syntax.tyRef Syntax.erased Syntax.mut y2·; ref = λ x. x }, (record { pos = 3; ty = Syntax.tyRef (Syntax.named 1) Syntax.imm y2·; ref = λ x. x }, (record { pos = 5; ty = Syntax.tyRef (Syntax.named 3) Syntax.imm y2·; ref = λ x. x }, (record { pos = 9; ty = Syntax.tyRef (Syntax.named 7) Syntax.imm Syntax.tyBool; ref = λ x. x }, (record { pos = 10; ty = Syntax.tyRef (Syntax.named 8) Syntax.imm (MEM·.pointee (ROW·.the-row .written)); ref = λ x. x }, (Num.vAt 13 λ x. x, (Num.vAt 19 λ x. x, (Num.vFld 1 ((Syntax.field 0) ∷ []) 0 λ x. CodeBuffer.struct .as-values x .0, tt)))))))) (m17 (c .before .before) (c .before .struct-known3 .given)) (c .emit-events)
 
       abbrev pub m19 : (before : After-struct-known3) → (given : s18 .gives (m17 (before .before) (before .struct-known3 .given))) → Typed.Mo T21
       m19 = λ before given. s19 (m18 before given)
@@ -2273,14 +2273,14 @@ module _ (claims· : Claims) where
 
       module _ (before· : After-emit-arg) where
         abbrev pub After-emit·own : Type 0
-        After-emit·own = Called.Called ps·2 r·2 (claims· .5) T37 (record { pos = 24; ty = Syntax.tyRef Syntax.erased Syntax.mut y2·; ref = λ x. x }, (Num.vLit 2, (Num.vAt 15 λ x. x, (record { pos = 7; ty = Syntax.tyRef (Syntax.named 5) Syntax.imm y2·; ref = λ x. x }, (record { pos = 8; ty = Syntax.tyRef (Syntax.named 6) Syntax.imm y2·; ref = λ x. x }, (Num.vAt 14 λ x. x, tt)))))) (m32 (before· .before) (before· .emit-arg .given))
+        After-emit·own = Called.Called ps·2 r·2 (claims· .5) T37 (record { pos = 24; ty = Syntax.tyRef Syntax.erased Syntax.mut y2·; ref = λ x. x }, (Num.vFld 1 ((Syntax.field 0) ∷ []) 0 λ x. CodeBuffer.struct .as-values x .0, (Num.vAt 15 λ x. x, (record { pos = 7; ty = Syntax.tyRef (Syntax.named 5) Syntax.imm y2·; ref = λ x. x }, (record { pos = 8; ty = Syntax.tyRef (Syntax.named 6) Syntax.imm y2·; ref = λ x. x }, (Num.vAt 14 λ x. x, tt)))))) (m32 (before· .before) (before· .emit-arg .given))
 
       pub record After-emit : Type 0 where
         pub before : After-emit-arg
         pub emit : After-emit·own before
 
       abbrev pub After-emit·gave : (c : After-emit) → s36 .gives (m32 (c .before .before) (c .before .emit-arg .given))
-      After-emit·gave = λ c. Called.given ps·2 r·2 (claims· .5) T37 (record { pos = 24; ty = Syntax.tyRef Syntax.erased Syntax.mut y2·; ref = λ x. x }, (Num.vLit 2, (Num.vAt 15 λ x. x, (record { pos = 7; ty = Syntax.tyRef (Syntax.named 5) Syntax.imm y2·; ref = λ x. x }, (record { pos = 8; ty = Syntax.tyRef (Syntax.named 6) Syntax.imm y2·; ref = λ x. x }, (Num.vAt 14 λ x. x, tt)))))) (m32 (c .before .before) (c .before .emit-arg .given)) (c .emit)
+      After-emit·gave = λ c. Called.given ps·2 r·2 (claims· .5) T37 (record { pos = 24; ty = Syntax.tyRef Syntax.erased Syntax.mut y2·; ref = λ x. x }, (Num.vFld 1 ((Syntax.field 0) ∷ []) 0 λ x. CodeBuffer.struct .as-values x .0, (Num.vAt 15 λ x. x, (record { pos = 7; ty = Syntax.tyRef (Syntax.named 5) Syntax.imm y2·; ref = λ x. x }, (record { pos = 8; ty = Syntax.tyRef (Syntax.named 6) Syntax.imm y2·; ref = λ x. x }, (Num.vAt 14 λ x. x, tt)))))) (m32 (c .before .before) (c .before .emit-arg .given)) (c .emit)
 
       abbrev pub m34 : (before : After-emit-arg) → (given : s36 .gives (m32 (before .before) (before .emit-arg .given))) → Typed.Mo T39
       m34 = λ before given. s37 (m33 before given)
@@ -2542,13 +2542,13 @@ module _ (claims· : Claims) where
         lay3 = λ c. (Path'.refl, λ g. λ g'. λ g''. (Path'.refl, λ g'3. (cast-patch-refs record { before = record { before = record { before = record { before = record { before = c .before; emit = c .emit }; output2 = record { given = g } }; slice-known3 = record { given = g' } }; patch-refs-arg = record { given = g'' } }; struct-known4 = record { given = g'3 } }, (add-patch-refs record { before = record { before = record { before = record { before = record { before = c .before; emit = c .emit }; output2 = record { given = g } }; slice-known3 = record { given = g' } }; patch-refs-arg = record { given = g'' } }; struct-known4 = record { given = g'3 } }, (patch-refs-requires record { before = record { before = record { before = record { before = record { before = c .before; emit = c .emit }; output2 = record { given = g } }; slice-known3 = record { given = g' } }; patch-refs-arg = record { given = g'' } }; struct-known4 = record { given = g'3 } }, λ g'4. lay4 record { before = record { before = record { before = record { before = record { before = record { before = c .before; emit = c .emit }; output2 = record { given = g } }; slice-known3 = record { given = g' } }; patch-refs-arg = record { given = g'' } }; struct-known4 = record { given = g'3 } }; patch-refs = Called.called ps·3 r·3 (claims· .7) T50 (record { pos = 26; ty = Syntax.tyRef Syntax.erased Syntax.mut y2·; ref = λ x. x }, (record { pos = 6; ty = Syntax.tyRef (Syntax.named 4) Syntax.imm y2·; ref = λ x. x }, (record { pos = 4; ty = Syntax.tyRef (Syntax.named 2) Syntax.imm y2·; ref = λ x. x }, (record { pos = 10; ty = Syntax.tyRef (Syntax.named 8) Syntax.imm (MEM·.pointee (ROW·.the-row .written)); ref = λ x. x }, (record { pos = 11; ty = Syntax.tyRef (Syntax.named 9) Syntax.imm y1·; ref = λ x. x }, (Num.vAt 12 λ x. x, (Num.vAt 19 λ x. x, (Num.vAt 27 λ x. x, tt)))))))) (m42 record { before = record { before = record { before = record { before = c .before; emit = c .emit }; output2 = record { given = g } }; slice-known3 = record { given = g' } }; patch-refs-arg = record { given = g'' } } g'3) g'4 })))))
 
         lay2 : (c : After-map) → at48 (W0 (c .before .before .before .before .before .before .before .before .before .before .before .before .before .before .before .before .before .before .κs) (c .before .before .before .before .before .before .before .before .before .before .before .before .before .before .before .before .before .before .args)) (m29 (c .before) (After-map·gave c))
-        lay2 = λ c. λ g. (Path'.refl, (emit-requires record { before = record { before = c .before; map = c .map }; emit-arg = record { given = g } }, λ g'. lay3 record { before = record { before = record { before = c .before; map = c .map }; emit-arg = record { given = g } }; emit = Called.called ps·2 r·2 (claims· .5) T37 (record { pos = 24; ty = Syntax.tyRef Syntax.erased Syntax.mut y2·; ref = λ x. x }, (Num.vLit 2, (Num.vAt 15 λ x. x, (record { pos = 7; ty = Syntax.tyRef (Syntax.named 5) Syntax.imm y2·; ref = λ x. x }, (record { pos = 8; ty = Syntax.tyRef (Syntax.named 6) Syntax.imm y2·; ref = λ x. x }, (Num.vAt 14 λ x. x, tt)))))) (m32 record { before = c .before; map = c .map } g) g' }))
+        lay2 = λ c. λ g. (Path'.refl, (emit-requires record { before = record { before = c .before; map = c .map }; emit-arg = record { given = g } }, λ g'. lay3 record { before = record { before = record { before = c .before; map = c .map }; emit-arg = record { given = g } }; emit = Called.called ps·2 r·2 (claims· .5) T37 (record { pos = 24; ty = Syntax.tyRef Syntax.erased Syntax.mut y2·; ref = λ x. x }, (Num.vFld 1 ((Syntax.field 0) ∷ []) 0 λ x. CodeBuffer.struct .as-values x .0, (Num.vAt 15 λ x. x, (record { pos = 7; ty = Syntax.tyRef (Syntax.named 5) Syntax.imm y2·; ref = λ x. x }, (record { pos = 8; ty = Syntax.tyRef (Syntax.named 6) Syntax.imm y2·; ref = λ x. x }, (Num.vAt 14 λ x. x, tt)))))) (m32 record { before = c .before; map = c .map } g) g' }))
 
         lay1 : (c : After-emit-events) → at61 (W0 (c .before .before .before .before .before .before .before .before .before .before .before .before .before .before .κs) (c .before .before .before .before .before .before .before .before .before .before .before .before .before .before .args)) (m18 (c .before) (After-emit-events·gave c))
         lay1 = λ c. (Path'.refl, λ g. λ g'. (tt, (sub-map record { before = record { before = record { before = c .before; emit-events = c .emit-events }; output = record { given = g } }; slice-known2 = record { given = g' } }, ((Path'.refl, Path'.refl, part-map-start record { before = record { before = record { before = c .before; emit-events = c .emit-events }; output = record { given = g } }; slice-known2 = record { given = g' } }, part-map-end record { before = record { before = record { before = c .before; emit-events = c .emit-events }; output = record { given = g } }; slice-known2 = record { given = g' } }), λ g''. (Relend.count-is T30 21 22 (λ x. x) (λ u. u .1 .1 .1 .1 .1 .1 .1 .1 .1 .1 .1 .1 .1 .1 .1 .1 .1 .1 .1 .0) (m26 record { before = record { before = record { before = c .before; emit-events = c .emit-events }; output = record { given = g } }; slice-known2 = record { given = g' } } g'') (g'' .1), (map-requires record { before = record { before = record { before = record { before = c .before; emit-events = c .emit-events }; output = record { given = g } }; slice-known2 = record { given = g' } }; map-arg = record { given = g'' } }, λ g'3. lay2 record { before = record { before = record { before = record { before = record { before = c .before; emit-events = c .emit-events }; output = record { given = g } }; slice-known2 = record { given = g' } }; map-arg = record { given = g'' } }; map = Called.called ps·1 r·1 (claims· .3) T32 (record { pos = 10; ty = Syntax.tyRef (Syntax.named 8) Syntax.imm (MEM·.pointee (ROW·.the-row .written)); ref = λ x. x }, (Num.vAt 13 λ x. x, (record { pos = 22; ty = Syntax.tyRef Syntax.erased Syntax.imm y1·; ref = λ x. x }, (Num.vAt 12 λ x. x, (Num.vFld 1 ((Syntax.field 4) ∷ []) 16 λ x. CodeBuffer.struct .as-values x .1 .1 .1 .1 .0, tt))))) (m28 record { before = record { before = record { before = c .before; emit-events = c .emit-events }; output = record { given = g } }; slice-known2 = record { given = g' } } g'') g'3 }))))))
 
         pub laid : (c : Start) → at80 (W0 (c .κs) (c .args)) (m0 (c .κs) (c .args))
-        laid = λ c. λ g. λ g'. λ g''. λ g'3. λ g'4. λ g'5. λ g'6. λ g'7. λ g'8. λ g'9. (cast-recorded record { before = record { before = record { before = record { before = record { before = record { before = record { before = record { before = record { before = record { before = c; slice-known = record { given = g } }; shared-slice-known = record { given = g' } }; shared-slice-known2 = record { given = g'' } }; shared-slice-known3 = record { given = g'3 } }; shared-slice-known4 = record { given = g'4 } }; shared-slice-known5 = record { given = g'5 } }; shared-slice-known6 = record { given = g'6 } }; shared-slice-known7 = record { given = g'7 } }; shared-slice-known8 = record { given = g'8 } }; struct-known = record { given = g'9 } }, λ g'10. (cast-pooled record { before = record { before = record { before = record { before = record { before = record { before = record { before = record { before = record { before = record { before = record { before = c; slice-known = record { given = g } }; shared-slice-known = record { given = g' } }; shared-slice-known2 = record { given = g'' } }; shared-slice-known3 = record { given = g'3 } }; shared-slice-known4 = record { given = g'4 } }; shared-slice-known5 = record { given = g'5 } }; shared-slice-known6 = record { given = g'6 } }; shared-slice-known7 = record { given = g'7 } }; shared-slice-known8 = record { given = g'8 } }; struct-known = record { given = g'9 } }; struct-known2 = record { given = g'10 } }, λ g'11. (Path'.refl, λ g'12. (cast-emit-events record { before = record { before = record { before = record { before = record { before = record { before = record { before = record { before = record { before = record { before = record { before = record { before = record { before = c; slice-known = record { given = g } }; shared-slice-known = record { given = g' } }; shared-slice-known2 = record { given = g'' } }; shared-slice-known3 = record { given = g'3 } }; shared-slice-known4 = record { given = g'4 } }; shared-slice-known5 = record { given = g'5 } }; shared-slice-known6 = record { given = g'6 } }; shared-slice-known7 = record { given = g'7 } }; shared-slice-known8 = record { given = g'8 } }; struct-known = record { given = g'9 } }; struct-known2 = record { given = g'10 } }; emit-events-arg = record { given = g'11 } }; struct-known3 = record { given = g'12 } }, (emit-events-requires record { before = record { before = record { before = record { before = record { before = record { before = record { before = record { before = record { before = record { before = record { before = record { before = record { before = c; slice-known = record { given = g } }; shared-slice-known = record { given = g' } }; shared-slice-known2 = record { given = g'' } }; shared-slice-known3 = record { given = g'3 } }; shared-slice-known4 = record { given = g'4 } }; shared-slice-known5 = record { given = g'5 } }; shared-slice-known6 = record { given = g'6 } }; shared-slice-known7 = record { given = g'7 } }; shared-slice-known8 = record { given = g'8 } }; struct-known = record { given = g'9 } }; struct-known2 = record { given = g'10 } }; emit-events-arg = record { given = g'11 } }; struct-known3 = record { given = g'12 } }, λ g'13. lay1 record { before = record { before = record { before = record { before = record { before = record { before = record { before = record { before = record { before = record { before = record { before = record { before = record { before = record { before = c; slice-known = record { given = g } }; shared-slice-known = record { given = g' } }; shared-slice-known2 = record { given = g'' } }; shared-slice-known3 = record { given = g'3 } }; shared-slice-known4 = record { given = g'4 } }; shared-slice-known5 = record { given = g'5 } }; shared-slice-known6 = record { given = g'6 } }; shared-slice-known7 = record { given = g'7 } }; shared-slice-known8 = record { given = g'8 } }; struct-known = record { given = g'9 } }; struct-known2 = record { given = g'10 } }; emit-events-arg = record { given = g'11 } }; struct-known3 = record { given = g'12 } }; emit-events = Called.called ps·0 r·0 (claims· .1) T19 (record { pos = 18; ty = Syntax.tyRef Syntax.erased Syntax.mut y2·; ref = λ x. x }, (record { pos = 3; ty = Syntax.tyRef (Syntax.named 1) Syntax.imm y2·; ref = λ x. x }, (record { pos = 5; ty = Syntax.tyRef (Syntax.named 3) Syntax.imm y2·; ref = λ x. x }, (record { pos = 9; ty = Syntax.tyRef (Syntax.named 7) Syntax.imm Syntax.tyBool; ref = λ x. x }, (record { pos = 10; ty = Syntax.tyRef (Syntax.named 8) Syntax.imm (MEM·.pointee (ROW·.the-row .written)); ref = λ x. x }, (Num.vAt 13 λ x. x, (Num.vAt 19 λ x. x, (Num.vLit 2, tt)))))))) (m17 record { before = record { before = record { before = record { before = record { before = record { before = record { before = record { before = record { before = record { before = record { before = record { before = c; slice-known = record { given = g } }; shared-slice-known = record { given = g' } }; shared-slice-known2 = record { given = g'' } }; shared-slice-known3 = record { given = g'3 } }; shared-slice-known4 = record { given = g'4 } }; shared-slice-known5 = record { given = g'5 } }; shared-slice-known6 = record { given = g'6 } }; shared-slice-known7 = record { given = g'7 } }; shared-slice-known8 = record { given = g'8 } }; struct-known = record { given = g'9 } }; struct-known2 = record { given = g'10 } }; emit-events-arg = record { given = g'11 } } g'12) g'13 })))))
+        laid = λ c. λ g. λ g'. λ g''. λ g'3. λ g'4. λ g'5. λ g'6. λ g'7. λ g'8. λ g'9. (cast-recorded record { before = record { before = record { before = record { before = record { before = record { before = record { before = record { before = record { before = record { before = c; slice-known = record { given = g } }; shared-slice-known = record { given = g' } }; shared-slice-known2 = record { given = g'' } }; shared-slice-known3 = record { given = g'3 } }; shared-slice-known4 = record { given = g'4 } }; shared-slice-known5 = record { given = g'5 } }; shared-slice-known6 = record { given = g'6 } }; shared-slice-known7 = record { given = g'7 } }; shared-slice-known8 = record { given = g'8 } }; struct-known = record { given = g'9 } }, λ g'10. (cast-pooled record { before = record { before = record { before = record { before = record { before = record { before = record { before = record { before = record { before = record { before = record { before = c; slice-known = record { given = g } }; shared-slice-known = record { given = g' } }; shared-slice-known2 = record { given = g'' } }; shared-slice-known3 = record { given = g'3 } }; shared-slice-known4 = record { given = g'4 } }; shared-slice-known5 = record { given = g'5 } }; shared-slice-known6 = record { given = g'6 } }; shared-slice-known7 = record { given = g'7 } }; shared-slice-known8 = record { given = g'8 } }; struct-known = record { given = g'9 } }; struct-known2 = record { given = g'10 } }, λ g'11. (Path'.refl, λ g'12. (cast-emit-events record { before = record { before = record { before = record { before = record { before = record { before = record { before = record { before = record { before = record { before = record { before = record { before = record { before = c; slice-known = record { given = g } }; shared-slice-known = record { given = g' } }; shared-slice-known2 = record { given = g'' } }; shared-slice-known3 = record { given = g'3 } }; shared-slice-known4 = record { given = g'4 } }; shared-slice-known5 = record { given = g'5 } }; shared-slice-known6 = record { given = g'6 } }; shared-slice-known7 = record { given = g'7 } }; shared-slice-known8 = record { given = g'8 } }; struct-known = record { given = g'9 } }; struct-known2 = record { given = g'10 } }; emit-events-arg = record { given = g'11 } }; struct-known3 = record { given = g'12 } }, (emit-events-requires record { before = record { before = record { before = record { before = record { before = record { before = record { before = record { before = record { before = record { before = record { before = record { before = record { before = c; slice-known = record { given = g } }; shared-slice-known = record { given = g' } }; shared-slice-known2 = record { given = g'' } }; shared-slice-known3 = record { given = g'3 } }; shared-slice-known4 = record { given = g'4 } }; shared-slice-known5 = record { given = g'5 } }; shared-slice-known6 = record { given = g'6 } }; shared-slice-known7 = record { given = g'7 } }; shared-slice-known8 = record { given = g'8 } }; struct-known = record { given = g'9 } }; struct-known2 = record { given = g'10 } }; emit-events-arg = record { given = g'11 } }; struct-known3 = record { given = g'12 } }, λ g'13. lay1 record { before = record { before = record { before = record { before = record { before = record { before = record { before = record { before = record { before = record { before = record { before = record { before = record { before = record { before = c; slice-known = record { given = g } }; shared-slice-known = record { given = g' } }; shared-slice-known2 = record { given = g'' } }; shared-slice-known3 = record { given = g'3 } }; shared-slice-known4 = record { given = g'4 } }; shared-slice-known5 = record { given = g'5 } }; shared-slice-known6 = record { given = g'6 } }; shared-slice-known7 = record { given = g'7 } }; shared-slice-known8 = record { given = g'8 } }; struct-known = record { given = g'9 } }; struct-known2 = record { given = g'10 } }; emit-events-arg = record { given = g'11 } }; struct-known3 = record { given = g'12 } }; emit-events = Called.called ps·0 r·0 (claims· .1) T19 (record { pos = 18; ty = Syntax.tyRef Syntax.erased Syntax.mut y2·; ref = λ x. x }, (record { pos = 3; ty = Syntax.tyRef (Syntax.named 1) Syntax.imm y2·; ref = λ x. x }, (record { pos = 5; ty = Syntax.tyRef (Syntax.named 3) Syntax.imm y2·; ref = λ x. x }, (record { pos = 9; ty = Syntax.tyRef (Syntax.named 7) Syntax.imm Syntax.tyBool; ref = λ x. x }, (record { pos = 10; ty = Syntax.tyRef (Syntax.named 8) Syntax.imm (MEM·.pointee (ROW·.the-row .written)); ref = λ x. x }, (Num.vAt 13 λ x. x, (Num.vAt 19 λ x. x, (Num.vFld 1 ((Syntax.field 0) ∷ []) 0 λ x. CodeBuffer.struct .as-values x .0, tt)))))))) (m17 record { before = record { before = record { before = record { before = record { before = record { before = record { before = record { before = record { before = record { before = record { before = record { before = c; slice-known = record { given = g } }; shared-slice-known = record { given = g' } }; shared-slice-known2 = record { given = g'' } }; shared-slice-known3 = record { given = g'3 } }; shared-slice-known4 = record { given = g'4 } }; shared-slice-known5 = record { given = g'5 } }; shared-slice-known6 = record { given = g'6 } }; shared-slice-known7 = record { given = g'7 } }; shared-slice-known8 = record { given = g'8 } }; struct-known = record { given = g'9 } }; struct-known2 = record { given = g'10 } }; emit-events-arg = record { given = g'11 } } g'12) g'13 })))))
 
         module _ (κs : Lifetimes.Lfts 10) (qs : Lifetimes.Shares 10) where
           pub asked : (a : Kinds.Dens κs ps) → (good : Kinds.GoodsP κs ps a) → (pre : Pre· κs a) → (bs : List.List Nat.ℕ) → Φ (Any.wantQ 10 ps r xs m κs qs a (Post· κs a)) (Function.init 10 ps r xs m κs qs a)

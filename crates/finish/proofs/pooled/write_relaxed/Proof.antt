@@ -81,7 +81,7 @@ returns c =
     let s = entered placed in
     let a = s .args in
     written-in-order (a .output .now) (a .code .now) (a .labels .now) (a .events .now) (a .refs .now) (a .constants .now) (a .asked .now) (a .long .now) (a .segments .now)
-    (a .b .code) (a .b .events) (a .b .asked) (a .b .refs) (placed .emit-events .ensures) (mapped .map .ensures ∙ s .pre .1 .ends) (pooled .emit .ensures)
+    (a .b .arch) (a .b .code) (a .b .events) (a .b .asked) (a .b .refs) (placed .emit-events .ensures) (mapped .map .ensures ∙ s .pre .1 .ends) (pooled .emit .ensures)
     (filled .patch-refs .ensures) (jumped .patch-jumps .ensures) (written .write .ensures)
 
 pub write-relaxed-spec : {M : Type 1} → statement M
