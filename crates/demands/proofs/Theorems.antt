@@ -2,30 +2,34 @@
 -- weakened or put under a premise is refused here.
 use mathlib.Core.Path.{_≡_, refl}
 use mathlib.Core.Logic.{_≢_, _⊎_, _↔_}
-use mathlib.Core.Bool.{Bool, true, false, _||_}
-use mathlib.Core.List.{List, [], _∷_, map}
+use mathlib.Core.Bool.{Bool, true, false, not, _||_}
+use mathlib.Core.List.{List, [], _∷_, _++_, map}
 use Prim.Native.Nat.{ℕ, suc, _+_, _-_, _*_, _/_, _%_, _^_, _≤_, _<_}
 use lib.Bits.{bitAnd}
 use lib.Dec.{eqb, leb}
 use lib.ListN.{length, getD, take}
 use Rattle.seqs.specs.Over.{over}
-use Rattle.words.specs.Words.{wordAt, bytesOfAll, overWords}
+use Rattle.words.specs.Words.{wordAt, bytesOf, bytesOfAll, overWords}
 use Rattle.encoder.specs.Nops.{nops}
 use Rattle.encoder.specs.Intel.{AreNops}
 use Rattle.encoder.specs.Padding.{paddingLength, paddingWithin}
 use Rattle.encoder.proofs.Reading as reading
 use Rattle.encoder.proofs.Padding as padding
 use Rattle.fields.specs.declared.LabelUse.{LabelUse}
-use Rattle.fields.specs.declared.LabelUse.the-variants.{X86JmpRel32, A64AddAbsLo12}
+use Rattle.fields.specs.declared.LabelUse.the-variants.{X86JmpRel32, A64Branch26, A64AddAbsLo12}
 use Rattle.fields.specs.Words64.{modulus, plus, signExtend}
 use Rattle.fields.specs.Bits.{bits, insertBits}
 use Rattle.fields.specs.Kinds.{patchSize}
 use Rattle.fields.specs.Meaning.{meaning, demanded, loadMultiple, Clear, inField}
 use Rattle.fields.specs.Reach.{canReach, pagesReach}
 use Rattle.fields.specs.Patch.{patched, patchedUse}
+use Rattle.fields.specs.Branches.{State, isBranch, taken, inverse, fieldKind, skipping, openB, shortBranch}
+use Rattle.fields.specs.Branching.{ShortReads, LongReads}
 use Rattle.fields.proofs.Insertion as insertion
 use Rattle.fields.proofs.Fields as fields
 use Rattle.fields.proofs.Encoding as encoding
+use Rattle.fields.proofs.Inverting as inverting
+use Rattle.fields.proofs.Branching as branching
 use Rattle.relax.specs.declared.Condition.{Condition}
 use Rattle.relax.specs.declared.LayoutEvent.the-variants.{Jump}
 use Rattle.relax.specs.declared.RelaxableJump.{RelaxableJump}
@@ -136,6 +140,17 @@ use-adds-held base offset label bytes size small = fields.use-adds-held base off
 reach-is-encodable : (offset target : ℕ) → offset < modulus → target < modulus → (k : LabelUse) → k ≢ A64AddAbsLo12
     → canReach k offset target ≡ true ↔ ((field : ℕ) × (meaning k offset field ≡ demanded k target))
 reach-is-encodable = encoding.reach-is-encodable
+
+inverse-inverts : (s : State) (code w : ℕ) → isBranch code w ≡ true → taken s (inverse w) ≡ not (taken s w)
+inverse-inverts = inverting.inverse-inverts
+
+short-reads : (base start label code w : ℕ) → isBranch code w ≡ true → w < 4294967296 → start + 4 < modulus → label < modulus → canReach (fieldKind code) start label ≡ true
+    → ShortReads (plus base start) w (plus base label) (patched (fieldKind code) start label (shortBranch w))
+short-reads = branching.short-reads
+
+long-reads : (base start label code w : ℕ) → isBranch code w ≡ true → w < 4294967296 → start + 4 < modulus → label < modulus → canReach A64Branch26 (start + 4) label ≡ true
+    → LongReads (plus base start) w (plus base label) (bytesOf (skipping code w) ++ patched A64Branch26 (start + 4) label (bytesOf openB))
+long-reads = branching.long-reads
 
 pages-always-reach : (offset label : ℕ) → offset < 4294967296 → label < 4294967296 → pagesReach offset label ≡ true
 pages-always-reach = encoding.pages-always-reach

@@ -12,6 +12,8 @@ const MOST_ALIGNMENT: u32 = 4096;
 /// What an event's kind is in its table.
 pub const JUMP: u32 = 1;
 pub const ALIGNMENT: u32 = 2;
+/// Request Eight: no call records one, but in a table made by hand an event of this kind names a label.
+pub const BRANCH: u32 = 3;
 
 /// One call on a recording. The most that an alignment may spend is its ceiling itself: what 0 stands for in a sheet is settled where the sheet is
 /// read.

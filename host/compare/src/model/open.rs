@@ -1,6 +1,6 @@
 //! Request Five: how many uses, refs, jumps and relocations against labels name a label that is not bound.
 
-use super::calls::JUMP;
+use super::calls::{BRANCH, JUMP};
 use super::counts::Counts;
 use crate::{LABEL_TARGET, Lent, NONE, Part};
 
@@ -40,10 +40,10 @@ impl Tables<'_> {
         self.entries(table).map(|[_, label]| label)
     }
 
-    /// The labels that jumps name, on whatever architecture.
+    /// The labels that jumps and branches name, on whatever architecture.
     fn jumps(&self) -> impl Iterator<Item = u32> {
         let events = self.entries(Part::Events);
-        events.filter_map(|[kind, _, _, label]| (kind == JUMP).then_some(label))
+        events.filter_map(|[kind, _, _, label]| matches!(kind, JUMP | BRANCH).then_some(label))
     }
 
     /// The labels that relocations name.
