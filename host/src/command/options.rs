@@ -37,8 +37,8 @@ What the listing shows
                            alignments it skipped
   --open                   how many entries name a label that is not bound, after each call;
                            where one is refused, too
-  --mistake KIND           what a mistake writes, wrong on purpose, beside what is right: from-start,
-                           one-round or old-padding
+  --mistake KIND           what a mistake writes, wrong on purpose, beside what is right:
+                           from-start, one-round or old-padding
   --full                   long runs of bytes, long lines and tables, and all rounds whole
   --hex                    offsets in hexadecimal
   --json                   all that is known as one JSON object, in the place of the listing

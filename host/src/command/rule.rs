@@ -86,8 +86,10 @@ impl Rule {
 
 /// What was recorded, and what it finishes to.
 fn assembled(input: &Input, buffer: &mut CodeBuffer) -> Result<FinishedRecording, Failure> {
+    // What stands before the first error of a text is recorded, for those who ask what is open; the text's errors are said first.
+    let recorded = input.record(buffer);
     input.check()?;
-    input.record(buffer)?;
+    recorded?;
     let finished = buffer.finish_with_recording();
     finished.map_err(|error| input.refused_finish(&error, &buffer.recording()))
 }

@@ -106,11 +106,11 @@ fn is_about_resized_jumps() {
     };
     refused(
         b"bytes 90; align 8",
-        "standard input: --mistake is about jumps that are resized, on X64, and this sheet has no jump",
+        "standard input: error: --mistake is about jumps that are resized, on X64, and this sheet has no jump",
     );
     refused(
         b"arch aarch64; zeros 4",
-        "standard input: --mistake is about jumps that are resized, on X64, and this sheet is for AArch64",
+        "standard input: error: --mistake is about jumps that are resized, on X64, and this sheet is for AArch64",
     );
 }
 
@@ -120,7 +120,7 @@ fn goes_into_no_file() {
     let name = file.to_str().unwrap();
     for option in ["-o", "--object", "--write-sheet", "--picture"] {
         let sentence = format!(
-            "--mistake only shows code that is wrong on purpose, and can't be given with {option}; see wargnifla --help"
+            "error: --mistake only shows code that is wrong on purpose, and can't be given with {option}; see wargnifla --help"
         );
         fails(
             &run(&["--mistake", "from-start", option, name, "-"], BILL),
@@ -137,5 +137,9 @@ fn what_is_not_in_the_code_is_said_here_too() {
         &["--mistake", "from-start", "-"],
         b"jmp end; zeros 4; use 5 end X86JmpRel32; end:",
     );
-    assert!(err(&output).starts_with("note: 1 use"), "{}", err(&output));
+    assert!(
+        err(&output).starts_with("standard input:1:19: note: 1 use"),
+        "{}",
+        err(&output)
+    );
 }

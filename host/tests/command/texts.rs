@@ -5,21 +5,21 @@ use super::{err, fails, out, run};
 #[test]
 fn all_errors_of_a_text_are_shown() {
     let output = run(&["-"], b"bytes 9\nfoo\nn\nbar 1\nlabel a\nlabel a\n");
-    let expected = "standard input:1: 1 hexadecimal digit is no whole number of bytes
+    let expected = "standard input:1:7: error: 1 hexadecimal digit is no whole number of bytes
     bytes 9
           ^
-standard input:2: 'foo' is no call
+standard input:2:1: error: 'foo' is no call
     foo
     ^^^
 note: the calls are label, bind (or NAME:), bytes, zeros, align, use, ref, jump, jmp, je and the other conditions, \
 constant, constant-label, relocation
-standard input:4: 'bar' is no call
+standard input:4:1: error: 'bar' is no call
     bar 1
     ^^^
-standard input:6: the label 'a' is made already
+standard input:6:7: error: the label 'a' is made already
     label a
           ^
-standard input:5: note: it is made where it is first named, here
+standard input:5:7: note: it is made where it is first named, here
     label a
           ^";
     fails(&output, 2, expected);
@@ -31,7 +31,7 @@ fn of_many_errors_the_first_are_shown() {
     assert!(err(&output).ends_with("    b 9\n      ^\n"));
     assert_eq!(err(&output).lines().count(), 60);
     let output = run(&["-"], "b 9\n".repeat(21).as_bytes());
-    assert!(err(&output).ends_with("    b 9\n      ^\nand further errors\n"));
+    assert!(err(&output).ends_with("    b 9\n      ^\nnote: there are further errors\n"));
     assert_eq!(err(&output).lines().count(), 61);
 }
 
@@ -50,7 +50,7 @@ open labels
        1  label end: line 1
 ";
     assert_eq!(out(&output), expected);
-    assert!(err(&output).starts_with("standard input:3: 'ju' is no call"));
+    assert!(err(&output).starts_with("standard input:3:1: error: 'ju' is no call"));
     assert_eq!(output.status.code(), Some(2));
 }
 
@@ -66,23 +66,22 @@ open labels
        1  label out: line 3
 ";
     assert!(out(&output).ends_with(expected), "{}", out(&output));
-    assert!(err(&output).contains("number 15"), "{}", err(&output));
+    assert!(err(&output).contains("error[15]: "), "{}", err(&output));
     assert_eq!(output.status.code(), Some(1));
 }
 
 #[test]
 fn a_constant_that_no_call_asks_for_is_said_with_its_line() {
     let output = run(&["-"], b"bytes 90\nconstant 00 00\n");
-    let note =
-        "note: 1 constant is not in the code, since no constant-label asks for it (line 2)\n";
+    let note = "standard input:2:1: note: 1 constant is not in the code, since no constant-label asks for it (line 2)\n";
     assert_eq!(err(&output), note);
     assert_eq!(output.status.code(), Some(0));
     let text = b"constant 01\nconstant 02; constant-label 1\n2 ( constant 03 )\n\nconstant 04";
     let output = run(&["-"], text);
-    let note = "note: 4 constants are not in the code, since no constant-label asks for them (lines 1, 3, 5)\n";
+    let note = "standard input:1:1: note: 4 constants are not in the code, since no constant-label asks for them (lines 1, 3, 5)\n";
     assert_eq!(err(&output), note);
     let output = run(&["--join", "-"], b"c 01");
-    assert!(err(&output).starts_with("note: standard input: 1 constant is"));
+    assert!(err(&output).starts_with("standard input:1:1: note: 1 constant is"));
 }
 
 /// Checks that a text is wrong by one sentence, with a note at a second place.
@@ -94,10 +93,10 @@ fn is_wrong(text: &str, expected: &str) {
 fn a_second_name_of_a_constant_is_an_error() {
     is_wrong(
         "constant 01\nconstant-label 0 one\nconstant-label 0 eins\ndefine s0 eins\n",
-        "standard input:3: the label of constant 0 has the name 'one' already, and can't have 'eins' too
+        "standard input:3:18: error: the label of constant 0 has the name 'one' already, and can't have 'eins' too
     constant-label 0 eins
                      ^^^^
-standard input:2: note: the name is given here
+standard input:2:18: note: the name is given here
     constant-label 0 one
                      ^^^",
     );
@@ -109,28 +108,28 @@ standard input:2: note: the name is given here
 fn architecture_and_count_of_symbols_are_said_once() {
     is_wrong(
         "arch x64\nsymbols a; arch aarch64\njmp end\nend:",
-        "standard input:2: the architecture is said already
+        "standard input:2:12: error: the architecture is said already
     symbols a; arch aarch64
                ^^^^
-standard input:1: note: it is said here
+standard input:1:1: note: it is said here
     arch x64
     ^^^^",
     );
     is_wrong(
         "symbols 3; symbols 3",
-        "standard input:1: the symbols are counted already
+        "standard input:1:20: error: the symbols are counted already
     symbols 3; symbols 3
                        ^
-standard input:1: note: they are counted here
+standard input:1:9: note: they are counted here
     symbols 3; symbols 3
             ^",
     );
     is_wrong(
         "symbols puts\nsymbols 5",
-        "standard input:2: symbols are counted or named, and a text can't do both
+        "standard input:2:9: error: symbols are counted or named, and a text can't do both
     symbols 5
             ^
-standard input:1: note: the first is here
+standard input:1:9: note: the first is here
     symbols puts
             ^^^^",
     );
@@ -143,14 +142,14 @@ fn instructions_and_comments_of_other_assemblers_are_understood() {
     let is_instruction = "is an instruction, and a sheet has none but jumps: write its bytes";
     for expected in [
         format!(
-            ":1: 'push' {is_instruction}; on x86, 'bytes C3' is a ret\n    push rbp ; save it\n    ^^^^\n"
+            ":1:1: error: 'push' {is_instruction}; on x86, 'bytes C3' is a ret\n    push rbp ; save it\n    ^^^^\n"
         ),
-        ":1: 'save' is no call\n    push rbp ; save it\n               ^^^^\n\
+        ":1:12: error: 'save' is no call\n    push rbp ; save it\n               ^^^^\n\
          note: ';' separates calls, and '#' starts a comment\n"
             .into(),
-        format!(":2: 'call' {is_instruction}"),
-        ":3: 'this' is no call\n".into(),
-        format!(":5: 'b.eq' {is_instruction}; on AArch64, 'bytes C0 03 5F D6' is a ret\n"),
+        format!(":2:1: error: 'call' {is_instruction}"),
+        ":3:3: error: 'this' is no call\n".into(),
+        format!(":5:1: error: 'b.eq' {is_instruction}; on AArch64, 'bytes C0 03 5F D6' is a ret\n"),
     ] {
         assert!(err(&output).contains(&expected), "{}", err(&output));
     }
@@ -162,7 +161,7 @@ fn instructions_and_comments_of_other_assemblers_are_understood() {
 fn a_relocation_to_an_unknown_name_asks_for_its_symbol() {
     let asks = |text: &str| {
         let output = run(&["-"], text.as_bytes());
-        assert!(err(&output).contains("number 15"), "{}", err(&output));
+        assert!(err(&output).contains("error[15]: "), "{}", err(&output));
         err(&output).ends_with("\nnote: is 'symbols puts' missing?\n")
     };
     let call = "bytes E8 00 00 00 00\nrelocation 1 X86CallPLTRel4 puts -4\n";
@@ -183,7 +182,7 @@ fn words_in_capitals_are_marked_as_others_are() {
     assert!(err(&output).ends_with(marked), "{}", err(&output));
     let output = run(&["--arch", "X86_64", "-"], b"ZEROS 0xFFFFFFFF\n");
     assert!(
-        err(&output).contains("zeros: number 12"),
+        err(&output).contains("error[12]: zeros: "),
         "{}",
         err(&output)
     );

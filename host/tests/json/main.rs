@@ -180,7 +180,13 @@ fn a_malformed_sheet_has_its_error() {
         (&Value::Number(3), &Value::Number(9))
     );
     assert!(error["sentence"].text().contains("is no hexadecimal digit"));
-    assert_eq!(value["arch"], Value::Null);
+    assert_eq!(
+        (&value["arch"], &value["code"]),
+        (&Value::Text("X64".into()), &Value::Null)
+    );
+    let (value, status) = printed(&[&file("half-typed.txt", "jmp end\nbyt")]);
+    assert_eq!(status, 2);
+    assert_eq!(value["open"]["number"], 1);
     let (value, status) = printed(&["no/such/\u{1b}\"file"]);
     assert_eq!(status, 2);
     assert_eq!(value["errors"][0]["file"], "no/such/\\u{1b}\"file");

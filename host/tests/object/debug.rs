@@ -240,7 +240,7 @@ fn a_binary_sheet_has_no_lines() {
         let said = String::from_utf8(output.stderr).unwrap();
         assert_eq!(
             said,
-            "rule.sheet: --debug is about the lines of a text, and this is a binary sheet\n"
+            "rule.sheet: error: --debug is about the lines of a text, and this is a binary sheet\n"
         );
         assert_eq!(output.status.code(), Some(2));
         assert!(!folder.path().join("rule.o").exists());

@@ -28,10 +28,10 @@ const UNBOUND: &str =
 #[test]
 fn definitions_that_an_object_leaves_out_are_named_with_their_lines() {
     let expected = "\
-0.txt:3: note: the definition of symbol sort is left out of the object, since label never is bound nowhere
+0.txt:3:13: note: the definition of symbol sort is left out of the object, since label never is bound nowhere
     define sort never; define heap here
                 ^^^^^
-0.txt:4: note: the definition of symbol 7 is left out of the object, since label never is bound nowhere
+0.txt:4:11: note: the definition of symbol 7 is left out of the object, since label never is bound nowhere
     define s7 0
               ^
 ";
