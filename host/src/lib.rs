@@ -80,7 +80,7 @@ pub use recording::{
     Recording, RelocTarget, Sym,
 };
 pub use refusal::Refusal;
-pub use rounds::{Change, Lengthened, Mismatch, Round, Rounds, Turn};
+pub use rounds::{Change, Lengthened, Mismatch, Round, RoundChanges, Rounds, Turn};
 pub use sheet::{Sheet, Unwritable, symbols_named, write_sheet};
 pub use sheet_text::{
     Arch, Call, Condition, DEFAULT_MOST, Definition, ExternalName, LabelUse, MOST_ERRORS,

@@ -97,6 +97,8 @@ pub struct Rounds {
     settled: Vec<Segment>,
     /// The changes of each event.
     changes: Vec<Vec<Change>>,
+    /// How many rounds, from the first on, have all their changes there.
+    whole: u32,
 }
 
 impl Rounds {
@@ -134,6 +136,7 @@ impl Rounds {
             first,
             settled,
             changes: changes.of_event,
+            whole: changes.whole,
         }
     }
 
@@ -156,6 +159,27 @@ impl Rounds {
     /// earliest rounds are kept.
     pub fn changes(&self) -> impl Iterator<Item = &Change> {
         self.changes.iter().flatten()
+    }
+
+    /// What each round changed, in order: from the round before, in round 1 from what was recorded. Nothing is said of rounds whose changes are not all
+    /// kept.
+    pub fn by_round(&self) -> Vec<RoundChanges> {
+        let mut rounds = vec![RoundChanges::default(); self.rounds.len()];
+        for (event, segment) in self.first.iter().enumerate() {
+            let (old, new) = (segment.old_end - segment.old_start, length(segment));
+            if old != new {
+                let by = new.cast_signed() - old.cast_signed();
+                rounds[0].push(Change {
+                    event,
+                    round: 1,
+                    by,
+                });
+            }
+        }
+        for change in self.changes().filter(|change| change.round <= self.whole) {
+            rounds[change.round as usize - 1].push(*change);
+        }
+        rounds
     }
 
     /// Compares with what finish reported: the number of rounds, where every event settled, and the code's length.
@@ -203,12 +227,48 @@ impl Rounds {
     }
 }
 
+/// What one round changed, by rising events.
+#[derive(Clone, Debug, Default)]
+pub struct RoundChanges {
+    changes: Vec<Change>,
+    /// Of each change the index from which on changes have moved its end: those before it cancel out.
+    since: Vec<usize>,
+    /// By how much the end of the last changed event moved.
+    moved: i64,
+}
+
+impl RoundChanges {
+    fn push(&mut self, change: Change) {
+        let since = match self.moved {
+            0 => self.changes.len(),
+            _ => self.since[self.changes.len() - 1],
+        };
+        self.moved += i64::from(change.by);
+        self.changes.push(change);
+        self.since.push(match self.moved {
+            0 => self.changes.len(),
+            _ => since,
+        });
+    }
+
+    /// Why an event starts elsewhere: the changes in front of it, without those in front of a place that did not move, which have no part in that. Their
+    /// sum is how far it moved; there are none where it did not.
+    #[must_use]
+    pub fn in_front_of(&self, event: usize) -> &[Change] {
+        let end = self.changes.partition_point(|change| change.event < event);
+        let since = end.checked_sub(1).map_or(0, |last| self.since[last]);
+        &self.changes[since..end]
+    }
+}
+
 /// How the lengths of events changed from round to round.
 struct Changes {
     round: u32,
     lengths: Vec<u32>,
     of_event: Vec<Vec<Change>>,
     kept: usize,
+    /// How many rounds were kept whole.
+    whole: u32,
 }
 
 impl Changes {
@@ -221,16 +281,14 @@ impl Changes {
             lengths: Vec::new(),
             of_event: vec![Vec::new(); events],
             kept: 0,
+            whole: 0,
         }
     }
 
     /// Compares a round's layout with that of the round before.
     fn note(&mut self, segments: &[Segment]) {
         self.round += 1;
-        let lengths: Vec<u32> = segments
-            .iter()
-            .map(|segment| segment.new_end - segment.new_start)
-            .collect();
+        let lengths: Vec<u32> = segments.iter().map(length).collect();
         for (event, (old, new)) in self.lengths.iter().zip(&lengths).enumerate() {
             if old != new && self.kept < Self::MOST_KEPT {
                 self.kept += 1;
@@ -242,6 +300,9 @@ impl Changes {
             }
         }
         self.lengths = lengths;
+        if self.kept < Self::MOST_KEPT {
+            self.whole = self.round;
+        }
     }
 }
 
@@ -348,6 +409,10 @@ fn crossed(jump: usize, first_behind_label: usize) -> Range<usize> {
     } else {
         first_behind_label..jump
     }
+}
+
+pub(crate) fn length(segment: &Segment) -> u32 {
+    segment.new_end - segment.new_start
 }
 
 fn distance(target: CodeOffset, from: CodeOffset) -> i64 {
@@ -478,6 +543,24 @@ mod tests {
         assert_eq!(heads(3), padded);
         let one_too_many = turns("jmp end; zeros 15; align 16 14; end:");
         assert_eq!(one_too_many, [[turn(1, Skipped(15), None)]]);
+    }
+
+    #[test]
+    fn what_moves_an_event_is_in_front_of_it_and_behind_what_stays() {
+        let rounds =
+            rounds("jmp far; zeros 3; align 16; jne far; zeros 5; align 8; zeros 128; far:");
+        let by_round = rounds.by_round();
+        let in_front_of = |event, round: usize| by_round[round - 1].in_front_of(event);
+        assert_eq!(by_round.len(), 2);
+        assert_eq!(in_front_of(0, 1), []);
+        assert_eq!(in_front_of(1, 1), [change(0, 1, -3)]);
+        // The first alignment takes up what the jump in front of it loses.
+        assert_eq!(in_front_of(2, 1), []);
+        assert_eq!(in_front_of(3, 1), [change(2, 1, -4)]);
+        assert_eq!(in_front_of(1, 2), [change(0, 2, 3)]);
+        assert_eq!(in_front_of(3, 2), [change(2, 2, 4)]);
+        let none = Rounds::default().by_round();
+        assert!(none.is_empty());
     }
 
     #[test]

@@ -71,7 +71,7 @@ fn of_piece(options: &Options, piece: usize, rule: &Rule) -> String {
     if options.rounds {
         let title = format!("rounds, piece {piece}");
         let report = RoundsReport::new(&rule.input, rule.recording(), style);
-        text += &report.text(&title, rule.finished.rounds().rounds());
+        text += &report.text(&title, rule.finished.rounds());
     }
     text
 }

@@ -44,7 +44,7 @@ fn shown(options: &Options, rule: &Rule) -> String {
     }
     if options.rounds {
         let report = RoundsReport::new(input, recording, style);
-        text += &report.text("rounds", finished.rounds().rounds());
+        text += &report.text("rounds", finished.rounds());
     }
     text + &format!("\n{}\n", finished.record())
 }

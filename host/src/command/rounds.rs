@@ -3,10 +3,15 @@
 use std::fmt::Write;
 
 use sheet_text::counted;
-use wargnifla::{Change, Extent, Lengthened, Pooled, Recording, Round, Style, Turn};
+use wargnifla::{
+    Change, Extent, Lengthened, Pooled, Recording, Round, RoundChanges, Rounds, Style, Turn,
+};
 
 use super::input::Input;
 use super::report::MOST_LINES;
+
+/// Changes in front of an alignment that are named, the nearest ones; all of them could be as many as there are events, for each alignment.
+const MOST_IN_FRONT: usize = 8;
 
 /// Rounds, told with the lines that their jumps and alignments come from.
 pub struct RoundsReport<'a> {
@@ -29,20 +34,22 @@ impl<'a> RoundsReport<'a> {
         }
     }
 
-    pub fn text(&self, title: &str, rounds: &[Round]) -> String {
+    pub fn text(&self, title: &str, rounds: &Rounds) -> String {
+        let changes = rounds.by_round();
+        let rounds = rounds.rounds();
         let Some((last, others)) = rounds.split_last() else {
             return format!("\n{title}\n          none: there is no jump to relax\n");
         };
         let mut out = format!("\n{title}\n");
         let shown = self.shown(others.len());
         for (number, round) in (1..).zip(&others[..shown]) {
-            self.round(&mut out, number, round);
+            self.round(&mut out, number, round, &changes[number - 1]);
         }
         if shown < others.len() {
             let left = counted(others.len() - shown, "more round");
             let _ = writeln!(out, "          ... {left}");
         }
-        self.round(&mut out, rounds.len(), last);
+        self.round(&mut out, rounds.len(), last, &changes[rounds.len() - 1]);
         out
     }
 
@@ -54,11 +61,12 @@ impl<'a> RoundsReport<'a> {
         }
     }
 
-    fn round(&self, out: &mut String, number: usize, round: &Round) {
+    fn round(&self, out: &mut String, number: usize, round: &Round, changes: &RoundChanges) {
         let _ = writeln!(out, "{number:>8}  {round}");
         let shown = self.shown(round.turns.len());
         for turn in &round.turns[..shown] {
             let _ = writeln!(out, "          {}", self.turn(number, turn));
+            self.moved(out, number, changes.in_front_of(turn.event));
         }
         if shown < round.turns.len() {
             let left = counted(round.turns.len() - shown, "more alignment");
@@ -80,6 +88,32 @@ impl<'a> RoundsReport<'a> {
             format!("; in round {}: {before}", number - 1)
         });
         format!("{}: {}{before}", self.event(turn.event), turn.padding)
+    }
+
+    /// `starts 4 later than in round 1, since in front of it`, and what changed there.
+    fn moved(&self, out: &mut String, number: usize, in_front: &[Change]) {
+        let by: i64 = in_front.iter().map(|change| i64::from(change.by)).sum();
+        let (by, way) = match by {
+            0 => return,
+            ..0 => (-by, "earlier"),
+            _ => (by, "later"),
+        };
+        let before = match number {
+            1 => "recorded".into(),
+            _ => format!("in round {}", number - 1),
+        };
+        let _ = writeln!(
+            out,
+            "            starts {by} {way} than {before}, since in front of it"
+        );
+        let left = in_front.len().saturating_sub(MOST_IN_FRONT);
+        if left > 0 {
+            let left = counted(left, "more change");
+            let _ = writeln!(out, "              ... {left}");
+        }
+        for change in &in_front[left..] {
+            let _ = writeln!(out, "              {}", self.cause(change));
+        }
     }
 
     fn step(&self, out: &mut String, step: &Lengthened) {
@@ -121,13 +155,14 @@ impl<'a> RoundsReport<'a> {
 
     /// `jmp recorded at 5 (line 6) grew by 3 after round 1`: the round that made it long, or moved what it pads.
     fn change(&self, change: &Change) -> String {
+        format!("{} after round {}", self.cause(change), change.round - 1)
+    }
+
+    /// `jmp recorded at 5 (line 6) grew by 3`.
+    fn cause(&self, change: &Change) -> String {
         let verb = if change.by < 0 { "shrank" } else { "grew" };
-        format!(
-            "{} {verb} by {} after round {}",
-            self.event(change.event),
-            change.by.unsigned_abs(),
-            change.round - 1
-        )
+        let by = change.by.unsigned_abs();
+        format!("{} {verb} by {by}", self.event(change.event))
     }
 
     /// An event with where it was recorded and the line that it comes from.

@@ -5,9 +5,8 @@ use super::markup::{array, string};
 use super::parts::place;
 use super::{Picture, Placed};
 use crate::event::LayoutEvent;
-use crate::ffi::Segment;
 use crate::recording::{Names, Pooled, Recording};
-use crate::rounds::{Change, Round, Rounds};
+use crate::rounds::{Change, Round, Rounds, length};
 use crate::{CodeOffset, Label, UNBOUND};
 use sheet_text::{counted, shown};
 
@@ -155,10 +154,6 @@ pub fn fields(picture: &Picture<'_>, placed: &Placed) -> Vec<PlacedField> {
             (before, past, field)
         })
         .collect()
-}
-
-fn length(segment: &Segment) -> u32 {
-    segment.new_end - segment.new_start
 }
 
 /// How many rounds are kept from the first on, beside the last.

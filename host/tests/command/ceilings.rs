@@ -45,12 +45,31 @@ labels
 rounds
        1  169 bytes; 1 jump becomes long
           align 32 10 recorded at 26 (line 15): skipped, 14 needed
+            starts 8 earlier than recorded, since in front of it
+              je recorded at 0 (line 12) shrank by 4
+              jle recorded at 6 (line 13) shrank by 4
           align 32 10 recorded at 162 (line 23): skipped, 14 needed
+            starts 16 earlier than recorded, since in front of it
+              je recorded at 0 (line 12) shrank by 4
+              jle recorded at 6 (line 13) shrank by 4
+              align 32 10 recorded at 26 (line 15) shrank by 6
+              jne recorded at 134 (line 18) shrank by 4
+              align 32 10 recorded at 140 (line 19) grew by 6
+              jne recorded at 156 (line 22) shrank by 4
           je recorded at 0 (line 12): label done at 168 less its own end at 2 is 166, outside -128..127
        2  183 bytes; 1 jump becomes long
           align 32 10 recorded at 26 (line 15): 10 bytes of padding; in round 1: skipped, 14 needed
+            starts 4 later than in round 1, since in front of it
+              je recorded at 0 (line 12) grew by 4
           align 32 10 recorded at 140 (line 19): skipped, 24 needed; in round 1: 6 bytes of padding
+            starts 14 later than in round 1, since in front of it
+              je recorded at 0 (line 12) grew by 4
+              align 32 10 recorded at 26 (line 15) grew by 10
           align 32 10 recorded at 162 (line 23): 6 bytes of padding; in round 1: skipped, 14 needed
+            starts 8 later than in round 1, since in front of it
+              je recorded at 0 (line 12) grew by 4
+              align 32 10 recorded at 26 (line 15) grew by 10
+              align 32 10 recorded at 140 (line 19) shrank by 6
           jle recorded at 6 (line 13): label second at 136 less its own end at 8 is 128, outside -128..127
             124 in round 1; since then, between the jump and its label,
               align 32 10 recorded at 26 (line 15) grew by 10 after round 1
@@ -175,4 +194,17 @@ fn many_skipped_alignments_are_cut_unless_all_are_asked_for() {
     let full = run(&["--rounds", "--full", "-"], text);
     let (_, rounds) = out(&full).split_once("\nrounds\n").unwrap();
     assert_eq!(rounds.matches(": skipped, ").count(), 40, "{rounds}");
+}
+
+#[test]
+fn of_many_changes_in_front_the_nearest_are_named() {
+    let jumps: String = (0..12).map(|_| "jmp end; ").collect();
+    let text = format!("{jumps}zeros 5; align 16 1; end: bytes C3");
+    let said = run(&["--rounds", "-"], text.as_bytes());
+    let lines = "            starts 36 earlier than recorded, since in front of it
+              ... 4 more changes
+              jmp recorded at 20 (line 1) shrank by 3
+";
+    assert!(out(&said).contains(lines), "{}", out(&said));
+    assert_eq!(out(&said).matches(" shrank by 3\n").count(), 8);
 }

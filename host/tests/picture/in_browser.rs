@@ -3,7 +3,7 @@
 use std::iter::repeat_with;
 
 use wargnifla::{
-    Arch, Change, CodeBuffer, Lengthened, Recording, Round, Rounds, Segment, Turn, read_text,
+    Arch, Change, CodeBuffer, Lengthened, Recording, Round, RoundChanges, Rounds, Turn, read_text,
     symbols_named,
 };
 
@@ -104,55 +104,30 @@ impl Expected {
         changed.count()
     }
 
-    /// By how much a round makes each event longer, from the one before or from what was recorded.
-    fn changes_of(&self, round: usize) -> Vec<i64> {
-        let mut by = vec![0; self.rounds.first().len()];
-        if round == 1 {
-            let old = |segment: &Segment| i64::from(segment.old_end - segment.old_start);
-            let new = |segment: &Segment| i64::from(segment.new_end - segment.new_start);
-            let first = self.rounds.first().iter();
-            return first.map(|segment| new(segment) - old(segment)).collect();
-        }
-        let changes = self.rounds.changes();
-        for change in changes.filter(|change| change.round as usize == round) {
-            by[change.event] = change.by.into();
-        }
-        by
-    }
-
-    /// Why an event starts elsewhere in a round than in the step before: what changed between it and the last place in front that stays.
+    /// Why an event starts elsewhere in a round than in the step before.
     fn moved(&self, event: usize, round: usize) -> Vec<String> {
-        let changes = &self.changes_of(round)[..event];
-        let total: i64 = changes.iter().sum();
-        if total == 0 {
+        let by_round = self.rounds.by_round();
+        let causes = by_round[round - 1].in_front_of(event);
+        if causes.is_empty() {
             return Vec::new();
         }
-        let starts = (1..round).fold(
-            self.recording.pooled().events[event].start(),
-            |at, before| {
-                let by: i64 = self.changes_of(before)[..event].iter().sum();
-                (i64::from(at) + by) as u32
-            },
-        );
+        let moved = |round: &RoundChanges| -> i64 {
+            let changes = round.in_front_of(event).iter();
+            changes.map(|change| i64::from(change.by)).sum()
+        };
+        let recorded = i64::from(self.recording.pooled().events[event].start());
+        let from = recorded + by_round[..round - 1].iter().map(moved).sum::<i64>();
+        let to = from + moved(&by_round[round - 1]);
         let before = match round {
             1 => "as recorded".into(),
             _ => format!("in round {}", round - 1),
         };
-        let after = i64::from(starts) + total;
-        let head =
-            format!("Its start moved from {starts} {before} to {after} in round {round}, since");
-        let (mut causes, mut left) = (Vec::new(), total);
-        for by in changes.iter().rev().filter(|by| **by != 0) {
-            let verb = if *by < 0 { "shrank" } else { "grew" };
-            causes.push(format!(" {verb} by {}", by.abs()));
-            left -= by;
-            if left == 0 {
-                break;
-            }
-        }
-        causes.push(head);
-        causes.reverse();
-        causes
+        let head = format!("Its start moved from {from} {before} to {to} in round {round}, since");
+        let cause = |change: &Change| {
+            let verb = if change.by < 0 { "shrank" } else { "grew" };
+            format!(" {verb} by {}", change.by.unsigned_abs())
+        };
+        [head].into_iter().chain(causes.iter().map(cause)).collect()
     }
 
     /// The sentence of each step, the first one cut, with the arcs of each state and the padding that changed.
