@@ -204,13 +204,13 @@ enum wargnifla_elf_type {
 /* The counts of a recording, 13 words. The caller keeps them between calls and lends them to each; a call answers 1 to fewer bytes, before anything
  * else (a finish after a record that is too short), and leaves bytes past them alone.
  *
- * The last word is the open number: how many uses, refs, jumps and relocations against labels name a label that is not bound. An unknown label, which
- * a table made by hand can name, counts as not bound; of events those of kind WARGNIFLA_EVENT_JUMP count, on every architecture. What X86 and AArch64
- * accept unread is not kept and not counted. Every call that is handed the right number hands back the right one, refused calls too: a new entry adds
- * 1 where its label is not bound, a bind takes away as many as name its label. Another number changes by as much, though never below 0. Any call
- * answers 1 to one above WARGNIFLA_MOST_OPEN, amid a sheet the call after the one that passed it, and finish to any that the tables do not come to
- * (wargnifla_count_open). The labels of pooled constants are not bound before finish, so what names them is open until then. A finish that
- * succeeds leaves 0. */
+ * The last word is the open number: how many uses, refs, jumps and relocations against labels name a label that is not bound. An unknown label,
+ * which a table made by hand can name, counts as not bound; of events those of kinds WARGNIFLA_EVENT_JUMP and WARGNIFLA_EVENT_BRANCH count, on
+ * every architecture. What X86 and AArch64 accept unread is not kept and not counted. Every call that is handed the right number hands back the
+ * right one, refused calls too: a new entry adds 1 where its label is not bound, a bind takes away as many as name its label. Another number
+ * changes by as much, though never below 0. Any call answers 1 to one above WARGNIFLA_MOST_OPEN, amid a sheet the call after the one that passed
+ * it, and finish to any that the tables do not come to (wargnifla_count_open). The labels of pooled constants are not bound before finish, so what
+ * names them is open until then. A finish that succeeds leaves 0. */
 #define WARGNIFLA_COUNTS_BYTES 52
 #define WARGNIFLA_MOST_OPEN 262144 /* the entries of four full tables */
 enum wargnifla_count {
@@ -278,7 +278,8 @@ enum wargnifla_count {
 
 enum wargnifla_event {
     WARGNIFLA_EVENT_JUMP = 1,
-    WARGNIFLA_EVENT_ALIGNMENT = 2
+    WARGNIFLA_EVENT_ALIGNMENT = 2,
+    WARGNIFLA_EVENT_BRANCH = 3 /* no call records one, and finish answers 1 to it */
 };
 
 /* Where an event, recorded from old_start to old_end, comes to stand. Finish fills one for each event, those of the pool included. */
@@ -762,7 +763,7 @@ static inline uint32_t wargnifla_open_entries(const wargnifla_tables *tables, co
         uint32_t label = wargnifla_word(entry + 4 * word);
         int names = 1;
         if (which == WARGNIFLA_COUNT_EVENTS)
-            names = wargnifla_word(entry) == WARGNIFLA_EVENT_JUMP;
+            names = wargnifla_word(entry) == WARGNIFLA_EVENT_JUMP || wargnifla_word(entry) == WARGNIFLA_EVENT_BRANCH;
         if (which == WARGNIFLA_COUNT_RELOCS) {
             names = label >= WARGNIFLA_LABEL_TARGET;
             label -= WARGNIFLA_LABEL_TARGET;
