@@ -233,31 +233,42 @@ pub struct RoundChanges {
     changes: Vec<Change>,
     /// Of each change the index from which on changes have moved its end: those before it cancel out.
     since: Vec<usize>,
-    /// By how much the end of the last changed event moved.
-    moved: i64,
+    /// By how much the end of each changed event moved.
+    moved: Vec<i64>,
 }
 
 impl RoundChanges {
     fn push(&mut self, change: Change) {
-        let since = match self.moved {
-            0 => self.changes.len(),
+        let before = self.moved.last().copied().unwrap_or(0);
+        let moved = before + i64::from(change.by);
+        let since = match (before, moved) {
+            (_, 0) => self.changes.len() + 1,
+            (0, _) => self.changes.len(),
             _ => self.since[self.changes.len() - 1],
         };
-        self.moved += i64::from(change.by);
         self.changes.push(change);
-        self.since.push(match self.moved {
-            0 => self.changes.len(),
-            _ => since,
-        });
+        self.since.push(since);
+        self.moved.push(moved);
     }
 
-    /// Why an event starts elsewhere: the changes in front of it, without those in front of a place that did not move, which have no part in that. Their
-    /// sum is how far it moved; there are none where it did not.
+    /// The last change in front of an event, by its index.
+    fn last_in_front(&self, event: usize) -> Option<usize> {
+        let end = self.changes.partition_point(|change| change.event < event);
+        end.checked_sub(1)
+    }
+
+    /// How much later an event starts, or earlier.
+    #[must_use]
+    pub fn moved(&self, event: usize) -> i64 {
+        self.last_in_front(event).map_or(0, |last| self.moved[last])
+    }
+
+    /// Why it does: the changes in front of it, of which this is the sum. Those in front of a place that did not move have no part in it, and are left
+    /// out.
     #[must_use]
     pub fn in_front_of(&self, event: usize) -> &[Change] {
-        let end = self.changes.partition_point(|change| change.event < event);
-        let since = end.checked_sub(1).map_or(0, |last| self.since[last]);
-        &self.changes[since..end]
+        self.last_in_front(event)
+            .map_or(&[], |last| &self.changes[self.since[last]..=last])
     }
 }
 
@@ -559,6 +570,8 @@ mod tests {
         assert_eq!(in_front_of(3, 1), [change(2, 1, -4)]);
         assert_eq!(in_front_of(1, 2), [change(0, 2, 3)]);
         assert_eq!(in_front_of(3, 2), [change(2, 2, 4)]);
+        let moved = |event| by_round[0].moved(event);
+        assert_eq!([0, 1, 2, 3].map(moved), [0, -3, 0, -4]);
         let none = Rounds::default().by_round();
         assert!(none.is_empty());
     }

@@ -66,7 +66,7 @@ impl<'a> RoundsReport<'a> {
         let shown = self.shown(round.turns.len());
         for turn in &round.turns[..shown] {
             let _ = writeln!(out, "          {}", self.turn(number, turn));
-            self.moved(out, number, changes.in_front_of(turn.event));
+            self.moved(out, number, turn.event, changes);
         }
         if shown < round.turns.len() {
             let left = counted(round.turns.len() - shown, "more alignment");
@@ -91,12 +91,11 @@ impl<'a> RoundsReport<'a> {
     }
 
     /// `starts 4 later than in round 1, since in front of it`, and what changed there.
-    fn moved(&self, out: &mut String, number: usize, in_front: &[Change]) {
-        let by: i64 = in_front.iter().map(|change| i64::from(change.by)).sum();
-        let (by, way) = match by {
+    fn moved(&self, out: &mut String, number: usize, event: usize, changes: &RoundChanges) {
+        let (by, way) = match changes.moved(event) {
             0 => return,
-            ..0 => (-by, "earlier"),
-            _ => (by, "later"),
+            by @ ..0 => (-by, "earlier"),
+            by => (by, "later"),
         };
         let before = match number {
             1 => "recorded".into(),
@@ -106,6 +105,7 @@ impl<'a> RoundsReport<'a> {
             out,
             "            starts {by} {way} than {before}, since in front of it"
         );
+        let in_front = changes.in_front_of(event);
         let left = in_front.len().saturating_sub(MOST_IN_FRONT);
         if left > 0 {
             let left = counted(left, "more change");

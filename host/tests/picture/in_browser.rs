@@ -111,10 +111,7 @@ impl Expected {
         if causes.is_empty() {
             return Vec::new();
         }
-        let moved = |round: &RoundChanges| -> i64 {
-            let changes = round.in_front_of(event).iter();
-            changes.map(|change| i64::from(change.by)).sum()
-        };
+        let moved = |round: &RoundChanges| round.moved(event);
         let recorded = i64::from(self.recording.pooled().events[event].start());
         let from = recorded + by_round[..round - 1].iter().map(moved).sum::<i64>();
         let to = from + moved(&by_round[round - 1]);
