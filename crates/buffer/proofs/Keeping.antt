@@ -4,21 +4,21 @@ use mathlib.Core.Logic.{◌⊎◌, inl, inr}
 use mathlib.Core.Bool.{Bool, true, false}
 use Prim.Native.Nat.{ℕ}
 use borrow.Author.Tests.{eq-eqb, eqb-true}
-use Rattle.fields.specs.Kinds.{archX64}
-use Rattle.buffer.specs.State.{keepsEvents}
+use Rattle.fields.specs.Kinds.{arch_x64}
+use Rattle.buffer.specs.State.{keeps_events}
 
-pub x64-keeps : (arch : ℕ) → arch ≡ archX64 → keepsEvents arch ≡ true
-unfolding keepsEvents
-x64-keeps arch h = eq-eqb arch archX64 h
+pub x64_keeps : (arch : ℕ) → arch ≡ arch_x64 → keeps_events arch ≡ true
+unfolding keeps_events
+x64_keeps arch h = eq-eqb arch arch_x64 h
 
-pub kept-x64 : (arch : ℕ) → keepsEvents arch ≡ true → arch ≡ archX64
-unfolding keepsEvents
-kept-x64 arch h = eqb-true arch archX64 h
+pub kept_x64 : (arch : ℕ) → keeps_events arch ≡ true → arch ≡ arch_x64
+unfolding keeps_events
+kept_x64 arch h = eqb-true arch arch_x64 h
 
 -- an architecture keeps events or does not
-pub keeps-or-not : (arch : ℕ) → (keepsEvents arch ≡ true) ⊎ (keepsEvents arch ≡ false)
-keeps-or-not arch = by (keepsEvents arch) refl
+pub keeps_or_not : (arch : ℕ) → (keeps_events arch ≡ true) ⊎ (keeps_events arch ≡ false)
+keeps_or_not arch = by (keeps_events arch) refl
   where
-    by : (t : Bool) → keepsEvents arch ≡ t → (keepsEvents arch ≡ true) ⊎ (keepsEvents arch ≡ false)
+    by : (t : Bool) → keeps_events arch ≡ t → (keeps_events arch ≡ true) ⊎ (keeps_events arch ≡ false)
     by true e = inl e
     by false e = inr e

@@ -2,7 +2,7 @@
 use Rattle.std.specs.Prelude.{Bool, ℕ, eqb, ltb}
 use Rattle.refusals.specs.Numbers as refusals
 use Rattle.seqs.specs.Pick.{pick}
-use Rattle.fields.specs.Kinds.{archX64, archA64}
+use Rattle.fields.specs.Kinds.{arch_x64, arch_a64}
 use Rattle.naming.specs.Naming.{unbound}
 use Rattle.buffer.specs.declared.CodeBuffer.{CodeBuffer}
 use Rattle.buffer.specs.declared.Recorded.{Recorded}
@@ -13,63 +13,63 @@ abbrev pub none : ℕ
 none = unbound
 
 -- a relocation's target from here on is a label's: its number, and this
-abbrev pub labelTarget : ℕ
-labelTarget = 2147483648
+abbrev pub label_target : ℕ
+label_target = 2147483648
 
 -- the architectures that keep events and refs: "On X64 each alignment records an event, length 0 too, and jumps and refs are kept"
-unfoldable pub keepsEvents : ℕ → Bool
-keepsEvents arch = eqb arch archX64
+unfoldable pub keeps_events : ℕ → Bool
+keeps_events arch = eqb arch arch_x64
 
 -- "x86 pads with NOPs, AArch64 with zeros."
-abbrev pub zeroPadded : ℕ → Bool
-zeroPadded arch = eqb arch archA64
+abbrev pub zero_padded : ℕ → Bool
+zero_padded arch = eqb arch arch_a64
 
 -- the recording with one count, or the first refusal, anew
-abbrev pub withRefusal : CodeBuffer → ℕ → CodeBuffer
-withRefusal b n = record { arch = b.arch; symbols = b.symbols; finished = b.finished; refusal = n; code = b.code; labels = b.labels; events = b.events; uses = b.uses; refs = b.refs; constants = b.constants; asked = b.asked; relocs = b.relocs; unresolved = b.unresolved }
+abbrev pub with_refusal : CodeBuffer → ℕ → CodeBuffer
+with_refusal b n = record { arch = b.arch; symbols = b.symbols; finished = b.finished; refusal = n; code = b.code; labels = b.labels; events = b.events; uses = b.uses; refs = b.refs; constants = b.constants; asked = b.asked; relocs = b.relocs; unresolved = b.unresolved }
 
 abbrev pub with_code : CodeBuffer → ℕ → CodeBuffer
 with_code b n = record { arch = b.arch; symbols = b.symbols; finished = b.finished; refusal = b.refusal; code = n; labels = b.labels; events = b.events; uses = b.uses; refs = b.refs; constants = b.constants; asked = b.asked; relocs = b.relocs; unresolved = b.unresolved }
 
-abbrev pub withLabels : CodeBuffer → ℕ → CodeBuffer
-withLabels b n = record { arch = b.arch; symbols = b.symbols; finished = b.finished; refusal = b.refusal; code = b.code; labels = n; events = b.events; uses = b.uses; refs = b.refs; constants = b.constants; asked = b.asked; relocs = b.relocs; unresolved = b.unresolved }
+abbrev pub with_labels : CodeBuffer → ℕ → CodeBuffer
+with_labels b n = record { arch = b.arch; symbols = b.symbols; finished = b.finished; refusal = b.refusal; code = b.code; labels = n; events = b.events; uses = b.uses; refs = b.refs; constants = b.constants; asked = b.asked; relocs = b.relocs; unresolved = b.unresolved }
 
-abbrev pub withEvents : CodeBuffer → ℕ → CodeBuffer
-withEvents b n = record { arch = b.arch; symbols = b.symbols; finished = b.finished; refusal = b.refusal; code = b.code; labels = b.labels; events = n; uses = b.uses; refs = b.refs; constants = b.constants; asked = b.asked; relocs = b.relocs; unresolved = b.unresolved }
+abbrev pub with_events : CodeBuffer → ℕ → CodeBuffer
+with_events b n = record { arch = b.arch; symbols = b.symbols; finished = b.finished; refusal = b.refusal; code = b.code; labels = b.labels; events = n; uses = b.uses; refs = b.refs; constants = b.constants; asked = b.asked; relocs = b.relocs; unresolved = b.unresolved }
 
-abbrev pub withUses : CodeBuffer → ℕ → CodeBuffer
-withUses b n = record { arch = b.arch; symbols = b.symbols; finished = b.finished; refusal = b.refusal; code = b.code; labels = b.labels; events = b.events; uses = n; refs = b.refs; constants = b.constants; asked = b.asked; relocs = b.relocs; unresolved = b.unresolved }
+abbrev pub with_uses : CodeBuffer → ℕ → CodeBuffer
+with_uses b n = record { arch = b.arch; symbols = b.symbols; finished = b.finished; refusal = b.refusal; code = b.code; labels = b.labels; events = b.events; uses = n; refs = b.refs; constants = b.constants; asked = b.asked; relocs = b.relocs; unresolved = b.unresolved }
 
-abbrev pub withRefs : CodeBuffer → ℕ → CodeBuffer
-withRefs b n = record { arch = b.arch; symbols = b.symbols; finished = b.finished; refusal = b.refusal; code = b.code; labels = b.labels; events = b.events; uses = b.uses; refs = n; constants = b.constants; asked = b.asked; relocs = b.relocs; unresolved = b.unresolved }
+abbrev pub with_refs : CodeBuffer → ℕ → CodeBuffer
+with_refs b n = record { arch = b.arch; symbols = b.symbols; finished = b.finished; refusal = b.refusal; code = b.code; labels = b.labels; events = b.events; uses = b.uses; refs = n; constants = b.constants; asked = b.asked; relocs = b.relocs; unresolved = b.unresolved }
 
-abbrev pub withConstants : CodeBuffer → ℕ → CodeBuffer
-withConstants b n = record { arch = b.arch; symbols = b.symbols; finished = b.finished; refusal = b.refusal; code = b.code; labels = b.labels; events = b.events; uses = b.uses; refs = b.refs; constants = n; asked = b.asked; relocs = b.relocs; unresolved = b.unresolved }
+abbrev pub with_constants : CodeBuffer → ℕ → CodeBuffer
+with_constants b n = record { arch = b.arch; symbols = b.symbols; finished = b.finished; refusal = b.refusal; code = b.code; labels = b.labels; events = b.events; uses = b.uses; refs = b.refs; constants = n; asked = b.asked; relocs = b.relocs; unresolved = b.unresolved }
 
-abbrev pub withAsked : CodeBuffer → ℕ → CodeBuffer
-withAsked b n = record { arch = b.arch; symbols = b.symbols; finished = b.finished; refusal = b.refusal; code = b.code; labels = b.labels; events = b.events; uses = b.uses; refs = b.refs; constants = b.constants; asked = n; relocs = b.relocs; unresolved = b.unresolved }
+abbrev pub with_asked : CodeBuffer → ℕ → CodeBuffer
+with_asked b n = record { arch = b.arch; symbols = b.symbols; finished = b.finished; refusal = b.refusal; code = b.code; labels = b.labels; events = b.events; uses = b.uses; refs = b.refs; constants = b.constants; asked = n; relocs = b.relocs; unresolved = b.unresolved }
 
-abbrev pub withRelocs : CodeBuffer → ℕ → CodeBuffer
-withRelocs b n = record { arch = b.arch; symbols = b.symbols; finished = b.finished; refusal = b.refusal; code = b.code; labels = b.labels; events = b.events; uses = b.uses; refs = b.refs; constants = b.constants; asked = b.asked; relocs = n; unresolved = b.unresolved }
+abbrev pub with_relocs : CodeBuffer → ℕ → CodeBuffer
+with_relocs b n = record { arch = b.arch; symbols = b.symbols; finished = b.finished; refusal = b.refusal; code = b.code; labels = b.labels; events = b.events; uses = b.uses; refs = b.refs; constants = b.constants; asked = b.asked; relocs = n; unresolved = b.unresolved }
 
-abbrev pub withOpen : CodeBuffer → ℕ → CodeBuffer
-withOpen b n = record { arch = b.arch; symbols = b.symbols; finished = b.finished; refusal = b.refusal; code = b.code; labels = b.labels; events = b.events; uses = b.uses; refs = b.refs; constants = b.constants; asked = b.asked; relocs = b.relocs; unresolved = n }
+abbrev pub with_open : CodeBuffer → ℕ → CodeBuffer
+with_open b n = record { arch = b.arch; symbols = b.symbols; finished = b.finished; refusal = b.refusal; code = b.code; labels = b.labels; events = b.events; uses = b.uses; refs = b.refs; constants = b.constants; asked = b.asked; relocs = b.relocs; unresolved = n }
 
 -- Numbers 1 to 5 are not recorded; 6 to 12 are, but for those of a bind, which leaves the recording as it is. Once number 1 is past the recording then
 -- answers every call with the first one.
 unfoldable pub refusing : CodeBuffer → ℕ → CodeBuffer
-refusing b why = pick (ltb why refusals.firstRecorded) b (withRefusal b why)
+refusing b why = pick (ltb why refusals.first_recorded) b (with_refusal b why)
 
 -- a call that is turned down, and one that is not
-abbrev pub turnedDown : CodeBuffer → ℕ → Recorded
-turnedDown b why = record { buffer = refusing b why; refusal = why }
+abbrev pub turned_down : CodeBuffer → ℕ → Recorded
+turned_down b why = record { buffer = refusing b why; refusal = why }
 
 abbrev pub accepted : CodeBuffer → Recorded
 accepted b = record { buffer = b; refusal = 0 }
 
 -- the same of a call for a label or a constant
-abbrev pub noneMade : CodeBuffer → ℕ → Made
-noneMade b why = record { buffer = refusing b why; refusal = why; number = none }
+abbrev pub none_made : CodeBuffer → ℕ → Made
+none_made b why = record { buffer = refusing b why; refusal = why; number = none }
 
 abbrev pub made : CodeBuffer → ℕ → Made
 made b number = record { buffer = b; refusal = 0; number = number }

@@ -2,68 +2,68 @@
 use Rattle.std.specs.Prelude.{ℕ}
 
 -- the limits: entries of a table, bytes of code, the last offset in it, bytes of a constant, the largest alignment
-abbrev pub mostEntries : ℕ
-mostEntries = 65536
+abbrev pub most_entries : ℕ
+most_entries = 65536
 
-abbrev pub mostCode : ℕ
-mostCode = 16777216
+abbrev pub most_code : ℕ
+most_code = 16777216
 
-abbrev pub lastOffset : ℕ
-lastOffset = 16777215
+abbrev pub last_offset : ℕ
+last_offset = 16777215
 
-abbrev pub mostConstant : ℕ
-mostConstant = 64
+abbrev pub most_constant : ℕ
+most_constant = 64
 
-abbrev pub mostAlignment : ℕ
-mostAlignment = 4096
+abbrev pub most_alignment : ℕ
+most_alignment = 4096
 
 -- the most bytes that an alignment may spend where nothing else is said (document 02, Request Seven)
-abbrev pub defaultMost : ℕ
-defaultMost = 4095
+abbrev pub default_most : ℕ
+default_most = 4095
 
 -- the most entries that may be open: uses, refs, events and relocations are 65,536 each
-abbrev pub mostOpen : ℕ
-mostOpen = 262144
+abbrev pub most_open : ℕ
+most_open = 262144
 
 -- the last kind of relocation, in the order of asmkit's `Reloc`
-abbrev pub lastReloc : ℕ
-lastReloc = 27
+abbrev pub last_reloc : ℕ
+last_reloc = 27
 
 -- a label: its offset
-abbrev pub labelSize : ℕ
-labelSize = 4
+abbrev pub label_size : ℕ
+label_size = 4
 
 -- a use: offset, label, code
-abbrev pub useWords : ℕ
-useWords = 3
+abbrev pub use_words : ℕ
+use_words = 3
 
-abbrev pub useSize : ℕ
-useSize = 12
+abbrev pub use_size : ℕ
+use_size = 12
 
 -- a ref: offset, label, code, addend
-abbrev pub refWords : ℕ
-refWords = 4
+abbrev pub ref_words : ℕ
+ref_words = 4
 
-abbrev pub refSize : ℕ
-refSize = 16
+abbrev pub ref_size : ℕ
+ref_size = 16
 
 -- a constant: size and label, which come first, and 64 bytes
-abbrev pub constantWords : ℕ
-constantWords = 18
+abbrev pub constant_words : ℕ
+constant_words = 18
 
-abbrev pub constantSize : ℕ
-constantSize = 72
+abbrev pub constant_size : ℕ
+constant_size = 72
 
-abbrev pub constantHead : ℕ
-constantHead = 8
+abbrev pub constant_head : ℕ
+constant_head = 8
 
 -- an asking: the constant's number
-abbrev pub askedSize : ℕ
-askedSize = 4
+abbrev pub asked_size : ℕ
+asked_size = 4
 
 -- a relocation: offset, kind, target, 0, and the addend's two halves, low first
-abbrev pub relocWords : ℕ
-relocWords = 6
+abbrev pub reloc_words : ℕ
+reloc_words = 6
 
-abbrev pub relocSize : ℕ
-relocSize = 24
+abbrev pub reloc_size : ℕ
+reloc_size = 24

@@ -1,11 +1,11 @@
 // Bytes and padding: what appends to the code.
 ghost use Rattle.std.specs.Prelude.{◌≡◌, ◌+◌, ◌*◌, ◌<◌, ◌≤◌, length, replicate, true};
-ghost use Rattle.buffer.specs.Refusals.{whyBytes, isAlignment, whyAlign};
-ghost use Rattle.buffer.specs.Calls.{putBytes, padding, alignedEvents, alignTo};
-ghost use Rattle.buffer.specs.Tables.{mostEntries, mostCode, defaultMost};
-ghost use Rattle.buffer.specs.steps.Aligned.{alignedTables, alignedCounts};
-ghost use Rattle.relax.specs.Events.{eventSize};
-ghost use Rattle.buffer.specs.State.{keepsEvents};
+ghost use Rattle.buffer.specs.Refusals.{why_bytes, is_alignment, why_align};
+ghost use Rattle.buffer.specs.Calls.{put_bytes, padding, aligned_events, align_to};
+ghost use Rattle.buffer.specs.Tables.{most_entries, most_code, default_most};
+ghost use Rattle.buffer.specs.steps.Aligned.{aligned_tables, aligned_counts};
+ghost use Rattle.relax.specs.Events.{event_size};
+ghost use Rattle.buffer.specs.State.{keeps_events};
 
 use crate::{
     CodeBuffer, DEFAULT_MOST, MOST_ALIGNMENT, MOST_CODE, MOST_ENTRIES, Recorded, Spent, both,
@@ -13,7 +13,7 @@ use crate::{
 
 // A power of two, at most 4,096.
 pub fn is_alignment(n: u32) -> bool
-    ensures { result ≡ isAlignment n }
+    ensures { result ≡ is_alignment n }
 {
     if n == 0 {
         return false;
@@ -44,7 +44,7 @@ pub fn pad(arch: u32, part: &mut [u8])
 
 impl CodeBuffer {
     fn why_no_bytes(self, lent: usize, n: usize) -> u32
-        ensures { result ≡ whyBytes self lent n }
+        ensures { result ≡ why_bytes self lent n }
     {
         let at = self.code as usize;
         let why = self.standing(at <= lent, lent <= MOST_CODE);
@@ -59,7 +59,7 @@ impl CodeBuffer {
 
     // Appends bytes.
     pub fn put_bytes(mut self, code: &mut [u8], bytes: &[u8]) -> Recorded
-        ensures { (result, code.new) ≡ putBytes self code.old bytes.now }
+        ensures { (result, code.new) ≡ put_bytes self code.old bytes.now }
     {
         let why = self.why_no_bytes(code.len(), bytes.len());
         if why != 0 {
@@ -76,7 +76,7 @@ impl CodeBuffer {
     }
 
     fn why_not_align(self, lent: usize, room: usize, multiple: u32, most: u32) -> u32
-        ensures { result ≡ whyAlign self lent room multiple most }
+        ensures { result ≡ why_align self lent room multiple most }
     {
         let at = self.code as usize;
         let n = self.events as usize;
@@ -101,8 +101,8 @@ impl CodeBuffer {
 
     // On X64 every alignment is an event, one that takes no bytes too.
     fn put_alignment(self, events: &mut [u8], multiple: u32, most: u32)
-        requires { keepsEvents self.arch ≡ true → self.events * eventSize + eventSize ≤ length events.old }
-        ensures { events.new ≡ (alignedEvents self events.old multiple most).1 }
+        requires { keeps_events self.arch ≡ true → self.events * event_size + event_size ≤ length events.old }
+        ensures { events.new ≡ (aligned_events self events.old multiple most).1 }
     {
         if !crate::keeps_events(self.arch) {
             return;
@@ -121,7 +121,7 @@ impl CodeBuffer {
     // What an alignment does to the tables, and what it spends there. This is a function of its own, and hands back two numbers and not the counts, so
     // that the loop over a sheet's calls keeps these in registers: with all of an alignment in one function a sheet takes a quarter longer.
     fn align_tables(self, code: &mut [u8], events: &mut [u8], multiple: u32, most: u32) -> Spent
-        ensures { (result, (code.new, events.new)) ≡ alignedTables self code.old events.old multiple most }
+        ensures { (result, (code.new, events.new)) ≡ aligned_tables self code.old events.old multiple most }
     {
         let refusal = self.why_not_align(
             code.len(),
@@ -142,8 +142,8 @@ impl CodeBuffer {
 
     // The recording after an alignment of its tables.
     fn aligned(mut self, spent: Spent) -> Recorded
-        requires { spent.refusal ≡ 0 → (self.code + spent.len ≤ mostCode) × (keepsEvents self.arch ≡ true → self.events < mostEntries) }
-        ensures { result ≡ alignedCounts self spent }
+        requires { spent.refusal ≡ 0 → (self.code + spent.len ≤ most_code) × (keeps_events self.arch ≡ true → self.events < most_entries) }
+        ensures { result ≡ aligned_counts self spent }
     {
         if spent.refusal != 0 {
             return self.turn_down(spent.refusal);
@@ -160,7 +160,7 @@ impl CodeBuffer {
 
     // Pads the code to a multiple.
     pub fn try_align_to(mut self, code: &mut [u8], events: &mut [u8], multiple: u32) -> Recorded
-        ensures { (result, (code.new, events.new)) ≡ alignTo self code.old events.old multiple defaultMost }
+        ensures { (result, (code.new, events.new)) ≡ align_to self code.old events.old multiple default_most }
     {
         let spent = self.align_tables(code, events, multiple, DEFAULT_MOST);
         self.aligned(spent)
@@ -174,7 +174,7 @@ impl CodeBuffer {
         multiple: u32,
         most: u32,
     ) -> Recorded
-        ensures { (result, (code.new, events.new)) ≡ alignTo self code.old events.old multiple most }
+        ensures { (result, (code.new, events.new)) ≡ align_to self code.old events.old multiple most }
     {
         let spent = self.align_tables(code, events, multiple, most);
         self.aligned(spent)

@@ -1,11 +1,11 @@
 // Constants, and their labels. An entry is size, label (or `NONE`) and 64 bytes; the table of askings lists the constants that have labels, in order.
 ghost use Rattle.std.specs.Prelude.{◌≡◌, ◌+◌, ◌*◌, ◌/◌, ◌≤◌, length};
 ghost use Rattle.seqs.specs.Over.{over};
-ghost use Rattle.words.specs.Words.{setWord};
+ghost use Rattle.words.specs.Words.{set_word};
 ghost use Rattle.buffer.specs.State.{none};
-ghost use Rattle.buffer.specs.Refusals.{whyConstant, whyConstantLabel};
-ghost use Rattle.buffer.specs.Calls.{addConstant, askedFirst, constantLabel};
-ghost use Rattle.buffer.specs.Tables.{mostConstant, labelSize, constantWords, constantSize, constantHead, askedSize};
+ghost use Rattle.buffer.specs.Refusals.{why_constant, why_constant_label};
+ghost use Rattle.buffer.specs.Calls.{add_constant, asked_first, constant_label};
+ghost use Rattle.buffer.specs.Tables.{most_constant, label_size, constant_words, constant_size, constant_head, asked_size};
 
 use crate::{
     ASKED_SIZE, CONSTANT_HEAD, CONSTANT_SIZE, CONSTANT_WORDS, CodeBuffer, LABEL_SIZE,
@@ -13,8 +13,8 @@ use crate::{
 };
 
 fn put_constant(constants: &mut [u8], i: usize, bytes: &[u8])
-    requires { (i * constantSize + constantSize ≤ length constants.old) × (length bytes.now ≤ mostConstant) }
-    ensures { constants.new ≡ over (setWord (setWord constants.old (i * constantWords) (length bytes.now)) (i * constantWords + 1) none) (i * constantSize + constantHead) bytes.now }
+    requires { (i * constant_size + constant_size ≤ length constants.old) × (length bytes.now ≤ most_constant) }
+    ensures { constants.new ≡ over (set_word (set_word constants.old (i * constant_words) (length bytes.now)) (i * constant_words + 1) none) (i * constant_size + constant_head) bytes.now }
 {
     words::put_word(constants, i * CONSTANT_WORDS, bytes.len() as u32);
     words::put_word(constants, i * CONSTANT_WORDS + 1, NONE);
@@ -25,7 +25,7 @@ fn put_constant(constants: &mut [u8], i: usize, bytes: &[u8])
 
 impl CodeBuffer {
     fn why_no_constant(self, room: usize, n: usize) -> u32
-        ensures { result ≡ whyConstant self room n }
+        ensures { result ≡ why_constant self room n }
     {
         let count = self.constants as usize;
         let why = self.standing(count <= room, room <= MOST_ENTRIES);
@@ -43,7 +43,7 @@ impl CodeBuffer {
 
     // A new constant, without a label.
     pub fn add_constant(mut self, constants: &mut [u8], bytes: &[u8]) -> Made
-        ensures { (result, constants.new) ≡ addConstant self constants.old bytes.now }
+        ensures { (result, constants.new) ≡ add_constant self constants.old bytes.now }
     {
         let why = self.why_no_constant(constants.len() / CONSTANT_SIZE, bytes.len());
         if why != 0 {
@@ -66,7 +66,7 @@ impl CodeBuffer {
         labels: usize,
         constant: u32,
     ) -> u32
-        ensures { result ≡ whyConstantLabel self constants asked labels constant }
+        ensures { result ≡ why_constant_label self constants asked labels constant }
     {
         let fit = both(
             self.constants as usize <= constants,
@@ -94,8 +94,8 @@ impl CodeBuffer {
         labels: &mut [u8],
         constant: u32,
     ) -> Made
-        requires { whyConstantLabel self (length constants.old / constantSize) (length asked.old / askedSize) (length labels.old / labelSize) constant ≡ 0 }
-        ensures { (result, (constants.new, (asked.new, labels.new))) ≡ askedFirst self constants.old asked.old labels.old constant }
+        requires { why_constant_label self (length constants.old / constant_size) (length asked.old / asked_size) (length labels.old / label_size) constant ≡ 0 }
+        ensures { (result, (constants.new, (asked.new, labels.new))) ≡ asked_first self constants.old asked.old labels.old constant }
     {
         let label = self.labels;
         let place = self.asked;
@@ -125,7 +125,7 @@ impl CodeBuffer {
         labels: &mut [u8],
         constant: u32,
     ) -> Made
-        ensures { (result, (constants.new, (asked.new, labels.new))) ≡ constantLabel self constants.old asked.old labels.old constant }
+        ensures { (result, (constants.new, (asked.new, labels.new))) ≡ constant_label self constants.old asked.old labels.old constant }
     {
         let why = self.why_no_constant_label(
             constants.len() / CONSTANT_SIZE,

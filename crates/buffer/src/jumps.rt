@@ -1,17 +1,17 @@
 // Jumps that relaxation may shrink or grow: events, kept on X64.
 ghost use Rattle.std.specs.Prelude.{◌≡◌, ◌*◌, ◌≤◌, length};
-ghost use Rattle.buffer.specs.Refusals.{last_end, labelInside, jumpMalformed, jumpUnfit, whyJump};
-ghost use Rattle.buffer.specs.Calls.{recordJump};
-ghost use Rattle.buffer.specs.Tables.{labelSize};
+ghost use Rattle.buffer.specs.Refusals.{last_end, label_inside, jump_malformed, jump_unfit, why_jump};
+ghost use Rattle.buffer.specs.Calls.{record_jump};
+ghost use Rattle.buffer.specs.Tables.{label_size};
 ghost use Rattle.buffer.specs.steps.Below.{Told};
-ghost use Rattle.relax.specs.Events.{eventSize};
+ghost use Rattle.relax.specs.Events.{event_size};
 
 use crate::open::opened;
 use crate::{CodeBuffer, LABEL_SIZE, MOST_ENTRIES, NONE, Recorded, both, either};
 
 // The end of the last of `n` events.
 pub fn last_end(events: &[u8], n: usize) -> u64
-    requires { n * eventSize ≤ length events.now }
+    requires { n * event_size ≤ length events.now }
     ensures { result ≡ last_end events.now n }
 {
     if n == 0 {
@@ -22,8 +22,8 @@ pub fn last_end(events: &[u8], n: usize) -> u64
 
 // One of the first `n` labels is bound strictly between two offsets. The scan looks at every label, so that it compiles to vector instructions.
 fn label_inside(labels: &[u8], n: usize, start: u32, end: u32) -> bool
-    requires { n * labelSize ≤ length labels.now }
-    ensures { result ≡ labelInside labels.now n start end }
+    requires { n * label_size ≤ length labels.now }
+    ensures { result ≡ label_inside labels.now n start end }
 {
     let mut found = false;
     let mut i: usize = 0;
@@ -37,7 +37,7 @@ fn label_inside(labels: &[u8], n: usize, start: u32, end: u32) -> bool
 
 // It does not end at `code`, or its length is not 2 to 15, or its condition is above 16.
 fn is_malformed(code: u32, start: u32, len: u32, cc: u32) -> bool
-    ensures { result ≡ jumpMalformed code start len cc }
+    ensures { result ≡ jump_malformed code start len cc }
 {
     if start as u64 + len as u64 != code as u64 {
         return true;
@@ -62,8 +62,8 @@ impl CodeBuffer {
         cc: u32,
         nearest: u32,
     ) -> bool
-        requires { (self.labels * labelSize ≤ length labels.now) × (self.events * eventSize ≤ length events.now) × Told labels.now self.labels self.code nearest }
-        ensures { result ≡ jumpUnfit self labels.now events.now start len cc }
+        requires { (self.labels * label_size ≤ length labels.now) × (self.events * event_size ≤ length events.now) × Told labels.now self.labels self.code nearest }
+        ensures { result ≡ jump_unfit self labels.now events.now start len cc }
     {
         if is_malformed(self.code, start, len, cc) {
             return true;
@@ -88,7 +88,7 @@ impl CodeBuffer {
         nearest: u32,
     ) -> u32
         requires { Told labels.now self.labels self.code nearest }
-        ensures { result ≡ whyJump self labels.now events.now start len label cc }
+        ensures { result ≡ why_jump self labels.now events.now start len label cc }
     {
         let known = labels.len() / LABEL_SIZE;
         let room = events.len() / relax::EVENT_SIZE;
@@ -126,7 +126,7 @@ impl CodeBuffer {
         nearest: u32,
     ) -> Recorded
         requires { Told labels.now self.labels self.code nearest }
-        ensures { (result, events.new) ≡ recordJump self labels.now events.old start len label cc }
+        ensures { (result, events.new) ≡ record_jump self labels.now events.old start len label cc }
     {
         let why = self.why_not_jump(labels, events, start, len, label, cc, nearest);
         if why != 0 {
@@ -159,7 +159,7 @@ impl CodeBuffer {
         label: u32,
         cc: u32,
     ) -> Recorded
-        ensures { (result, events.new) ≡ recordJump self labels.now events.old start len label cc }
+        ensures { (result, events.new) ≡ record_jump self labels.now events.old start len label cc }
     {
         self.record_jump(labels, events, start, len, label, cc, NONE)
     }

@@ -1,7 +1,7 @@
 // Labels: made and bound. An entry of the table is the label's offset, or `NONE`.
 ghost use Rattle.std.specs.Prelude.{◌≡◌};
-ghost use Rattle.buffer.specs.Refusals.{whyLabel, whyBind};
-ghost use Rattle.buffer.specs.Calls.{getLabel, bindLabel};
+ghost use Rattle.buffer.specs.Refusals.{why_label, why_bind};
+ghost use Rattle.buffer.specs.Calls.{get_label, bind_label};
 
 use crate::open::namers_within;
 use crate::{
@@ -11,7 +11,7 @@ use crate::{
 
 impl CodeBuffer {
     fn why_no_label(self, room: usize) -> u32
-        ensures { result ≡ whyLabel self room }
+        ensures { result ≡ why_label self room }
     {
         let n = self.labels as usize;
         let why = self.standing(n <= room, room <= MOST_ENTRIES);
@@ -26,7 +26,7 @@ impl CodeBuffer {
 
     // A new label, not bound yet.
     pub fn get_label(mut self, labels: &mut [u8]) -> Made
-        ensures { (result, labels.new) ≡ getLabel self labels.old }
+        ensures { (result, labels.new) ≡ get_label self labels.old }
     {
         let why = self.why_no_label(labels.len() / LABEL_SIZE);
         if why != 0 {
@@ -52,7 +52,7 @@ impl CodeBuffer {
         relocs: usize,
         label: u32,
     ) -> u32
-        ensures { result ≡ whyBind self labels.now events uses refs relocs label }
+        ensures { result ≡ why_bind self labels.now events uses refs relocs label }
     {
         let room = labels.len() / LABEL_SIZE;
         let fit = both(
@@ -86,7 +86,7 @@ impl CodeBuffer {
         relocs: &[u8],
         label: u32,
     ) -> Recorded
-        ensures { (result, labels.new) ≡ bindLabel self labels.old events.now uses.now refs.now relocs.now label }
+        ensures { (result, labels.new) ≡ bind_label self labels.old events.now uses.now refs.now relocs.now label }
     {
         let why = self.why_not_bind(
             labels,

@@ -1,10 +1,10 @@
 // `CodeBuffer`: a recording's counts, and the calls that record. After asmkit's core/buffer.rs (see NOTICE).
 // The tables are lent by the caller as byte slices, whole entries of little-endian words; their lengths are their capacities.
 ghost use Rattle.std.specs.Prelude.{◌≡◌, ◌&&◌, ◌||◌, leb, ◌<◌, ◌≤◌};
-ghost use Rattle.buffer.specs.State.{keepsEvents, turnedDown, noneMade};
-ghost use Rattle.buffer.specs.Refusals.{archOccurs, refusalOccurs, standing};
+ghost use Rattle.buffer.specs.State.{keeps_events, turned_down, none_made};
+ghost use Rattle.buffer.specs.Refusals.{arch_occurs, refusal_occurs, standing};
 ghost use Rattle.buffer.specs.Calls.{started};
-ghost use Rattle.buffer.specs.Tables.{mostOpen};
+ghost use Rattle.buffer.specs.Tables.{most_open};
 
 pub mod bytes;
 mod constants;
@@ -138,13 +138,13 @@ pub fn either(a: bool, b: bool) -> bool
 
 // The architectures that keep events and refs.
 pub fn keeps_events(arch: u32) -> bool
-    ensures { result ≡ keepsEvents arch }
+    ensures { result ≡ keeps_events arch }
 {
     arch == fields::X64
 }
 
 pub fn arch_occurs(arch: u32) -> bool
-    ensures { result ≡ archOccurs arch }
+    ensures { result ≡ arch_occurs arch }
 {
     if arch == fields::X86 {
         return true;
@@ -156,7 +156,7 @@ pub fn arch_occurs(arch: u32) -> bool
 }
 
 fn refusal_occurs(n: u32) -> bool
-    ensures { result ≡ refusalOccurs n }
+    ensures { result ≡ refusal_occurs n }
 {
     if n == 0 {
         return true;
@@ -216,7 +216,7 @@ impl CodeBuffer {
     }
 
     fn is_sound(self, fit: bool) -> bool
-        ensures { result ≡ (archOccurs self.arch && refusalOccurs self.refusal && leb self.unresolved mostOpen && fit) }
+        ensures { result ≡ (arch_occurs self.arch && refusal_occurs self.refusal && leb self.unresolved most_open && fit) }
     {
         let known = both(arch_occurs(self.arch), refusal_occurs(self.refusal));
         both(both(known, self.unresolved <= MOST_OPEN), fit)
@@ -244,7 +244,7 @@ impl CodeBuffer {
 
     // A call that is turned down: numbers from 6 on are recorded.
     pub(crate) fn turn_down(mut self, why: u32) -> Recorded
-        ensures { result ≡ turnedDown self why }
+        ensures { result ≡ turned_down self why }
     {
         if why < refusals::FIRST_RECORDED {
             return Recorded {
@@ -261,7 +261,7 @@ impl CodeBuffer {
 
     // The same of a call for a label or a constant.
     pub(crate) fn make_none(self, why: u32) -> Made
-        ensures { result ≡ noneMade self why }
+        ensures { result ≡ none_made self why }
     {
         let answer = self.turn_down(why);
         let buffer = answer.buffer;

@@ -1,10 +1,10 @@
 // How many entries are open: uses, refs, jumps and label relocations that name a label which is not bound, or not known.
 ghost use Rattle.std.specs.Prelude.{◌≡◌, ◌+◌, ◌-◌, ◌*◌, ◌≤◌, ◌<◌, length};
-ghost use Rattle.buffer.specs.State.{labelTarget};
-ghost use Rattle.buffer.specs.Refusals.{namersFit, namersWithin};
-ghost use Rattle.buffer.specs.Open.{opened, targetOpened, named, settled};
-ghost use Rattle.buffer.specs.Tables.{labelSize};
-ghost use Rattle.buffer.specs.steps.Count.{NamersFit, openCount};
+ghost use Rattle.buffer.specs.State.{label_target};
+ghost use Rattle.buffer.specs.Refusals.{namers_fit, namers_within};
+ghost use Rattle.buffer.specs.Open.{opened, target_opened, named, settled};
+ghost use Rattle.buffer.specs.Tables.{label_size};
+ghost use Rattle.buffer.specs.steps.Count.{NamersFit, open_count};
 
 use crate::{
     CodeBuffer, LABEL_TARGET, MOST_ENTRIES, NONE, REF_WORDS, RELOC_WORDS, USE_WORDS, both,
@@ -12,7 +12,7 @@ use crate::{
 
 // 1 where the label is not bound.
 pub(crate) fn opened(labels: &[u8], label: u32) -> u32
-    requires { label * labelSize + labelSize ≤ length labels.now }
+    requires { label * label_size + label_size ≤ length labels.now }
     ensures { (result ≡ opened labels.now label) × (result ≤ 1) }
 {
     if words::word_at(labels, label as usize) == NONE {
@@ -23,8 +23,8 @@ pub(crate) fn opened(labels: &[u8], label: u32) -> u32
 
 // The same of a relocation's target, where that is a label's.
 pub(crate) fn target_opened(labels: &[u8], target: u32) -> u32
-    requires { (labelTarget ≤ target) → (target - labelTarget) * labelSize + labelSize ≤ length labels.now }
-    ensures { (result ≡ targetOpened labels.now target) × (result ≤ 1) }
+    requires { (label_target ≤ target) → (target - label_target) * label_size + label_size ≤ length labels.now }
+    ensures { (result ≡ target_opened labels.now target) × (result ≤ 1) }
 {
     if target < LABEL_TARGET {
         return 0;
@@ -34,7 +34,7 @@ pub(crate) fn target_opened(labels: &[u8], target: u32) -> u32
 
 // No more is lent of the tables that name labels than the limit; the numbers are entries.
 pub(crate) fn namers_within(events: usize, uses: usize, refs: usize, relocs: usize) -> bool
-    ensures { result ≡ namersWithin events uses refs relocs }
+    ensures { result ≡ namers_within events uses refs relocs }
 {
     let fields = both(refs <= MOST_ENTRIES, relocs <= MOST_ENTRIES);
     both(events <= MOST_ENTRIES, both(uses <= MOST_ENTRIES, fields))
@@ -43,7 +43,7 @@ pub(crate) fn namers_within(events: usize, uses: usize, refs: usize, relocs: usi
 impl CodeBuffer {
     // No count of those tables passes what is lent.
     pub(crate) fn namers_fit(self, events: usize, uses: usize, refs: usize, relocs: usize) -> bool
-        ensures { result ≡ namersFit self events uses refs relocs }
+        ensures { result ≡ namers_fit self events uses refs relocs }
     {
         let fields = both(self.refs as usize <= refs, self.relocs as usize <= relocs);
         both(
@@ -55,7 +55,7 @@ impl CodeBuffer {
     // How many entries name the label.
     fn named(self, events: &[u8], uses: &[u8], refs: &[u8], relocs: &[u8], label: u32) -> u32
         requires fact_1 { NamersFit self events.now uses.now refs.now relocs.now }
-        requires fact_2 { label < labelTarget }
+        requires fact_2 { label < label_target }
         ensures { result ≡ named self events.now uses.now refs.now relocs.now label }
     {
         let used = naming::naming(uses, self.uses as usize, USE_WORDS, 1, label);
@@ -76,7 +76,7 @@ impl CodeBuffer {
         label: u32,
     ) -> u32
         requires fact_1 { NamersFit self events.now uses.now refs.now relocs.now }
-        requires fact_2 { label < labelTarget }
+        requires fact_2 { label < label_target }
         ensures { result ≡ self.unresolved - settled self events.now uses.now refs.now relocs.now label }
     {
         if self.unresolved == 0 {
@@ -102,8 +102,8 @@ impl CodeBuffer {
         relocs: &[u8],
     ) -> u32
         requires fact_1 { NamersFit self events.now uses.now refs.now relocs.now }
-        requires fact_2 { self.labels * labelSize ≤ length labels.now }
-        ensures { result ≡ openCount self labels.now events.now uses.now refs.now relocs.now }
+        requires fact_2 { self.labels * label_size ≤ length labels.now }
+        ensures { result ≡ open_count self labels.now events.now uses.now refs.now relocs.now }
     {
         let known = self.labels as usize;
         let used = naming::open_entries(uses, self.uses as usize, USE_WORDS, 1, 0, labels, known);

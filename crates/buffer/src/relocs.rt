@@ -1,9 +1,9 @@
 // Relocations. An entry is offset, kind, target, 0, and the addend's two halves, low first.
 ghost use Rattle.std.specs.Prelude.{◌≡◌, ◌+◌, ◌*◌, ◌/◌, ◌%◌, ◌≤◌, length, get_or};
-ghost use Rattle.words.specs.Words.{setWord};
-ghost use Rattle.buffer.specs.Refusals.{relocArchs, foreignReloc, targetKnown, whyReloc};
-ghost use Rattle.buffer.specs.Calls.{addReloc};
-ghost use Rattle.buffer.specs.Tables.{relocWords, relocSize};
+ghost use Rattle.words.specs.Words.{set_word};
+ghost use Rattle.buffer.specs.Refusals.{reloc_archs, foreign_reloc, target_known, why_reloc};
+ghost use Rattle.buffer.specs.Calls.{add_reloc};
+ghost use Rattle.buffer.specs.Tables.{reloc_words, reloc_size};
 
 use crate::open::target_opened;
 use crate::{
@@ -18,7 +18,7 @@ const ARCHS: [u8; 28] = [
 
 // What `ARCHS` says of the kind; 3 past its end.
 fn arch_of_kind(kind: u32) -> u8
-    ensures { result ≡ get_or relocArchs kind 3 }
+    ensures { result ≡ get_or reloc_archs kind 3 }
 {
     if kind < 28 {
         return ARCHS[kind as usize];
@@ -27,7 +27,7 @@ fn arch_of_kind(kind: u32) -> u8
 }
 
 pub fn is_foreign_kind(kind: u32, arch: u32) -> bool
-    ensures { result ≡ foreignReloc kind arch }
+    ensures { result ≡ foreign_reloc kind arch }
 {
     let which = arch_of_kind(kind);
     if which == 0 {
@@ -47,8 +47,8 @@ pub fn is_foreign_kind(kind: u32, arch: u32) -> bool
 
 // Makes entry `i` of `relocs`.
 pub fn put_reloc(relocs: &mut [u8], i: usize, offset: u32, kind: u32, target: u32, addend: u64)
-    requires { i * relocSize + relocSize ≤ length relocs.old }
-    ensures { relocs.new ≡ setWord (setWord (setWord (setWord (setWord (setWord relocs.old (i * relocWords) offset) (i * relocWords + 1) kind) (i * relocWords + 2) target) (i * relocWords + 3) 0) (i * relocWords + 4) (addend % 4294967296)) (i * relocWords + 5) (addend / 4294967296) }
+    requires { i * reloc_size + reloc_size ≤ length relocs.old }
+    ensures { relocs.new ≡ set_word (set_word (set_word (set_word (set_word (set_word relocs.old (i * reloc_words) offset) (i * reloc_words + 1) kind) (i * reloc_words + 2) target) (i * reloc_words + 3) 0) (i * reloc_words + 4) (addend % 4294967296)) (i * reloc_words + 5) (addend / 4294967296) }
 {
     let k = i * RELOC_WORDS;
     words::put_word(relocs, k, offset);
@@ -62,7 +62,7 @@ pub fn put_reloc(relocs: &mut [u8], i: usize, offset: u32, kind: u32, target: u3
 impl CodeBuffer {
     // A target is a symbol, or a label + 2^31.
     pub fn is_known(self, target: u32) -> bool
-        ensures { result ≡ targetKnown self target }
+        ensures { result ≡ target_known self target }
     {
         if target < LABEL_TARGET {
             return target < self.symbols;
@@ -72,7 +72,7 @@ impl CodeBuffer {
 
     // `known` labels are lent, and room for `room` relocations.
     fn why_no_reloc(self, known: usize, room: usize, offset: u32, kind: u32, target: u32) -> u32
-        ensures { result ≡ whyReloc self known room offset kind target }
+        ensures { result ≡ why_reloc self known room offset kind target }
     {
         let n = self.relocs as usize;
         let formed = both(n <= room, kind <= LAST_RELOC);
@@ -108,7 +108,7 @@ impl CodeBuffer {
         target: u32,
         addend: u64,
     ) -> Recorded
-        ensures { (result, relocs.new) ≡ addReloc self labels.now relocs.old offset kind target addend }
+        ensures { (result, relocs.new) ≡ add_reloc self labels.now relocs.old offset kind target addend }
     {
         let why = self.why_no_reloc(
             labels.len() / LABEL_SIZE,

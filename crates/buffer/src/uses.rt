@@ -1,10 +1,10 @@
 // Uses of labels, the fields that name one, and the refs that X64 keeps of them. An entry of uses is offset, label and code; of refs, the addend too.
 ghost use Rattle.std.specs.Prelude.{◌≡◌, ◌+◌, ◌*◌, ◌≤◌, length};
-ghost use Rattle.words.specs.Words.{setWord};
+ghost use Rattle.words.specs.Words.{set_word};
 ghost use Rattle.fields.specs.Kinds.{decoded};
-ghost use Rattle.buffer.specs.Refusals.{foreign, whyUse, whyRef};
-ghost use Rattle.buffer.specs.Calls.{useLabel, recordRef};
-ghost use Rattle.buffer.specs.Tables.{useWords, useSize, refWords, refSize};
+ghost use Rattle.buffer.specs.Refusals.{foreign, why_use, why_ref};
+ghost use Rattle.buffer.specs.Calls.{use_label, record_ref};
+ghost use Rattle.buffer.specs.Tables.{use_words, use_size, ref_words, ref_size};
 
 use crate::open::opened;
 use crate::{
@@ -23,8 +23,8 @@ pub fn is_foreign(code: u32, arch: u32) -> bool
 }
 
 fn put_use(uses: &mut [u8], i: usize, offset: u32, label: u32, code: u32)
-    requires { i * useSize + useSize ≤ length uses.old }
-    ensures { uses.new ≡ setWord (setWord (setWord uses.old (i * useWords) offset) (i * useWords + 1) label) (i * useWords + 2) code }
+    requires { i * use_size + use_size ≤ length uses.old }
+    ensures { uses.new ≡ set_word (set_word (set_word uses.old (i * use_words) offset) (i * use_words + 1) label) (i * use_words + 2) code }
 {
     let k = i * USE_WORDS;
     words::put_word(uses, k, offset);
@@ -33,8 +33,8 @@ fn put_use(uses: &mut [u8], i: usize, offset: u32, label: u32, code: u32)
 }
 
 fn put_ref(refs: &mut [u8], i: usize, offset: u32, label: u32, code: u32, addend: u32)
-    requires { i * refSize + refSize ≤ length refs.old }
-    ensures { refs.new ≡ setWord (setWord (setWord (setWord refs.old (i * refWords) offset) (i * refWords + 1) label) (i * refWords + 2) code) (i * refWords + 3) addend }
+    requires { i * ref_size + ref_size ≤ length refs.old }
+    ensures { refs.new ≡ set_word (set_word (set_word (set_word refs.old (i * ref_words) offset) (i * ref_words + 1) label) (i * ref_words + 2) code) (i * ref_words + 3) addend }
 {
     let k = i * REF_WORDS;
     words::put_word(refs, k, offset);
@@ -46,7 +46,7 @@ fn put_ref(refs: &mut [u8], i: usize, offset: u32, label: u32, code: u32, addend
 impl CodeBuffer {
     // `known` labels are lent, and room for `room` uses.
     fn why_no_use(self, known: usize, room: usize, label: u32, code: u32) -> u32
-        ensures { result ≡ whyUse self known room label code }
+        ensures { result ≡ why_use self known room label code }
     {
         let n = self.uses as usize;
         let formed = both(n <= room, code <= fields::LAST_CODE);
@@ -81,7 +81,7 @@ impl CodeBuffer {
         label: u32,
         code: u32,
     ) -> Recorded
-        ensures { (result, uses.new) ≡ useLabel self labels.now uses.old offset label code }
+        ensures { (result, uses.new) ≡ use_label self labels.now uses.old offset label code }
     {
         let why = self.why_no_use(
             labels.len() / LABEL_SIZE,
@@ -106,7 +106,7 @@ impl CodeBuffer {
     }
 
     fn why_no_ref(self, known: usize, room: usize, label: u32, code: u32) -> u32
-        ensures { result ≡ whyRef self known room label code }
+        ensures { result ≡ why_ref self known room label code }
     {
         let n = self.refs as usize;
         let formed = both(n <= room, code <= fields::LAST_CODE);
@@ -142,7 +142,7 @@ impl CodeBuffer {
         code: u32,
         addend: u32,
     ) -> Recorded
-        ensures { (result, refs.new) ≡ recordRef self labels.now refs.old offset label code addend }
+        ensures { (result, refs.new) ≡ record_ref self labels.now refs.old offset label code addend }
     {
         let why = self.why_no_ref(
             labels.len() / LABEL_SIZE,

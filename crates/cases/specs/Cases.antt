@@ -4,19 +4,19 @@ use Rattle.std.specs.Prelude.{true, false, List, [], ◌∷◌, ◌++◌, ℕ, �
 use Rattle.refusals.specs.Numbers as refusals
 use Rattle.seqs.specs.Pick.{pick, or_else}
 use Rattle.words.specs.Words.{bytes_of}
-use Rattle.fields.specs.Kinds.{archX64, archA64}
+use Rattle.fields.specs.Kinds.{arch_x64, arch_a64}
 use Rattle.relax.specs.declared.LayoutEvent.{LayoutEvent}
 use Rattle.relax.specs.declared.LayoutEvent.TheVariants.{Align}
 use Rattle.buffer.specs.State.{none}
-use Rattle.buffer.specs.Tables.{mostEntries, mostCode, defaultMost}
+use Rattle.buffer.specs.Tables.{most_entries, most_code, default_most}
 use Rattle.recording.specs.View.{View}
-use Rattle.fresh.specs.Pooled.{Pooled, pooled, codeAlignment}
+use Rattle.fresh.specs.Pooled.{Pooled, pooled, code_alignment}
 use Rattle.fresh.specs.Forms.{moves}
 use Rattle.fresh.specs.Fresh.{Choice}
 use Rattle.fresh.specs.Rounds.{Settled, settled}
-use Rattle.fresh.specs.Fill.{part, assembled, inPlace}
+use Rattle.fresh.specs.Fill.{part, assembled, in_place}
 use Rattle.fresh.specs.Samples.{jmp, zeros}
-use Rattle.finish.specs.Refusals.{whyNotLaid, whyNotWritten, whyNotInPlace}
+use Rattle.finish.specs.Refusals.{why_not_laid, why_not_written, why_not_in_place}
 
 pub data Answer : Type 0 where
   -- finished length, alignment, layouts, long jumps, and the bytes that are looked at
@@ -31,33 +31,33 @@ pub record Row : Type 0 where
   pub count : ℕ
   pub expected : Answer
 
-abbrev pub longJumps : Choice → ℕ
-longJumps [] = 0
-longJumps (true ∷ c) = 1 + longJumps c
-longJumps (false ∷ c) = longJumps c
+abbrev pub long_jumps : Choice → ℕ
+long_jumps [] = 0
+long_jumps (true ∷ c) = 1 + long_jumps c
+long_jumps (false ∷ c) = long_jumps c
 
 -- finish with a jump, and without one, into an output and a table of segments as large as may be lent
-abbrev pub withJump : Pooled → Settled → ℕ → ℕ → Answer
-withJump p s from count =
-    let why = or_else (whyNotLaid p mostEntries) (whyNotWritten p mostCode) in
+abbrev pub with_jump : Pooled → Settled → ℕ → ℕ → Answer
+with_jump p s from count =
+    let why = or_else (why_not_laid p most_entries) (why_not_written p most_code) in
     let code = assembled p s.choice in
-    pick (eqb why 0) (finished (length code) (codeAlignment p.pool) s.rounds (longJumps s.choice) (part code from count)) (refused why)
+    pick (eqb why 0) (finished (length code) (code_alignment p.pool) s.rounds (long_jumps s.choice) (part code from count)) (refused why)
 
-abbrev pub withoutJump : Pooled → ℕ → ℕ → Answer
-withoutJump p from count =
-    let why = whyNotInPlace p mostCode in
-    pick (eqb why 0) (finished (length (inPlace p)) (codeAlignment p.pool) 0 0 (part (inPlace p) from count)) (refused why)
+abbrev pub without_jump : Pooled → ℕ → ℕ → Answer
+without_jump p from count =
+    let why = why_not_in_place p most_code in
+    pick (eqb why 0) (finished (length (in_place p)) (code_alignment p.pool) 0 0 (part (in_place p) from count)) (refused why)
 
 abbrev pub answer : Row → Answer
 answer r =
     let p = r.recording in
-    pick (moves p.events) (withJump p (settled p) r.from r.count) (withoutJump p r.from r.count)
+    pick (moves p.events) (with_jump p (settled p) r.from r.count) (without_jump p r.from r.count)
 
 -- on AArch64, a word at an offset with a use of it, and a label; zeros else
 abbrev pub usage : ℕ → ℕ → ℕ → ℕ → Pooled
 usage word offset code label =
     record {
-      arch = archA64;
+      arch = arch_a64;
       code = replicate offset 0 ++ (bytes_of word ++ replicate (label - (offset + 4)) 0);
       events = [];
       labels = label ∷ [];
@@ -67,10 +67,10 @@ usage word offset code label =
     }
 
 -- on AArch64, four zeros, then a word with two uses of it, of a label at 1 and of one at 2
-abbrev pub usedTwice : ℕ → ℕ → Pooled
-usedTwice word code =
+abbrev pub used_twice : ℕ → ℕ → Pooled
+used_twice word code =
     record {
-      arch = archA64;
+      arch = arch_a64;
       code = replicate 4 0 ++ bytes_of word;
       events = [];
       labels = 1 ∷ 2 ∷ [];
@@ -108,7 +108,7 @@ table =
     ∷ record { recording = zeros 133 (jmp 0 0 ∷ []) (133 ∷ []); from = 0; count = 0; expected = finished 133 32 2 1 [] }
     ∷ record { recording = zeros 138 (jmp 0 0 ∷ jmp 5 1 ∷ []) (135 ∷ 138 ∷ []); from = 0; count = 0; expected = finished 138 32 3 2 [] }
     ∷ record {
-      recording = zeros 16 (jmp 0 0 ∷ aligned 5 11 16 defaultMost ∷ []) (16 ∷ []);
+      recording = zeros 16 (jmp 0 0 ∷ aligned 5 11 16 default_most ∷ []) (16 ∷ []);
       from = 0;
       count = 16;
       expected = finished 16 32 1 0 (0xEB ∷ 0x0E ∷ 0x66 ∷ 0x0F ∷ 0x1F ∷ 0x84 ∷ 0 ∷ 0 ∷ 0 ∷ 0 ∷ 0 ∷ 0x0F ∷ 0x1F ∷ 0x44 ∷ 0 ∷ 0 ∷ []);
@@ -124,25 +124,25 @@ table =
     ∷ record { recording = usage 0x10000000 4 13 0; from = 4; count = 4; expected = finished 8 32 0 0 (bytes_of 0x10FFFFE0) }
     ∷ record { recording = usage 0x90000000 0x0FFC 14 0x1000; from = 0x0FFC; count = 4; expected = finished 0x1000 32 0 0 (bytes_of 0xB0000000) }
     ∷ record { recording = usage 0x91000000 0 16 0x0123; from = 0; count = 4; expected = finished 0x0123 32 0 0 (bytes_of 0x91048C00) }
-    ∷ record { recording = usage 0x54000000 0 10 6; from = 0; count = 4; expected = refused refusals.branchOutOfReach }
-    ∷ record { recording = usage 0x58000000 0 12 6; from = 0; count = 4; expected = refused refusals.labelTooFarAhead }
+    ∷ record { recording = usage 0x54000000 0 10 6; from = 0; count = 4; expected = refused refusals.branch_out_of_reach }
+    ∷ record { recording = usage 0x58000000 0 12 6; from = 0; count = 4; expected = refused refusals.label_too_far_ahead }
     ∷ record { recording = usage 0x91000400 4 16 2; from = 4; count = 4; expected = finished 8 32 0 0 (bytes_of 0x91000800) }
     ∷ record { recording = usage 0x91400000 0 16 0x0123; from = 0; count = 4; expected = finished 0x0123 32 0 0 (bytes_of 0x91448C00) }
-    ∷ record { recording = usedTwice 0x91000000 16; from = 4; count = 4; expected = finished 8 32 0 0 (bytes_of 0x91000800) }
+    ∷ record { recording = used_twice 0x91000000 16; from = 4; count = 4; expected = finished 8 32 0 0 (bytes_of 0x91000800) }
     ∷ record {
-      recording = pooled archX64 (constant (0xC3 ∷ []) [] (1 ∷ 2 ∷ 3 ∷ 4 ∷ 5 ∷ 6 ∷ 7 ∷ 8 ∷ []));
+      recording = pooled arch_x64 (constant (0xC3 ∷ []) [] (1 ∷ 2 ∷ 3 ∷ 4 ∷ 5 ∷ 6 ∷ 7 ∷ 8 ∷ []));
       from = 0;
       count = 16;
       expected = finished 16 32 0 0 (0xC3 ∷ 0x0F ∷ 0x1F ∷ 0x80 ∷ 0 ∷ 0 ∷ 0 ∷ 0 ∷ 1 ∷ 2 ∷ 3 ∷ 4 ∷ 5 ∷ 6 ∷ 7 ∷ 8 ∷ []);
     }
     ∷ record {
-      recording = pooled archA64 (constant (bytes_of 0xD65F03C0) [] (1 ∷ 2 ∷ 3 ∷ 4 ∷ 5 ∷ 6 ∷ 7 ∷ 8 ∷ []));
+      recording = pooled arch_a64 (constant (bytes_of 0xD65F03C0) [] (1 ∷ 2 ∷ 3 ∷ 4 ∷ 5 ∷ 6 ∷ 7 ∷ 8 ∷ []));
       from = 4;
       count = 12;
       expected = finished 16 32 0 0 (0 ∷ 0 ∷ 0 ∷ 0 ∷ 1 ∷ 2 ∷ 3 ∷ 4 ∷ 5 ∷ 6 ∷ 7 ∷ 8 ∷ []);
     }
     ∷ record {
-      recording = pooled archX64 (constant (replicate 5 0) (jmp 0 0 ∷ []) (1 ∷ 2 ∷ 3 ∷ 4 ∷ 5 ∷ 6 ∷ 7 ∷ 8 ∷ 9 ∷ []));
+      recording = pooled arch_x64 (constant (replicate 5 0) (jmp 0 0 ∷ []) (1 ∷ 2 ∷ 3 ∷ 4 ∷ 5 ∷ 6 ∷ 7 ∷ 8 ∷ 9 ∷ []));
       from = 0;
       count = 25;
       expected =
@@ -150,19 +150,19 @@ table =
           (0xEB ∷ 0x0E ∷ 0x66 ∷ 0x0F ∷ 0x1F ∷ 0x84 ∷ 0 ∷ 0 ∷ 0 ∷ 0 ∷ 0 ∷ 0x0F ∷ 0x1F ∷ 0x44 ∷ 0 ∷ 0 ∷ 1 ∷ 2 ∷ 3 ∷ 4 ∷ 5 ∷ 6 ∷ 7 ∷ 8 ∷ 9 ∷ []);
     }
     ∷ record {
-      recording = pooled archX64 (constant (0x90 ∷ []) [] (replicate 32 1));
+      recording = pooled arch_x64 (constant (0x90 ∷ []) [] (replicate 32 1));
       from = 15;
       count = 2;
       expected = finished 48 32 0 0 (0 ∷ 1 ∷ []);
     }
     ∷ record {
-      recording = pooled archX64 (constant (0x90 ∷ []) [] (replicate 33 1));
+      recording = pooled arch_x64 (constant (0x90 ∷ []) [] (replicate 33 1));
       from = 63;
       count = 2;
       expected = finished 97 64 0 0 (0 ∷ 1 ∷ []);
     }
     ∷ record {
-      recording = pooled archX64 (constant (replicate 64 0) (jmp 0 0 ∷ []) (replicate 64 1));
+      recording = pooled arch_x64 (constant (replicate 64 0) (jmp 0 0 ∷ []) (replicate 64 1));
       from = 0;
       count = 2;
       expected = finished 128 64 1 0 (0xEB ∷ 0x3E ∷ []);

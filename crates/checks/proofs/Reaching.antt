@@ -6,7 +6,7 @@ use Prim.Native.Nat.{ℕ, ◌+◌, ◌*◌, ◌≤◌, ◌<◌}
 use native.Mathlib.Omega.{arith}
 use borrow.Author.Tests.{le-leb, lt-leb}
 use Rattle.words.specs.Words.{word_at}
-use Rattle.fields.specs.Kinds.{decoded, patchSize}
+use Rattle.fields.specs.Kinds.{decoded, patch_size}
 use Rattle.fields.specs.declared.Decoded.{Decoded}
 use Rattle.fields.specs.declared.Decoded.TheVariants.{Use, Unsupported, Unknown}
 use Rattle.fields.specs.declared.LabelUse.{LabelUse}
@@ -21,25 +21,25 @@ use Rattle.fields.specs.declared.LabelUse.TheVariants.{
   A64Adrp21,
   A64AddAbsLo12,
 }
-use Rattle.buffer.specs.Tables.{refWords}
-use Rattle.pool.specs.steps.Pool.{poolStart}
+use Rattle.buffer.specs.Tables.{ref_words}
+use Rattle.pool.specs.steps.Pool.{pool_start}
 use Rattle.fields.specs.Kinds.{size_of}
-use Rattle.checks.specs.steps.Fields.{clearOfEvents, clearOfPool, refClear}
+use Rattle.checks.specs.steps.Fields.{clear_of_events, clear_of_pool, ref_clear}
 
 -- no field has more than four bytes
-patch-small : (k : LabelUse) → patchSize k ≤ 4
-patch-small X86JmpRel32 = omega arith
-patch-small X86BranchRel8 = omega arith
-patch-small A64Branch14 = omega arith
-patch-small A64Branch19 = omega arith
-patch-small A64Branch26 = omega arith
-patch-small A64Ldr19 = omega arith
-patch-small A64Adr21 = omega arith
-patch-small A64Adrp21 = omega arith
-patch-small A64AddAbsLo12 = omega arith
+patch_small : (k : LabelUse) → patch_size k ≤ 4
+patch_small X86JmpRel32 = omega arith
+patch_small X86BranchRel8 = omega arith
+patch_small A64Branch14 = omega arith
+patch_small A64Branch19 = omega arith
+patch_small A64Branch26 = omega arith
+patch_small A64Ldr19 = omega arith
+patch_small A64Adr21 = omega arith
+patch_small A64Adrp21 = omega arith
+patch_small A64AddAbsLo12 = omega arith
 
 size_small : (d : Decoded) → size_of d ≤ 4
-size_small (Use k) = patch-small k
+size_small (Use k) = patch_small k
 size_small Unsupported = omega arith
 size_small Unknown = omega arith
 
@@ -48,21 +48,21 @@ sized size code e = (e, rw e (size_small (decoded code)))
 
 -- a ref past the end of the code, one that overlaps an event, and any other
 pub record RefAt (refs events : List ℕ) (n code : ℕ) (constants asked : List ℕ) (m i from size len : ℕ) : Type 0 where
-  pub at : from ≡ word_at refs (i * refWords)
-  pub long : size ≡ size_of (decoded (word_at refs (i * refWords + 2)))
-  pub end : len ≡ poolStart code constants asked m
+  pub at : from ≡ word_at refs (i * ref_words)
+  pub long : size ≡ size_of (decoded (word_at refs (i * ref_words + 2)))
+  pub end : len ≡ pool_start code constants asked m
 
 module _ {refs events : List ℕ} {n code : ℕ} {constants asked : List ℕ} {m i from size len : ℕ}
     (r : RefAt refs events n code constants asked m i from size len) where
-  pub ref-past : len < from + size → false ≡ refClear refs events n code constants asked m i
-  unfolding refClear
-  ref-past h = rw (← r.at, ← r.long, ← r.end, lt-leb (from + size) len h)
+  pub ref_past : len < from + size → false ≡ ref_clear refs events n code constants asked m i
+  unfolding ref_clear
+  ref_past h = rw (← r.at, ← r.long, ← r.end, lt-leb (from + size) len h)
 
-  pub ref_over : from + size ≤ len → clearOfEvents events n from (from + size) ≡ false → false ≡ refClear refs events n code constants asked m i
-  unfolding refClear
+  pub ref_over : from + size ≤ len → clear_of_events events n from (from + size) ≡ false → false ≡ ref_clear refs events n code constants asked m i
+  unfolding ref_clear
   ref_over h e = rw (← r.at, ← r.long, ← r.end, le-leb (from + size) len h, e)
 
-  pub ref-rest : from + size ≤ len → clearOfEvents events n from (from + size) ≡ true
-      → clearOfPool code constants asked m from (from + size) ≡ refClear refs events n code constants asked m i
-  unfolding refClear
-  ref-rest h e = rw (← r.at, ← r.long, ← r.end, le-leb (from + size) len h, e)
+  pub ref_rest : from + size ≤ len → clear_of_events events n from (from + size) ≡ true
+      → clear_of_pool code constants asked m from (from + size) ≡ ref_clear refs events n code constants asked m i
+  unfolding ref_clear
+  ref_rest h e = rw (← r.at, ← r.long, ← r.end, le-leb (from + size) len h, e)

@@ -3,12 +3,12 @@ ghost use Rattle.std.specs.Prelude.{◌≡◌, true, ◌+◌, ◌*◌, ◌≤◌
 ghost use Rattle.words.specs.Words.{word_at};
 ghost use Rattle.recording.specs.Sound.{start_at, end_at};
 ghost use Rattle.seqs.specs.Every.{all};
-ghost use Rattle.relax.specs.Events.{eventSize};
-ghost use Rattle.buffer.specs.Tables.{mostEntries, labelSize, useSize, refSize, constantSize, askedSize, relocSize};
-ghost use Rattle.lookup.specs.steps.Index.{indexSize, mostKeys, Indexed};
-ghost use Rattle.checks.specs.Entries.{formFits, eventFits, keptOnly, eventsFit, labelFits, labelsFit, useFits, usesFit, refFits, refsFit, relocFits, relocsFit, constantFits, constantsFit, orderFits, entriesFit};
+ghost use Rattle.relax.specs.Events.{event_size};
+ghost use Rattle.buffer.specs.Tables.{most_entries, label_size, use_size, ref_size, constant_size, asked_size, reloc_size};
+ghost use Rattle.lookup.specs.steps.Index.{index_size, most_keys, Indexed};
+ghost use Rattle.checks.specs.Entries.{form_fits, event_fits, kept_only, events_fit, label_fits, labels_fit, use_fits, uses_fit, ref_fits, refs_fit, reloc_fits, relocs_fit, constant_fits, constants_fit, order_fits, entries_fit};
 ghost use Rattle.checks.specs.steps.Search.{Ordered};
-ghost use Rattle.checks.specs.steps.Handed.{fewMarks, CountsFit, tables, Labelled, Marking, newAt, unlabelled, unlabelledOr};
+ghost use Rattle.checks.specs.steps.Handed.{few_marks, CountsFit, tables, Labelled, Marking, new_at, unlabelled, unlabelled_or};
 
 use buffer::CodeBuffer;
 
@@ -18,7 +18,7 @@ pub const FEW_MARKS: usize = 256;
 // A jump has 2 to 15 bytes, a known label, and a condition up to 16; an alignment is on a power of two up to 4,096, with the padding that
 // it spends at its start.
 fn form_fits(labels: u32, kind: u32, start: u32, len: u32, what: u32, how: u32) -> bool
-    ensures { result ≡ formFits labels kind start len what how }
+    ensures { result ≡ form_fits labels kind start len what how }
 {
     if kind == relax::JUMP {
         return buffer::both(
@@ -36,8 +36,8 @@ fn form_fits(labels: u32, kind: u32, start: u32, len: u32, what: u32, how: u32) 
 }
 
 fn event_fits(events: &[u8], labels: u32, code: u32, j: usize) -> bool
-    requires { j * eventSize + eventSize ≤ length events.now }
-    ensures { result ≡ eventFits events.now labels code j }
+    requires { j * event_size + event_size ≤ length events.now }
+    ensures { result ≡ event_fits events.now labels code j }
 {
     let kind = words::word_at(events, j * relax::EVENT_WORDS);
     let start = words::word_at(events, j * relax::EVENT_WORDS + 1);
@@ -56,8 +56,8 @@ fn event_fits(events: &[u8], labels: u32, code: u32, j: usize) -> bool
 }
 
 fn each_event_fits(events: &[u8], n: usize, labels: u32, code: u32) -> bool
-    requires { n * eventSize ≤ length events.now }
-    ensures { result ≡ all (eventFits events.now labels code) n }
+    requires { n * event_size ≤ length events.now }
+    ensures { result ≡ all (event_fits events.now labels code) n }
 {
     let mut i: usize = 0;
     while i < n {
@@ -71,14 +71,14 @@ fn each_event_fits(events: &[u8], n: usize, labels: u32, code: u32) -> bool
 
 // Not every architecture keeps events and refs.
 fn is_kept(arch: u32, n: usize) -> bool
-    ensures { result ≡ keptOnly arch n }
+    ensures { result ≡ kept_only arch n }
 {
     buffer::either(buffer::keeps_events(arch), n == 0)
 }
 
 pub fn events_fit(arch: u32, events: &[u8], n: usize, labels: u32, code: u32) -> bool
-    requires { n * eventSize ≤ length events.now }
-    ensures { result ≡ eventsFit arch events.now n labels code }
+    requires { n * event_size ≤ length events.now }
+    ensures { result ≡ events_fit arch events.now n labels code }
 {
     let kept = is_kept(arch, n);
     buffer::both(kept, each_event_fits(events, n, labels, code))
@@ -94,11 +94,11 @@ fn label_fits(
     shift: u32,
     i: usize,
 ) -> bool
-    requires fact_1 { i * labelSize + labelSize ≤ length labels.now }
-    requires fact_2 { n * eventSize ≤ length events.now }
+    requires fact_1 { i * label_size + label_size ≤ length labels.now }
+    requires fact_2 { n * event_size ≤ length events.now }
     requires fact_3 { Ordered (start_at events.now) (end_at events.now) n }
     requires fact_4 { Indexed index.now (start_at events.now) n shift }
-    ensures { result ≡ labelFits events.now n code (word_at labels.now i) }
+    ensures { result ≡ label_fits events.now n code (word_at labels.now i) }
 {
     let offset = words::word_at(labels, i);
     if offset == buffer::NONE {
@@ -119,11 +119,11 @@ fn each_label_fits(
     index: &[u32],
     shift: u32,
 ) -> bool
-    requires fact_1 { n * labelSize ≤ length labels.now }
-    requires fact_2 { m * eventSize ≤ length events.now }
+    requires fact_1 { n * label_size ≤ length labels.now }
+    requires fact_2 { m * event_size ≤ length events.now }
     requires fact_3 { Ordered (start_at events.now) (end_at events.now) m }
     requires fact_4 { Indexed index.now (start_at events.now) m shift }
-    ensures { result ≡ labelsFit labels.now n events.now m code }
+    ensures { result ≡ labels_fit labels.now n events.now m code }
 {
     let mut i: usize = 0;
     while i < n {
@@ -144,10 +144,10 @@ fn labels_fit_by(
     code: u32,
     index: &mut [u32],
 ) -> bool
-    requires fact_1 { n * labelSize ≤ length labels.now }
-    requires fact_2 { (m * eventSize ≤ length events.now) × (m ≤ mostKeys) × (indexSize ≤ length index.old) }
+    requires fact_1 { n * label_size ≤ length labels.now }
+    requires fact_2 { (m * event_size ≤ length events.now) × (m ≤ most_keys) × (index_size ≤ length index.old) }
     requires fact_3 { Ordered (start_at events.now) (end_at events.now) m }
-    ensures { result ≡ labelsFit labels.now n events.now m code }
+    ensures { result ≡ labels_fit labels.now n events.now m code }
 {
     let shift = lookup::shift_for(code, index.len());
     crate::search::index_events(index, shift, events, m);
@@ -165,8 +165,8 @@ fn many_labels_fit(
     code: u32,
     again: usize,
 ) -> bool
-    requires { (again ≡ 0) × ((n * labelSize ≤ length labels.now) × (((m * eventSize ≤ length events.now) × (m ≤ mostKeys)) × (Ordered (start_at events.now) (end_at events.now) m))) }
-    ensures { result ≡ labelsFit labels.now n events.now m code }
+    requires { (again ≡ 0) × ((n * label_size ≤ length labels.now) × (((m * event_size ≤ length events.now) × (m ≤ most_keys)) × (Ordered (start_at events.now) (end_at events.now) m))) }
+    ensures { result ≡ labels_fit labels.now n events.now m code }
 {
     if again != 0 {
         let before = many_labels_fit(labels, n, events, m, code, again - 1);
@@ -181,10 +181,10 @@ fn many_labels_fit(
 
 // An index pays where there are many events and many labels, and a large one where there are very many.
 pub fn labels_fit(labels: &[u8], n: usize, events: &[u8], m: usize, code: u32) -> bool
-    requires fact_1 { n * labelSize ≤ length labels.now }
-    requires fact_2 { m * eventSize ≤ length events.now }
+    requires fact_1 { n * label_size ≤ length labels.now }
+    requires fact_2 { m * event_size ≤ length events.now }
     requires fact_3 { Ordered (start_at events.now) (end_at events.now) m }
-    ensures { result ≡ labelsFit labels.now n events.now m code }
+    ensures { result ≡ labels_fit labels.now n events.now m code }
 {
     if !lookup::pays(m, n) {
         let none = [0u32; 0];
@@ -205,8 +205,8 @@ pub fn labels_fit(labels: &[u8], n: usize, events: &[u8], m: usize, code: u32) -
 }
 
 fn use_fits(uses: &[u8], arch: u32, labels: u32, i: usize) -> bool
-    requires { i * useSize + useSize ≤ length uses.now }
-    ensures { result ≡ useFits uses.now arch labels i }
+    requires { i * use_size + use_size ≤ length uses.now }
+    ensures { result ≡ use_fits uses.now arch labels i }
 {
     let label = words::word_at(uses, i * buffer::USE_WORDS + 1);
     let code = words::word_at(uses, i * buffer::USE_WORDS + 2);
@@ -221,8 +221,8 @@ fn use_fits(uses: &[u8], arch: u32, labels: u32, i: usize) -> bool
 }
 
 pub fn uses_fit(uses: &[u8], n: usize, arch: u32, labels: u32) -> bool
-    requires { n * useSize ≤ length uses.now }
-    ensures { result ≡ usesFit uses.now n arch labels }
+    requires { n * use_size ≤ length uses.now }
+    ensures { result ≡ uses_fit uses.now n arch labels }
 {
     let mut i: usize = 0;
     while i < n {
@@ -235,8 +235,8 @@ pub fn uses_fit(uses: &[u8], n: usize, arch: u32, labels: u32) -> bool
 }
 
 fn ref_fits(refs: &[u8], arch: u32, labels: u32, i: usize) -> bool
-    requires { i * refSize + refSize ≤ length refs.now }
-    ensures { result ≡ refFits refs.now arch labels i }
+    requires { i * ref_size + ref_size ≤ length refs.now }
+    ensures { result ≡ ref_fits refs.now arch labels i }
 {
     let label = words::word_at(refs, i * buffer::REF_WORDS + 1);
     let code = words::word_at(refs, i * buffer::REF_WORDS + 2);
@@ -245,8 +245,8 @@ fn ref_fits(refs: &[u8], arch: u32, labels: u32, i: usize) -> bool
 }
 
 fn each_ref_fits(refs: &[u8], n: usize, arch: u32, labels: u32) -> bool
-    requires { n * refSize ≤ length refs.now }
-    ensures { result ≡ all (refFits refs.now arch labels) n }
+    requires { n * ref_size ≤ length refs.now }
+    ensures { result ≡ all (ref_fits refs.now arch labels) n }
 {
     let mut i: usize = 0;
     while i < n {
@@ -259,16 +259,16 @@ fn each_ref_fits(refs: &[u8], n: usize, arch: u32, labels: u32) -> bool
 }
 
 pub fn refs_fit(refs: &[u8], n: usize, arch: u32, labels: u32) -> bool
-    requires { n * refSize ≤ length refs.now }
-    ensures { result ≡ refsFit refs.now n arch labels }
+    requires { n * ref_size ≤ length refs.now }
+    ensures { result ≡ refs_fit refs.now n arch labels }
 {
     let kept = is_kept(arch, n);
     buffer::both(kept, each_ref_fits(refs, n, arch, labels))
 }
 
 fn reloc_fits(b: CodeBuffer, relocs: &[u8], i: usize) -> bool
-    requires { i * relocSize + relocSize ≤ length relocs.now }
-    ensures { result ≡ relocFits b relocs.now i }
+    requires { i * reloc_size + reloc_size ≤ length relocs.now }
+    ensures { result ≡ reloc_fits b relocs.now i }
 {
     let offset = words::word_at(relocs, i * buffer::RELOC_WORDS);
     let kind = words::word_at(relocs, i * buffer::RELOC_WORDS + 1);
@@ -282,8 +282,8 @@ fn reloc_fits(b: CodeBuffer, relocs: &[u8], i: usize) -> bool
 }
 
 pub fn relocs_fit(b: CodeBuffer, relocs: &[u8]) -> bool
-    requires { b.relocs * relocSize ≤ length relocs.now }
-    ensures { result ≡ relocsFit b relocs.now }
+    requires { b.relocs * reloc_size ≤ length relocs.now }
+    ensures { result ≡ relocs_fit b relocs.now }
 {
     let n = b.relocs as usize;
     let mut i: usize = 0;
@@ -297,8 +297,8 @@ pub fn relocs_fit(b: CodeBuffer, relocs: &[u8]) -> bool
 }
 
 fn constant_fits(constants: &[u8], labels: u32, i: usize) -> bool
-    requires { i * constantSize + constantSize ≤ length constants.now }
-    ensures { result ≡ constantFits constants.now labels i }
+    requires { i * constant_size + constant_size ≤ length constants.now }
+    ensures { result ≡ constant_fits constants.now labels i }
 {
     let size = words::word_at(constants, i * buffer::CONSTANT_WORDS);
     let label = words::word_at(constants, i * buffer::CONSTANT_WORDS + 1);
@@ -309,8 +309,8 @@ fn constant_fits(constants: &[u8], labels: u32, i: usize) -> bool
 }
 
 pub fn constants_fit(constants: &[u8], n: usize, labels: u32) -> bool
-    requires { n * constantSize ≤ length constants.now }
-    ensures { result ≡ constantsFit constants.now n labels }
+    requires { n * constant_size ≤ length constants.now }
+    ensures { result ≡ constants_fit constants.now n labels }
 {
     let mut i: usize = 0;
     while i < n {
@@ -331,9 +331,9 @@ fn is_new(
     seen: &[bool],
     taken: &[bool],
 ) -> bool
-    requires fact_1 { i * askedSize + askedSize ≤ length asked.now }
+    requires fact_1 { i * asked_size + asked_size ≤ length asked.now }
     requires fact_2 { Marking asked.now constants.now known i seen.now taken.now }
-    ensures { result ≡ newAt asked.now constants.now known i }
+    ensures { result ≡ new_at asked.now constants.now known i }
 {
     let constant = words::word_at(asked, i);
     if known <= constant {
@@ -357,9 +357,9 @@ fn mark_asked(
     seen: &mut [bool],
     taken: &mut [bool],
 ) -> bool
-    requires fact_1 { n * askedSize ≤ length asked.now }
+    requires fact_1 { n * asked_size ≤ length asked.now }
     requires fact_2 { Marking asked.now constants.now known 0 seen.old taken.old }
-    ensures fact_1 { result ≡ all (newAt asked.now constants.now known) n }
+    ensures fact_1 { result ≡ all (new_at asked.now constants.now known) n }
     ensures fact_2 { (result ≡ true → Marking asked.now constants.now known n seen.new taken.new) }
 {
     let mut i: usize = 0;
@@ -378,9 +378,9 @@ fn mark_asked(
 
 // Whether constant `i` has no label or is marked.
 fn is_marked(constants: &[u8], seen: &[bool], i: usize) -> bool
-    requires fact_1 { i * constantSize + constantSize ≤ length constants.now }
+    requires fact_1 { i * constant_size + constant_size ≤ length constants.now }
     requires fact_2 { i < length seen.now }
-    ensures { result ≡ unlabelledOr constants.now seen.now i }
+    ensures { result ≡ unlabelled_or constants.now seen.now i }
 {
     let label = words::word_at(constants, i * buffer::CONSTANT_WORDS + 1);
     buffer::either(label == buffer::NONE, seen[i])
@@ -388,9 +388,9 @@ fn is_marked(constants: &[u8], seen: &[bool], i: usize) -> bool
 
 // Whether every constant that has a label is marked.
 fn is_each_marked(constants: &[u8], n: u32, seen: &[bool]) -> bool
-    requires fact_1 { n * constantSize ≤ length constants.now }
+    requires fact_1 { n * constant_size ≤ length constants.now }
     requires fact_2 { n ≤ length seen.now }
-    ensures { result ≡ all (unlabelledOr constants.now seen.now) n }
+    ensures { result ≡ all (unlabelled_or constants.now seen.now) n }
 {
     let count = n as usize;
     let mut i: usize = 0;
@@ -412,9 +412,9 @@ fn order_fits_by(
     seen: &mut [bool],
     taken: &mut [bool],
 ) -> bool
-    requires fact_1 { n * askedSize ≤ length asked.now }
+    requires fact_1 { n * asked_size ≤ length asked.now }
     requires fact_2 { Marking asked.now constants.now known 0 seen.old taken.old }
-    ensures { result ≡ orderFits asked.now n constants.now known }
+    ensures { result ≡ order_fits asked.now n constants.now known }
 {
     if !mark_asked(asked, n, constants, known, seen, taken) {
         return false;
@@ -424,9 +424,9 @@ fn order_fits_by(
 
 // With few constants and labels a few marks are enough.
 fn small_order_fits(asked: &[u8], n: usize, constants: &[u8], known: u32) -> bool
-    requires fact_1 { (n * askedSize ≤ length asked.now) × (known ≤ fewMarks) }
-    requires fact_2 { Labelled constants.now known fewMarks }
-    ensures { result ≡ orderFits asked.now n constants.now known }
+    requires fact_1 { (n * asked_size ≤ length asked.now) × (known ≤ few_marks) }
+    requires fact_2 { Labelled constants.now known few_marks }
+    ensures { result ≡ order_fits asked.now n constants.now known }
 {
     let mut seen = [false; FEW_MARKS];
     let mut taken = [false; FEW_MARKS];
@@ -435,8 +435,8 @@ fn small_order_fits(asked: &[u8], n: usize, constants: &[u8], known: u32) -> boo
 
 // With marks for as many as there can be, which are to stay out of small frames: it calls itself for the reason that `many_labels_fit` has.
 fn large_order_fits(asked: &[u8], n: usize, constants: &[u8], known: u32, again: usize) -> bool
-    requires { (again ≡ 0) × (((n * askedSize ≤ length asked.now) × (known ≤ mostEntries)) × (Labelled constants.now known mostEntries)) }
-    ensures { result ≡ orderFits asked.now n constants.now known }
+    requires { (again ≡ 0) × (((n * asked_size ≤ length asked.now) × (known ≤ most_entries)) × (Labelled constants.now known most_entries)) }
+    ensures { result ≡ order_fits asked.now n constants.now known }
 {
     if again != 0 {
         let before = large_order_fits(asked, n, constants, known, again - 1);
@@ -451,7 +451,7 @@ fn large_order_fits(asked: &[u8], n: usize, constants: &[u8], known: u32, again:
 }
 
 fn is_unlabelled(constants: &[u8], i: usize) -> bool
-    requires { i * constantSize + constantSize ≤ length constants.now }
+    requires { i * constant_size + constant_size ≤ length constants.now }
     ensures { result ≡ unlabelled constants.now i }
 {
     words::word_at(constants, i * buffer::CONSTANT_WORDS + 1) == buffer::NONE
@@ -459,7 +459,7 @@ fn is_unlabelled(constants: &[u8], i: usize) -> bool
 
 // Whether no constant has a label.
 fn is_each_unlabelled(constants: &[u8], n: u32) -> bool
-    requires { n * constantSize ≤ length constants.now }
+    requires { n * constant_size ≤ length constants.now }
     ensures { result ≡ all (unlabelled constants.now) n }
 {
     let count = n as usize;
@@ -476,9 +476,9 @@ fn is_each_unlabelled(constants: &[u8], n: u32) -> bool
 // Whether the order of asking fits the constants. Where nothing is asked for nothing is marked, and clearing marks for 65,536 entries takes longer than all
 // else that a small recording asks.
 pub fn order_fits(asked: &[u8], n: usize, constants: &[u8], known: u32, labels: u32) -> bool
-    requires fact_1 { (n * askedSize ≤ length asked.now) × (known ≤ mostEntries) × (labels ≤ mostEntries) }
+    requires fact_1 { (n * asked_size ≤ length asked.now) × (known ≤ most_entries) × (labels ≤ most_entries) }
     requires fact_2 { Labelled constants.now known labels }
-    ensures { result ≡ orderFits asked.now n constants.now known }
+    ensures { result ≡ order_fits asked.now n constants.now known }
 {
     if n == 0 {
         return is_each_unlabelled(constants, known);
@@ -507,7 +507,7 @@ pub fn entries_fit(
     relocs: &[u8],
 ) -> bool
     requires { CountsFit b labels.now events.now uses.now refs.now constants.now asked.now relocs.now }
-    ensures { result ≡ entriesFit (tables b labels.now events.now uses.now refs.now constants.now asked.now relocs.now) }
+    ensures { result ≡ entries_fit (tables b labels.now events.now uses.now refs.now constants.now asked.now relocs.now) }
 {
     if !events_fit(b.arch, events, b.events as usize, b.labels, b.code) {
         return false;

@@ -1,22 +1,22 @@
 // Numbers 17 and 19 to 22: refs that overlap an event, and uses that can't reach.
 ghost use Rattle.std.specs.Prelude.{◌≡◌, ◌+◌, ◌*◌, ◌≤◌, length};
 ghost use Rattle.fields.specs.Kinds.{decoded};
-ghost use Rattle.relax.specs.Events.{eventAt, eventSize};
-ghost use Rattle.buffer.specs.Tables.{labelSize, useSize, refSize};
+ghost use Rattle.relax.specs.Events.{event_at, event_size};
+ghost use Rattle.buffer.specs.Tables.{label_size, use_size, ref_size};
 ghost use Rattle.recording.specs.View.{entries};
 ghost use Rattle.recording.specs.Sound.{start_at, end_at};
-ghost use Rattle.fresh.specs.Forms.{isMoving, moves};
-ghost use Rattle.pool.specs.steps.Pool.{poolStart};
+ghost use Rattle.fresh.specs.Forms.{is_moving, moves};
+ghost use Rattle.pool.specs.steps.Pool.{pool_start};
 ghost use Rattle.fields.specs.Kinds.{size_of};
-ghost use Rattle.fields.specs.Reach.{reachOf};
-ghost use Rattle.checks.specs.steps.Fields.{refClear, refsClear, whyUnreached, whyUses};
+ghost use Rattle.fields.specs.Reach.{reach_of};
+ghost use Rattle.checks.specs.steps.Fields.{ref_clear, refs_clear, why_unreached, why_uses};
 ghost use Rattle.checks.specs.steps.Search.{Ordered, Placed};
-ghost use Rattle.checks.specs.steps.Handed.{useLabel, Named};
+ghost use Rattle.checks.specs.steps.Handed.{use_label, Named};
 
 use relax::LayoutEvent;
 
 fn is_moving(event: LayoutEvent) -> bool
-    ensures { result ≡ isMoving event }
+    ensures { result ≡ is_moving event }
 {
     match event {
         LayoutEvent::Jump(_) => true,
@@ -27,8 +27,8 @@ fn is_moving(event: LayoutEvent) -> bool
 
 // Whether one of the first `n` events makes finish lay out anew.
 pub fn moves(events: &[u8], n: usize) -> bool
-    requires { n * eventSize ≤ length events.now }
-    ensures { result ≡ moves (entries (eventAt events.now) n) }
+    requires { n * event_size ≤ length events.now }
+    ensures { result ≡ moves (entries (event_at events.now) n) }
 {
     let mut i: usize = 0;
     while i < n {
@@ -52,7 +52,7 @@ fn size_of(code: u32) -> u64
 }
 
 fn reach_of(code: u32, offset: u32, label: u32) -> u32
-    ensures { result ≡ reachOf (decoded code) offset label }
+    ensures { result ≡ reach_of (decoded code) offset label }
 {
     match fields::LabelUse::from_code(code) {
         fields::Decoded::Use(kind) => kind.reach_refusal(offset, label),
@@ -74,10 +74,10 @@ fn ref_clear(
     len: u32,
     i: usize,
 ) -> bool
-    requires fact_1 { (i * refSize + refSize ≤ length refs.now) × (n * eventSize ≤ length events.now) × (len ≡ poolStart code constants.now asked.now m) }
+    requires fact_1 { (i * ref_size + ref_size ≤ length refs.now) × (n * event_size ≤ length events.now) × (len ≡ pool_start code constants.now asked.now m) }
     requires fact_2 { Ordered (start_at events.now) (end_at events.now) n }
     requires fact_3 { Placed labels.now constants.now asked.now code m }
-    ensures { result ≡ refClear refs.now events.now n code constants.now asked.now m i }
+    ensures { result ≡ ref_clear refs.now events.now n code constants.now asked.now m i }
 {
     let offset = words::word_at(refs, i * buffer::REF_WORDS);
     let kind = words::word_at(refs, i * buffer::REF_WORDS + 2);
@@ -104,10 +104,10 @@ pub fn refs_clear(
     code: u32,
     len: u32,
 ) -> bool
-    requires fact_1 { (count * refSize ≤ length refs.now) × (n * eventSize ≤ length events.now) × (len ≡ poolStart code constants.now asked.now m) }
+    requires fact_1 { (count * ref_size ≤ length refs.now) × (n * event_size ≤ length events.now) × (len ≡ pool_start code constants.now asked.now m) }
     requires fact_2 { Ordered (start_at events.now) (end_at events.now) n }
     requires fact_3 { Placed labels.now constants.now asked.now code m }
-    ensures { result ≡ refsClear refs.now count events.now n code constants.now asked.now m }
+    ensures { result ≡ refs_clear refs.now count events.now n code constants.now asked.now m }
 {
     let mut i: usize = 0;
     while i < count {
@@ -121,8 +121,8 @@ pub fn refs_clear(
 
 // 19: the field of use `i` passes the end of the code, of which there are `len` bytes; 20 to 22: it can't reach its label.
 fn why_unreached(uses: &[u8], labels: &[u8], len: u32, i: usize) -> u32
-    requires { (i * useSize + useSize ≤ length uses.now) × (useLabel uses.now i * labelSize + labelSize ≤ length labels.now) }
-    ensures { result ≡ whyUnreached uses.now labels.now len i }
+    requires { (i * use_size + use_size ≤ length uses.now) × (use_label uses.now i * label_size + label_size ≤ length labels.now) }
+    ensures { result ≡ why_unreached uses.now labels.now len i }
 {
     let offset = words::word_at(uses, i * buffer::USE_WORDS);
     let label = words::word_at(uses, i * buffer::USE_WORDS + 1);
@@ -136,9 +136,9 @@ fn why_unreached(uses: &[u8], labels: &[u8], len: u32, i: usize) -> u32
 
 // The refusal of the first use that has one, or 0.
 pub fn why_uses(uses: &[u8], n: usize, labels: &[u8], len: u32) -> u32
-    requires fact_1 { n * useSize ≤ length uses.now }
-    requires fact_2 { Named (useLabel uses.now) n labels.now }
-    ensures { result ≡ whyUses uses.now labels.now len n }
+    requires fact_1 { n * use_size ≤ length uses.now }
+    requires fact_2 { Named (use_label uses.now) n labels.now }
+    ensures { result ≡ why_uses uses.now labels.now len n }
 {
     let mut i: usize = 0;
     while i < n {

@@ -1,9 +1,9 @@
 // What a call that is lent a whole recording, finish or a sheet, looks at first: counts and limits.
 ghost use Rattle.std.specs.Prelude.{◌≡◌, ◌&&◌, ◌/◌, leb};
 ghost use Rattle.buffer.specs.Refusals.{standing};
-ghost use Rattle.buffer.specs.Tables.{mostEntries, mostCode, labelSize, useSize, refSize, constantSize, askedSize, relocSize};
-ghost use Rattle.checks.specs.Lent.{recordingOf, countsFit, withinLimits};
-ghost use Rattle.relax.specs.Events.{eventSize};
+ghost use Rattle.buffer.specs.Tables.{most_entries, most_code, label_size, use_size, ref_size, constant_size, asked_size, reloc_size};
+ghost use Rattle.checks.specs.Lent.{recording_of, counts_fit, within_limits};
+ghost use Rattle.relax.specs.Events.{event_size};
 
 use buffer::CodeBuffer;
 
@@ -25,7 +25,7 @@ fn counts_fit(
     asked: usize,
     relocs: usize,
 ) -> bool
-    ensures { result ≡ (leb b.code code && (leb b.labels (labels / labelSize) && (leb b.events (events / eventSize) && (leb b.uses (uses / useSize) && (leb b.refs (refs / refSize) && (leb b.constants (constants / constantSize) && (leb b.asked (asked / askedSize) && leb b.relocs (relocs / relocSize)))))))) }
+    ensures { result ≡ (leb b.code code && (leb b.labels (labels / label_size) && (leb b.events (events / event_size) && (leb b.uses (uses / use_size) && (leb b.refs (refs / ref_size) && (leb b.constants (constants / constant_size) && (leb b.asked (asked / asked_size) && leb b.relocs (relocs / reloc_size)))))))) }
 {
     buffer::both(
         fits(b.code, code),
@@ -64,7 +64,7 @@ fn within_limits(
     segments: usize,
     output: usize,
 ) -> bool
-    ensures { result ≡ (leb code mostCode && (leb (labels / labelSize) mostEntries && (leb (events / eventSize) mostEntries && (leb (uses / useSize) mostEntries && (leb (refs / refSize) mostEntries && (leb (constants / constantSize) mostEntries && (leb (asked / askedSize) mostEntries && (leb (relocs / relocSize) mostEntries && (leb segments mostEntries && leb output mostCode))))))))) }
+    ensures { result ≡ (leb code most_code && (leb (labels / label_size) most_entries && (leb (events / event_size) most_entries && (leb (uses / use_size) most_entries && (leb (refs / ref_size) most_entries && (leb (constants / constant_size) most_entries && (leb (asked / asked_size) most_entries && (leb (relocs / reloc_size) most_entries && (leb segments most_entries && leb output most_code))))))))) }
 {
     buffer::both(
         code <= buffer::MOST_CODE,
@@ -110,7 +110,7 @@ pub fn why_not_standing(
     segments: usize,
     output: usize,
 ) -> u32
-    ensures { result ≡ standing b (countsFit (recordingOf b code.now labels.now events.now uses.now refs.now constants.now asked.now relocs.now)) (withinLimits (recordingOf b code.now labels.now events.now uses.now refs.now constants.now asked.now relocs.now) segments output) }
+    ensures { result ≡ standing b (counts_fit (recording_of b code.now labels.now events.now uses.now refs.now constants.now asked.now relocs.now)) (within_limits (recording_of b code.now labels.now events.now uses.now refs.now constants.now asked.now relocs.now) segments output) }
 {
     let fit = counts_fit(
         b,

@@ -3,16 +3,16 @@
 ghost use Rattle.std.specs.Prelude.{◌≡◌, ◌+◌, ◌*◌, ◌≤◌, ◌<◌, length};
 ghost use Rattle.recording.specs.Sound.{start_at, end_at};
 ghost use Rattle.words.specs.Words.{word_at};
-ghost use Rattle.relax.specs.Events.{eventSize};
-ghost use Rattle.buffer.specs.Tables.{labelSize, constantSize, askedSize};
-ghost use Rattle.pool.specs.steps.Pool.{label_at, poolStart};
-ghost use Rattle.lookup.specs.steps.Index.{indexSize, mostKeys, Indexed};
+ghost use Rattle.relax.specs.Events.{event_size};
+ghost use Rattle.buffer.specs.Tables.{label_size, constant_size, asked_size};
+ghost use Rattle.pool.specs.steps.Pool.{label_at, pool_start};
+ghost use Rattle.lookup.specs.steps.Index.{index_size, most_keys, Indexed};
 ghost use Rattle.checks.specs.Entries.{outside};
-ghost use Rattle.checks.specs.steps.Fields.{clearOfEvents, clearOfPool};
+ghost use Rattle.checks.specs.steps.Fields.{clear_of_events, clear_of_pool};
 ghost use Rattle.checks.specs.steps.Search.{Ordered, Before, Halved, Placed};
 
 fn start_at(events: &[u8], j: usize) -> u64
-    requires { j * eventSize + eventSize ≤ length events.now }
+    requires { j * event_size + event_size ≤ length events.now }
     ensures { result ≡ start_at events.now j }
 {
     words::word_at(events, j * relax::EVENT_WORDS + 1) as u64
@@ -20,7 +20,7 @@ fn start_at(events: &[u8], j: usize) -> u64
 
 // Entries made by hand may pass 32 bits.
 pub fn end_at(events: &[u8], j: usize) -> u64
-    requires { j * eventSize + eventSize ≤ length events.now }
+    requires { j * event_size + event_size ≤ length events.now }
     ensures { result ≡ end_at events.now j }
 {
     words::word_at(events, j * relax::EVENT_WORDS + 1) as u64
@@ -29,7 +29,7 @@ pub fn end_at(events: &[u8], j: usize) -> u64
 
 // How many of the first `n` events start before `to`: `first` of them do at least, and `last` at most.
 fn events_before(events: &[u8], n: usize, to: u64, first: usize, last: usize) -> usize
-    requires fact_1 { n * eventSize ≤ length events.now }
+    requires fact_1 { n * event_size ≤ length events.now }
     requires fact_2 { Ordered (start_at events.now) (end_at events.now) n }
     requires fact_3 { Halved (start_at events.now) n to first last }
     ensures { Before (start_at events.now) n to result }
@@ -50,10 +50,10 @@ fn events_before(events: &[u8], n: usize, to: u64, first: usize, last: usize) ->
 
 // Whether none of the first `n` events overlaps what lies between two offsets. Of the events `first` at least start before the second, and `last` at most.
 fn clear_among(events: &[u8], n: usize, from: u64, to: u64, first: usize, last: usize) -> bool
-    requires fact_1 { n * eventSize ≤ length events.now }
+    requires fact_1 { n * event_size ≤ length events.now }
     requires fact_2 { Ordered (start_at events.now) (end_at events.now) n }
     requires fact_3 { Halved (start_at events.now) n to first last }
-    ensures { result ≡ clearOfEvents events.now n from to }
+    ensures { result ≡ clear_of_events events.now n from to }
 {
     let k = events_before(events, n, to, first, last);
     if k == 0 {
@@ -64,16 +64,16 @@ fn clear_among(events: &[u8], n: usize, from: u64, to: u64, first: usize, last: 
 
 // The same, by a search among all the events.
 pub fn clear_of_events(events: &[u8], n: usize, from: u64, to: u64) -> bool
-    requires fact_1 { n * eventSize ≤ length events.now }
+    requires fact_1 { n * event_size ≤ length events.now }
     requires fact_2 { Ordered (start_at events.now) (end_at events.now) n }
-    ensures { result ≡ clearOfEvents events.now n from to }
+    ensures { result ≡ clear_of_events events.now n from to }
 {
     clear_among(events, n, from, to, 0, n)
 }
 
 // Fills an index of the starts of the first `n` events.
 pub fn index_events(index: &mut [u32], shift: u32, events: &[u8], n: usize)
-    requires fact_1 { (indexSize ≤ length index.old) × (shift < 32) × (n ≤ mostKeys) × (n * eventSize ≤ length events.now) }
+    requires fact_1 { (index_size ≤ length index.old) × (shift < 32) × (n ≤ most_keys) × (n * event_size ≤ length events.now) }
     requires fact_2 { Ordered (start_at events.now) (end_at events.now) n }
     ensures { Indexed index.new (start_at events.now) n shift }
 {
@@ -90,7 +90,7 @@ pub fn index_events(index: &mut [u32], shift: u32, events: &[u8], n: usize)
 // Whether an offset lies strictly inside none of the events: the empty piece at the offset is clear of them. The index, if there is one, is that of their
 // starts.
 pub fn is_outside(events: &[u8], n: usize, index: &[u32], shift: u32, offset: u32) -> bool
-    requires fact_1 { n * eventSize ≤ length events.now }
+    requires fact_1 { n * event_size ≤ length events.now }
     requires fact_2 { Ordered (start_at events.now) (end_at events.now) n }
     requires fact_3 { Indexed index.now (start_at events.now) n shift }
     ensures { result ≡ outside events.now n offset }
@@ -101,7 +101,7 @@ pub fn is_outside(events: &[u8], n: usize, index: &[u32], shift: u32, offset: u3
 
 // Where constant `j` of the pool stands, as its label says.
 fn offset_at(labels: &[u8], constants: &[u8], asked: &[u8], j: usize) -> u32
-    requires { (j * askedSize + askedSize ≤ length asked.now) × (word_at asked.now j * constantSize + constantSize ≤ length constants.now) × (label_at constants.now asked.now j * labelSize + labelSize ≤ length labels.now) }
+    requires { (j * asked_size + asked_size ≤ length asked.now) × (word_at asked.now j * constant_size + constant_size ≤ length constants.now) × (label_at constants.now asked.now j * label_size + label_size ≤ length labels.now) }
     ensures { result ≡ word_at labels.now (label_at constants.now asked.now j) }
 {
     let label = pool::label_at(constants, asked, j) as usize;
@@ -111,7 +111,7 @@ fn offset_at(labels: &[u8], constants: &[u8], asked: &[u8], j: usize) -> u32
 // Where its alignment starts: at the end of the constant before it, the first at the end of the code.
 fn alignment_at(labels: &[u8], constants: &[u8], asked: &[u8], code: u32, j: usize) -> u64
     requires { Placed labels.now constants.now asked.now code j }
-    ensures { result ≡ poolStart code constants.now asked.now j }
+    ensures { result ≡ pool_start code constants.now asked.now j }
 {
     if j == 0 {
         return code as u64;
@@ -132,7 +132,7 @@ fn alignments_before(
     to: u64,
 ) -> usize
     requires { Placed labels.now constants.now asked.now code n }
-    ensures { Before (poolStart code constants.now asked.now) n to result }
+    ensures { Before (pool_start code constants.now asked.now) n to result }
 {
     let mut low: usize = 0;
     let mut high = n;
@@ -159,7 +159,7 @@ pub fn clear_of_pool(
     to: u64,
 ) -> bool
     requires { Placed labels.now constants.now asked.now code n }
-    ensures { result ≡ clearOfPool code constants.now asked.now n from to }
+    ensures { result ≡ clear_of_pool code constants.now asked.now n from to }
 {
     let k = alignments_before(labels, constants, asked, code, n, to);
     if k == 0 {

@@ -8,8 +8,8 @@ use native.Mathlib.Omega.{arith}
 use lib.ListN.{length, get_or, get_or-eq_default}
 use Rattle.seqs.specs.Every.{every}
 use Rattle.seqs.proofs.Booleans.{both_true}
-use Rattle.seqs.proofs.Every.{every-at}
-use Rattle.seqs.proofs.Numbers.{lt-or-ge}
+use Rattle.seqs.proofs.Every.{every_at}
+use Rattle.seqs.proofs.Numbers.{lt_or_ge}
 use Rattle.words.specs.Words.{word_at}
 use Rattle.relax.specs.declared.LayoutEvent.TheVariants.{Jump}
 use Rattle.relax.specs.declared.RelaxableJump.{RelaxableJump}
@@ -17,15 +17,15 @@ use Rattle.relax.specs.declared.Segment.{Segment}
 use Rattle.buffer.specs.State.{none}
 use Rattle.recording.specs.Calls.{Recording}
 use Rattle.recording.specs.View as tables
-use Rattle.recording.proofs.Views.{length-entries, getD-entries}
+use Rattle.recording.proofs.Views.{length_entries, get_d_entries}
 use Rattle.fresh.specs.Pooled.{Pooled, pooled}
-use Rattle.fresh.specs.Forms.{branchOf, roleOf}
-use Rattle.finish.specs.Refusals.{isBound, jumpBound, relocBound, allBound}
+use Rattle.fresh.specs.Forms.{branch_of, role_of}
+use Rattle.finish.specs.Refusals.{is_bound, jump_bound, reloc_bound, all_bound}
 use Rattle.finish.specs.Finish.{finish}
-use Rattle.demands.specs.Demand2.{useOf, refOf, eventOf}
-use Rattle.demands.proofs.Answers.{finish-answered}
-use Rattle.demands.proofs.Discharged.{is_bound, jumps-bound, labelled}
-use Rattle.demands.proofs.Offsets.{bound-left}
+use Rattle.demands.specs.Demand2.{use_of, ref_of, event_of}
+use Rattle.demands.proofs.Answers.{finish_answered}
+use Rattle.demands.proofs.Discharged.{is_bound_lem, jumps_bound, labelled}
+use Rattle.demands.proofs.Offsets.{bound_left}
 
 module _ (r : Recording) (ss : List Segment) (output : List ℕ) (e : (finish r ss output).0.refusal ≡ 0) where
   abbrev p : Pooled
@@ -38,42 +38,42 @@ module _ (r : Recording) (ss : List Segment) (output : List ℕ) (e : (finish r 
   handed i = get_or (tables.entries (word_at (finish r ss output).1.0) count) i none
 
   -- a label that is bound once the pool is laid
-  label-handed : (i : ℕ) → get_or p.labels i none ≢ none → handed i ≢ none
-  label-handed i bound z =
-      let a = finish-answered r ss output e in
+  label_handed : (i : ℕ) → get_or p.labels i none ≢ none → handed i ≢ none
+  label_handed i bound z =
+      let a = finish_answered r ss output e in
       let at = labelled r a.fit.sound a.fit.few in
       ⊎_elim
-      (λ (known : i < count). bound-left r ss output e i known bound (sym (getD-entries (word_at (finish r ss output).1.0) count i none known) ∙ z))
+      (λ (known : i < count). bound_left r ss output e i known bound (sym (get_d_entries (word_at (finish r ss output).1.0) count i none known) ∙ z))
       (λ (past : count ≤ i).
-      let long : length (tables.entries at.0 count) ≤ i = omega (arith, length-entries at.0 count) in
+      let long : length (tables.entries at.0 count) ≤ i = omega (arith, length_entries at.0 count) in
       bound (ap (λ (t : List ℕ). get_or t i none) at.1 ∙ get_or-eq_default (tables.entries at.0 count) none long))
-      (lt-or-ge i count)
+      (lt_or_ge i count)
 
-  all-bound : allBound p (tables.view r).relocs ≡ true
-  all-bound = (finish-answered r ss output e).bound
+  all_bound_lem : all_bound p (tables.view r).relocs ≡ true
+  all_bound_lem = (finish_answered r ss output e).bound
 
-  pub use-bound : (i : ℕ) → i < length p.uses → handed (useOf p i).label ≢ none
-  unfolding allBound
-  use-bound i h =
-      let refs = every (λ (f : tables.Ref). isBound p.labels f.label) p.refs in
-      let jumps = every (jumpBound p.labels) p.events in
-      let relocs = every (relocBound p.labels) (tables.view r).relocs in
-      let test : tables.Use → Bool = λ u. isBound p.labels u.label in
-      label-handed (useOf p i).label
-      (is_bound p.labels (useOf p i).label (every-at test p.uses _ (both_true (every test p.uses) (relocs && (refs && jumps)) all-bound).0 i h))
+  pub use_bound : (i : ℕ) → i < length p.uses → handed (use_of p i).label ≢ none
+  unfolding all_bound
+  use_bound i h =
+      let refs = every (λ (f : tables.Ref). is_bound p.labels f.label) p.refs in
+      let jumps = every (jump_bound p.labels) p.events in
+      let relocs = every (reloc_bound p.labels) (tables.view r).relocs in
+      let test : tables.Use → Bool = λ u. is_bound p.labels u.label in
+      label_handed (use_of p i).label
+      (is_bound_lem p.labels (use_of p i).label (every_at test p.uses _ (both_true (every test p.uses) (relocs && (refs && jumps)) all_bound_lem).0 i h))
 
-  pub ref-bound : (i : ℕ) → i < length p.refs → handed (refOf p i).label ≢ none
-  unfolding allBound
-  ref-bound i h =
-      let test : tables.Ref → Bool = λ f. isBound p.labels f.label in
+  pub ref_bound : (i : ℕ) → i < length p.refs → handed (ref_of p i).label ≢ none
+  unfolding all_bound
+  ref_bound i h =
+      let test : tables.Ref → Bool = λ f. is_bound p.labels f.label in
       let refs = every test p.refs in
-      let jumps = every (jumpBound p.labels) p.events in
-      let relocs = every (relocBound p.labels) (tables.view r).relocs in
-      let uses = every (λ (u : tables.Use). isBound p.labels u.label) p.uses in
-      label-handed (refOf p i).label
-      (is_bound p.labels (refOf p i).label
-      (every-at test p.refs _ (both_true refs jumps (both_true relocs (refs && jumps) (both_true uses (relocs && (refs && jumps)) all-bound).1).1).0 i h))
+      let jumps = every (jump_bound p.labels) p.events in
+      let relocs = every (reloc_bound p.labels) (tables.view r).relocs in
+      let uses = every (λ (u : tables.Use). is_bound p.labels u.label) p.uses in
+      label_handed (ref_of p i).label
+      (is_bound_lem p.labels (ref_of p i).label
+      (every_at test p.refs _ (both_true refs jumps (both_true relocs (refs && jumps) (both_true uses (relocs && (refs && jumps)) all_bound_lem).1).1).0 i h))
 
-  pub jump-bound : (i : ℕ) (v : RelaxableJump) → i < length p.events → eventOf p i ≡ Jump v → handed v.label ≢ none
-  unfolding roleOf
-  jump-bound i v h is = label-handed v.label (jumps-bound p (tables.view r).relocs all-bound i (branchOf v) h (ap roleOf is))
+  pub jump_bound_lem : (i : ℕ) (v : RelaxableJump) → i < length p.events → event_of p i ≡ Jump v → handed v.label ≢ none
+  unfolding role_of
+  jump_bound_lem i v h is = label_handed v.label (jumps_bound p (tables.view r).relocs all_bound_lem i (branch_of v) h (ap role_of is))

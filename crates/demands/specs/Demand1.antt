@@ -1,12 +1,12 @@
 -- Demand 1, of a finish: "a refused finish leaves recording and output unchanged", and gives a record of zeros. That every call accepts all inputs and refuses by
 -- number is in the contracts: none has a `requires`.
 use Rattle.std.specs.Prelude.{◌≡◌, List, ℕ, ◌≤◌, length}
-use Rattle.words.specs.Words.{overWords}
+use Rattle.words.specs.Words.{over_words}
 use Rattle.recording.specs.Calls.{Recording}
 use Rattle.finish.specs.declared.CodeBufferFinalized.{CodeBufferFinalized}
 use Rattle.finish.specs.declared.Finished.{Finished}
 use Rattle.finish.specs.Finish.{Left}
-use Rattle.wargnifla.specs.Boundary.{recordSize, recordOf, Lent}
+use Rattle.wargnifla.specs.Boundary.{record_size, record_of, Lent}
 
 abbrev pub zeros : CodeBufferFinalized
 zeros = record { arch = 0; len = 0; alignment = 0; layouts = 0; labels = 0; relocs = 0 }
@@ -25,4 +25,4 @@ pub record LentUnchanged (l : Lent) (output finalized : List ℕ) (answer : ℕ 
   pub labels : answer.1.1.0.0 ≡ l.labels
   pub relocs : answer.1.1.0.1.0 ≡ l.relocs
   pub written : answer.1.1.0.1.1.1 ≡ output
-  pub given : recordSize ≤ length finalized → answer.1.1.1 ≡ overWords finalized (recordOf zeros)
+  pub given : record_size ≤ length finalized → answer.1.1.1 ≡ over_words finalized (record_of zeros)

@@ -9,9 +9,9 @@ use Rattle.relax.specs.declared.Condition.TheVariants.{Always, On}
 
 -- the bytes of one instruction at an address, the condition on which it jumps, and the address to which it does
 pub data Reads (address : ℕ) : List ℕ → Condition → ℕ → Type 0 where
-  jmp-rel8 : (d : ℕ) → Reads address (0xEB ∷ d ∷ []) Always (rel8 (plus address 1) d)
-  jmp-rel32 : (d0 d1 d2 d3 : ℕ)
+  jmp_rel8 : (d : ℕ) → Reads address (0xEB ∷ d ∷ []) Always (rel8 (plus address 1) d)
+  jmp_rel32 : (d0 d1 d2 d3 : ℕ)
       → Reads address (0xE9 ∷ d0 ∷ d1 ∷ d2 ∷ d3 ∷ []) Always (rel32 (plus address 1) (word_at (d0 ∷ d1 ∷ d2 ∷ d3 ∷ []) 0))
-  jcc-rel8 : (cc d : ℕ) → cc < 16 → Reads address ((0x70 + cc) ∷ d ∷ []) (On cc) (rel8 (plus address 1) d)
-  jcc-rel32 : (cc d0 d1 d2 d3 : ℕ) → cc < 16
+  jcc_rel8 : (cc d : ℕ) → cc < 16 → Reads address ((0x70 + cc) ∷ d ∷ []) (On cc) (rel8 (plus address 1) d)
+  jcc_rel32 : (cc d0 d1 d2 d3 : ℕ) → cc < 16
       → Reads address (0x0F ∷ (0x80 + cc) ∷ d0 ∷ d1 ∷ d2 ∷ d3 ∷ []) (On cc) (rel32 (plus address 2) (word_at (d0 ∷ d1 ∷ d2 ∷ d3 ∷ []) 0))

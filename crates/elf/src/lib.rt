@@ -1,6 +1,6 @@
 // A finished record's relocations as ELF's Elf64_Rela entries, for the system's linker, and back.
 ghost use Rattle.std.specs.Prelude.{◌≡◌};
-ghost use Rattle.elf.specs.Elf.{writeRelas, readRelas};
+ghost use Rattle.elf.specs.Elf.{write_relas, read_relas};
 
 use finish::CodeBufferFinalized;
 
@@ -31,7 +31,7 @@ pub fn write_relas(
     section: u32,
     output: &mut [u8],
 ) -> u32
-    ensures { (result, output.new) ≡ writeRelas code labels.now relocs.now section output.old }
+    ensures { (result, output.new) ≡ write_relas code labels.now relocs.now section output.old }
 {
     let why = write::why_not_written(code, labels, relocs, output.len());
     if why != 0 {
@@ -50,7 +50,7 @@ pub fn write_relas(
 
 // Takes entries back to offset, type, symbol and addend: a table of relocations, with types in the place of kinds.
 pub fn read_relas(relas: &[u8], table: &mut [u8]) -> u32
-    ensures { (result, table.new) ≡ readRelas relas.now table.old }
+    ensures { (result, table.new) ≡ read_relas relas.now table.old }
 {
     let why = read::why_not_read(relas, table.len() / buffer::RELOC_SIZE);
     if why != 0 {

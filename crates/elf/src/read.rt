@@ -1,15 +1,15 @@
 // From entries of ELF to a table of offsets, types, symbols and addends.
 ghost use Rattle.std.specs.Prelude.{◌≡◌, ◌+◌, ◌*◌, ◌≤◌, length};
 ghost use Rattle.seqs.specs.Every.{all};
-ghost use Rattle.words.specs.Words.{overWords};
-ghost use Rattle.buffer.specs.Tables.{relocSize};
-ghost use Rattle.elf.specs.Elf.{relaSize, relaAt, readable, relasFit, whyNotRead, wordsOfEntries};
+ghost use Rattle.words.specs.Words.{over_words};
+ghost use Rattle.buffer.specs.Tables.{reloc_size};
+ghost use Rattle.elf.specs.Elf.{rela_size, rela_at, readable, relas_fit, why_not_read, words_of_entries};
 
 use crate::{RELA_SIZE, RELA_WORDS, Rela, types};
 
 // Whether entry `i` has an offset of 32 bits, and a type that is listed.
 fn is_readable(relas: &[u8], i: usize) -> bool
-    requires { i * relaSize + relaSize ≤ length relas.now }
+    requires { i * rela_size + rela_size ≤ length relas.now }
     ensures { result ≡ readable relas.now i }
 {
     let k = i * RELA_WORDS;
@@ -20,7 +20,7 @@ fn is_readable(relas: &[u8], i: usize) -> bool
 }
 
 fn all_readable(relas: &[u8], n: usize) -> bool
-    requires { n * relaSize ≤ length relas.now }
+    requires { n * rela_size ≤ length relas.now }
     ensures { result ≡ all (readable relas.now) n }
 {
     let mut i: usize = 0;
@@ -34,7 +34,7 @@ fn all_readable(relas: &[u8], n: usize) -> bool
 }
 
 fn relas_fit(relas: &[u8]) -> bool
-    ensures { result ≡ relasFit relas.now }
+    ensures { result ≡ relas_fit relas.now }
 {
     if relas.len() % RELA_SIZE != 0 {
         return false;
@@ -44,7 +44,7 @@ fn relas_fit(relas: &[u8]) -> bool
 
 // `room` is how many entries the table has room for.
 pub fn why_not_read(relas: &[u8], room: usize) -> u32
-    ensures { result ≡ whyNotRead relas.now room }
+    ensures { result ≡ why_not_read relas.now room }
 {
     if !relas_fit(relas) {
         return refusals::MALFORMED;
@@ -59,8 +59,8 @@ pub fn why_not_read(relas: &[u8], room: usize) -> u32
 }
 
 fn rela_at(relas: &[u8], i: usize) -> Rela
-    requires { i * relaSize + relaSize ≤ length relas.now }
-    ensures { result ≡ relaAt relas.now i }
+    requires { i * rela_size + rela_size ≤ length relas.now }
+    ensures { result ≡ rela_at relas.now i }
 {
     let k = i * RELA_WORDS;
     Rela {
@@ -74,9 +74,9 @@ fn rela_at(relas: &[u8], i: usize) -> Rela
 
 // Reads the first `n` entries into `table`.
 pub fn put_entries(table: &mut [u8], relas: &[u8], n: usize)
-    requires fact_1 { n * relocSize ≤ length table.old }
-    requires fact_2 { n * relaSize ≤ length relas.now }
-    ensures { table.new ≡ overWords table.old (wordsOfEntries relas.now n) }
+    requires fact_1 { n * reloc_size ≤ length table.old }
+    requires fact_2 { n * rela_size ≤ length relas.now }
+    ensures { table.new ≡ over_words table.old (words_of_entries relas.now n) }
 {
     let mut i: usize = 0;
     while i < n {

@@ -1,13 +1,13 @@
 // The types that ELF has for kinds of relocation, by the names of the two psABIs.
 ghost use Rattle.std.specs.Prelude.{◌≡◌, slice_index_or};
-ghost use Rattle.elf.specs.Elf.{noType, x64Types, a64Types, elfType, hasTypes, typeListed};
+ghost use Rattle.elf.specs.Elf.{no_type, x64_types, a64_types, elf_type_of, has_types, type_listed};
 
 // No type: R_X86_64_NONE, R_AARCH64_NONE.
 pub const NO_TYPE: u32 = 0;
 
 // The type of a kind on X64.
 fn x64_type(kind: u32) -> u32
-    ensures { result ≡ slice_index_or x64Types kind noType }
+    ensures { result ≡ slice_index_or x64_types kind no_type }
 {
     // Abs4: R_X86_64_32
     if kind == 0 {
@@ -42,7 +42,7 @@ fn x64_type(kind: u32) -> u32
 
 // And on AArch64.
 fn aarch64_type(kind: u32) -> u32
-    ensures { result ≡ slice_index_or a64Types kind noType }
+    ensures { result ≡ slice_index_or a64_types kind no_type }
 {
     // Abs4: R_AARCH64_ABS32
     if kind == 0 {
@@ -69,7 +69,7 @@ fn aarch64_type(kind: u32) -> u32
 
 // The type of a kind, or `NO_TYPE`.
 pub fn elf_type(arch: u32, kind: u32) -> u32
-    ensures { result ≡ elfType arch kind }
+    ensures { result ≡ elf_type_of arch kind }
 {
     if arch == fields::X64 {
         return x64_type(kind);
@@ -82,7 +82,7 @@ pub fn elf_type(arch: u32, kind: u32) -> u32
 
 // Whether the architecture has types.
 pub fn has_types(arch: u32) -> bool
-    ensures { result ≡ hasTypes arch }
+    ensures { result ≡ has_types arch }
 {
     if arch == fields::X64 {
         return true;
@@ -92,7 +92,7 @@ pub fn has_types(arch: u32) -> bool
 
 // Whether a type stands in one of the two tables.
 pub fn is_listed(elf_type: u32) -> bool
-    ensures { result ≡ typeListed elf_type }
+    ensures { result ≡ type_listed elf_type }
 {
     match elf_type {
         // R_X86_64_64, _PC32, _PLT32, _GOTPCREL, _32 and _TLSGD

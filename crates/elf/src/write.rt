@@ -2,12 +2,12 @@
 ghost use Rattle.std.specs.Prelude.{◌≡◌, ◌+◌, ◌-◌, ◌*◌, ◌≤◌, length, nat_lt};
 ghost use Rattle.seqs.specs.Over.{over};
 ghost use Rattle.seqs.specs.Pick.{pick};
-ghost use Rattle.words.specs.Words.{word_at, bytesOfAll, overWords};
-ghost use Rattle.buffer.specs.State.{labelTarget};
-ghost use Rattle.buffer.specs.Tables.{labelSize, relocWords, relocSize};
-ghost use Rattle.recording.specs.View.{relocAt};
+ghost use Rattle.words.specs.Words.{word_at, bytes_of_all, over_words};
+ghost use Rattle.buffer.specs.State.{label_target};
+ghost use Rattle.buffer.specs.Tables.{label_size, reloc_words, reloc_size};
+ghost use Rattle.recording.specs.View.{reloc_at};
 ghost use Rattle.checks.specs.steps.Handed.{TargetsNamed};
-ghost use Rattle.elf.specs.Elf.{relaSize, targetBound, allTargetsBound, targetOffset, relaOf, leavesSigned, whyNoRela, whyNoRelas, relocsFit, withinLimits, whyUnfit, whyNotWritten, wordsOfRela, wordsOfRelas};
+ghost use Rattle.elf.specs.Elf.{rela_size, target_bound, all_targets_bound, target_offset, rela_of, leaves_signed, why_no_rela, why_no_relas, relocs_fit, within_limits, why_unfit, why_not_written, words_of_rela, words_of_relas};
 
 use crate::{RELA_SIZE, RELA_WORDS, Rela, types};
 use finish::CodeBufferFinalized;
@@ -17,8 +17,8 @@ const FIRST_NEGATIVE: u64 = 1 << 63;
 
 // Whether a target is a symbol, or a label that is one of the first `count` and bound.
 fn is_target_bound(labels: &[u8], count: u32, target: u32) -> bool
-    requires { count * labelSize ≤ length labels.now }
-    ensures { result ≡ targetBound labels.now count target }
+    requires { count * label_size ≤ length labels.now }
+    ensures { result ≡ target_bound labels.now count target }
 {
     if target < buffer::LABEL_TARGET {
         return true;
@@ -31,9 +31,9 @@ fn is_target_bound(labels: &[u8], count: u32, target: u32) -> bool
 }
 
 fn all_targets_bound(labels: &[u8], count: u32, relocs: &[u8], n: usize) -> bool
-    requires fact_1 { count * labelSize ≤ length labels.now }
-    requires fact_2 { n * relocSize ≤ length relocs.now }
-    ensures { result ≡ allTargetsBound labels.now count relocs.now n }
+    requires fact_1 { count * label_size ≤ length labels.now }
+    requires fact_2 { n * reloc_size ≤ length relocs.now }
+    ensures { result ≡ all_targets_bound labels.now count relocs.now n }
 {
     let mut i: usize = 0;
     while i < n {
@@ -48,8 +48,8 @@ fn all_targets_bound(labels: &[u8], count: u32, relocs: &[u8], n: usize) -> bool
 
 // What a target adds to the addend: a label its offset, a symbol nothing.
 fn target_offset(labels: &[u8], target: u32) -> u32
-    requires { labelTarget ≤ target → (target - labelTarget) * labelSize + labelSize ≤ length labels.now }
-    ensures { result ≡ targetOffset labels.now target }
+    requires { label_target ≤ target → (target - label_target) * label_size + label_size ≤ length labels.now }
+    ensures { result ≡ target_offset labels.now target }
 {
     if target < buffer::LABEL_TARGET {
         return 0;
@@ -58,8 +58,8 @@ fn target_offset(labels: &[u8], target: u32) -> u32
 }
 
 fn addend_at(relocs: &[u8], i: usize) -> u64
-    requires { i * relocSize + relocSize ≤ length relocs.now }
-    ensures { result ≡ (relocAt relocs.now i).addend }
+    requires { i * reloc_size + reloc_size ≤ length relocs.now }
+    ensures { result ≡ (reloc_at relocs.now i).addend }
 {
     let k = i * buffer::RELOC_WORDS;
     words::word_at(relocs, k + 4) as u64 + words::word_at(relocs, k + 5) as u64 * 4294967296
@@ -67,7 +67,7 @@ fn addend_at(relocs: &[u8], i: usize) -> u64
 
 // Whether the sum leaves signed 64 bits.
 fn leaves_signed(addend: u64, offset: u32) -> bool
-    ensures { result ≡ leavesSigned addend offset }
+    ensures { result ≡ leaves_signed addend offset }
 {
     if addend < FIRST_NEGATIVE {
         return FIRST_NEGATIVE <= addend + offset as u64;
@@ -77,9 +77,9 @@ fn leaves_signed(addend: u64, offset: u32) -> bool
 
 // 24 and 25, of entry `i`.
 fn why_no_rela(arch: u32, labels: &[u8], relocs: &[u8], i: usize) -> u32
-    requires fact_1 { i * relocSize + relocSize ≤ length relocs.now }
-    requires fact_2 { (labelTarget ≤ word_at relocs.now (i * relocWords + 2) → (word_at relocs.now (i * relocWords + 2) - labelTarget) * labelSize + labelSize ≤ length labels.now) }
-    ensures { result ≡ whyNoRela arch labels.now (relocAt relocs.now i) }
+    requires fact_1 { i * reloc_size + reloc_size ≤ length relocs.now }
+    requires fact_2 { (label_target ≤ word_at relocs.now (i * reloc_words + 2) → (word_at relocs.now (i * reloc_words + 2) - label_target) * label_size + label_size ≤ length labels.now) }
+    ensures { result ≡ why_no_rela arch labels.now (reloc_at relocs.now i) }
 {
     let k = i * buffer::RELOC_WORDS;
     if types::elf_type(arch, words::word_at(relocs, k + 1)) == types::NO_TYPE {
@@ -94,9 +94,9 @@ fn why_no_rela(arch: u32, labels: &[u8], relocs: &[u8], i: usize) -> u32
 
 // The first of these numbers, of the first `n` entries.
 fn why_no_relas(arch: u32, labels: &[u8], relocs: &[u8], n: usize) -> u32
-    requires fact_1 { n * relocSize ≤ length relocs.now }
+    requires fact_1 { n * reloc_size ≤ length relocs.now }
     requires fact_2 { TargetsNamed relocs.now n labels.now }
-    ensures { result ≡ whyNoRelas arch labels.now relocs.now n }
+    ensures { result ≡ why_no_relas arch labels.now relocs.now n }
 {
     let mut i: usize = 0;
     while i < n {
@@ -110,7 +110,7 @@ fn why_no_relas(arch: u32, labels: &[u8], relocs: &[u8], n: usize) -> u32
 }
 
 fn relocs_fit(code: CodeBufferFinalized, labels: &[u8], relocs: &[u8]) -> bool
-    ensures { result ≡ relocsFit code labels.now relocs.now }
+    ensures { result ≡ relocs_fit code labels.now relocs.now }
 {
     if labels.len() / buffer::LABEL_SIZE < code.labels as usize {
         return false;
@@ -122,7 +122,7 @@ fn relocs_fit(code: CodeBufferFinalized, labels: &[u8], relocs: &[u8]) -> bool
 }
 
 fn within_limits(labels: &[u8], relocs: &[u8]) -> bool
-    ensures { result ≡ withinLimits labels.now relocs.now }
+    ensures { result ≡ within_limits labels.now relocs.now }
 {
     buffer::both(
         labels.len() / buffer::LABEL_SIZE <= buffer::MOST_ENTRIES,
@@ -132,7 +132,7 @@ fn within_limits(labels: &[u8], relocs: &[u8]) -> bool
 
 // 1, 3, and 24 of the architecture.
 fn why_unfit(code: CodeBufferFinalized, labels: &[u8], relocs: &[u8]) -> u32
-    ensures { result ≡ whyUnfit code labels.now relocs.now }
+    ensures { result ≡ why_unfit code labels.now relocs.now }
 {
     if !relocs_fit(code, labels, relocs) {
         return refusals::MALFORMED;
@@ -147,7 +147,7 @@ fn why_unfit(code: CodeBufferFinalized, labels: &[u8], relocs: &[u8]) -> u32
 }
 
 pub fn why_not_written(code: CodeBufferFinalized, labels: &[u8], relocs: &[u8], room: usize) -> u32
-    ensures { result ≡ whyNotWritten code labels.now relocs.now room }
+    ensures { result ≡ why_not_written code labels.now relocs.now room }
 {
     let unfit = why_unfit(code, labels, relocs);
     if unfit != 0 {
@@ -166,7 +166,7 @@ pub fn why_not_written(code: CodeBufferFinalized, labels: &[u8], relocs: &[u8], 
 
 // The symbol of a target: its own number, or `section` where it is a label's.
 fn symbol_of(target: u32, section: u32) -> u32
-    ensures { result ≡ pick (nat_lt target labelTarget) target section }
+    ensures { result ≡ pick (nat_lt target label_target) target section }
 {
     if target < buffer::LABEL_TARGET {
         return target;
@@ -176,9 +176,9 @@ fn symbol_of(target: u32, section: u32) -> u32
 
 // Relocation `i` as an entry.
 fn rela_of(arch: u32, labels: &[u8], section: u32, relocs: &[u8], i: usize) -> Rela
-    requires fact_1 { i * relocSize + relocSize ≤ length relocs.now }
-    requires fact_2 { (labelTarget ≤ word_at relocs.now (i * relocWords + 2) → (word_at relocs.now (i * relocWords + 2) - labelTarget) * labelSize + labelSize ≤ length labels.now) }
-    ensures { result ≡ relaOf arch labels.now section (relocAt relocs.now i) }
+    requires fact_1 { i * reloc_size + reloc_size ≤ length relocs.now }
+    requires fact_2 { (label_target ≤ word_at relocs.now (i * reloc_words + 2) → (word_at relocs.now (i * reloc_words + 2) - label_target) * label_size + label_size ≤ length labels.now) }
+    ensures { result ≡ rela_of arch labels.now section (reloc_at relocs.now i) }
 {
     let k = i * buffer::RELOC_WORDS;
     let target = words::word_at(relocs, k + 2);
@@ -194,8 +194,8 @@ fn rela_of(arch: u32, labels: &[u8], section: u32, relocs: &[u8], i: usize) -> R
 
 // Makes entry `i` of `output`.
 fn put_rela(output: &mut [u8], i: usize, rela: Rela)
-    requires { i * relaSize + relaSize ≤ length output.old }
-    ensures { output.new ≡ over output.old (i * relaSize) (bytesOfAll (wordsOfRela rela)) }
+    requires { i * rela_size + rela_size ≤ length output.old }
+    ensures { output.new ≡ over output.old (i * rela_size) (bytes_of_all (words_of_rela rela)) }
 {
     let k = i * RELA_WORDS;
     words::put_word(output, k, rela.offset);
@@ -208,10 +208,10 @@ fn put_rela(output: &mut [u8], i: usize, rela: Rela)
 
 // Writes the first `n` relocations.
 pub fn put_relas(output: &mut [u8], arch: u32, labels: &[u8], section: u32, relocs: &[u8], n: usize)
-    requires fact_1 { n * relaSize ≤ length output.old }
-    requires fact_2 { n * relocSize ≤ length relocs.now }
+    requires fact_1 { n * rela_size ≤ length output.old }
+    requires fact_2 { n * reloc_size ≤ length relocs.now }
     requires fact_3 { TargetsNamed relocs.now n labels.now }
-    ensures { output.new ≡ overWords output.old (wordsOfRelas arch labels.now section relocs.now n) }
+    ensures { output.new ≡ over_words output.old (words_of_relas arch labels.now section relocs.now n) }
 {
     let mut i: usize = 0;
     while i < n {

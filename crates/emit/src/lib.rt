@@ -4,27 +4,27 @@ ghost use Rattle.std.specs.Prelude.{◌≡◌, ℕ, ◌+◌, ◌-◌, ◌*◌, �
 ghost use Rattle.seqs.specs.Over.{over};
 ghost use Rattle.words.specs.Words.{word_at};
 ghost use Rattle.fields.specs.declared.Decoded.TheVariants.{Use};
-ghost use Rattle.fields.specs.Kinds.{decoded, patchSize};
-ghost use Rattle.fields.specs.Words64.{plus, minus, signExtend};
-ghost use Rattle.fields.specs.Patch.{patched, patchedUse};
-ghost use Rattle.relax.specs.Events.{eventAt, eventSize, start_of, extentOf, end_of};
-ghost use Rattle.buffer.specs.Tables.{labelSize, refWords, refSize};
+ghost use Rattle.fields.specs.Kinds.{decoded, patch_size};
+ghost use Rattle.fields.specs.Words64.{plus, minus, sign_extend};
+ghost use Rattle.fields.specs.Patch.{patched, patched_use};
+ghost use Rattle.relax.specs.Events.{event_at, event_size, start_of, extent_of, end_of};
+ghost use Rattle.buffer.specs.Tables.{label_size, ref_words, ref_size};
 ghost use Rattle.recording.specs.View.{entries};
-ghost use Rattle.fresh.specs.Forms.{shortForm, longForm, form, width, field_of, branchOf, farBranchOf};
-ghost use Rattle.fresh.specs.Fill.{part, fillField, fillJump};
-ghost use Rattle.fresh.specs.Segments.{mapOffset};
-ghost use Rattle.fresh.specs.steps.Runs.{formAt, runs};
-ghost use Rattle.pool.specs.steps.Pool.{offsetBound};
+ghost use Rattle.fresh.specs.Forms.{short_form, long_form, form, width, field_of, branch_of, far_branch_of};
+ghost use Rattle.fresh.specs.Fill.{part, fill_field, fill_jump};
+ghost use Rattle.fresh.specs.Segments.{map_offset};
+ghost use Rattle.fresh.specs.steps.Runs.{form_at, runs};
+ghost use Rattle.pool.specs.steps.Pool.{offset_bound};
 ghost use Rattle.lookup.specs.steps.Index.{Indexed};
 ghost use Rattle.layout.specs.steps.Layout.{start_at, Rising};
-ghost use Rattle.emit.specs.steps.Emit.{jumpForm, branchForm, Encodes, Writes, Keeps, Emits, useFilled, usesFilled, UseFits, UsesFit, refFilled, refsFilled, RefFits, RefsFit, fieldReaches, refsReach, RefsKnown, jumpsFilled, JumpFits, JumpsFit, mappedWords, WordsFit};
+ghost use Rattle.emit.specs.steps.Emit.{jump_form, branch_form, Encodes, Writes, Keeps, Emits, use_filled, uses_filled, UseFits, UsesFit, ref_filled, refs_filled, RefFits, RefsFit, field_reaches, refs_reach, RefsKnown, jumps_filled, JumpFits, JumpsFit, mapped_words, WordsFit};
 
 use fields::{Decoded, LabelUse};
 use relax::{Condition, FarBranch, LayoutEvent, RelaxableJump, Segment};
 
 fn short_opcode(cc: Condition) -> u8
     requires { Encodes cc }
-    ensures { shortForm cc ≡ result ∷ 0 ∷ [] }
+    ensures { short_form cc ≡ result ∷ 0 ∷ [] }
 {
     match cc {
         Condition::Always => 0xeb,
@@ -34,8 +34,8 @@ fn short_opcode(cc: Condition) -> u8
 
 fn put_short(part: &mut [u8], cc: Condition)
     requires fact_1 { Encodes cc }
-    requires fact_2 { length part.old ≡ length (shortForm cc) }
-    ensures { part.new ≡ shortForm cc }
+    requires fact_2 { length part.old ≡ length (short_form cc) }
+    ensures { part.new ≡ short_form cc }
 {
     buffer::bytes::clear(part);
     part[0] = short_opcode(cc);
@@ -43,8 +43,8 @@ fn put_short(part: &mut [u8], cc: Condition)
 
 fn put_long(part: &mut [u8], cc: Condition)
     requires fact_1 { Encodes cc }
-    requires fact_2 { length part.old ≡ length (longForm cc) }
-    ensures { part.new ≡ longForm cc }
+    requires fact_2 { length part.old ≡ length (long_form cc) }
+    ensures { part.new ≡ long_form cc }
 {
     buffer::bytes::clear(part);
     match cc {
@@ -61,8 +61,8 @@ fn put_long(part: &mut [u8], cc: Condition)
 // Fills `part` with a jump whose displacement is 0.
 pub fn put_jump(part: &mut [u8], cc: Condition, long: bool)
     requires fact_1 { Encodes cc }
-    requires fact_2 { length part.old ≡ length (jumpForm cc long) }
-    ensures { part.new ≡ jumpForm cc long }
+    requires fact_2 { length part.old ≡ length (jump_form cc long) }
+    ensures { part.new ≡ jump_form cc long }
 {
     if long {
         put_long(part, cc);
@@ -73,8 +73,8 @@ pub fn put_jump(part: &mut [u8], cc: Condition, long: bool)
 
 // Fills `part` with a branch whose displacement is as recorded: `word`, or its inverse over a B.
 fn put_branch(part: &mut [u8], code: u32, word: u32, long: bool)
-    requires { length part.old ≡ length (branchForm code word long) }
-    ensures { part.new ≡ branchForm code word long }
+    requires { length part.old ≡ length (branch_form code word long) }
+    ensures { part.new ≡ branch_form code word long }
 {
     if long {
         words::put_word(part, 0, fields::skipping(code, word));
@@ -116,7 +116,7 @@ pub fn copy_run(output: &mut [u8], code: &[u8], old: usize, start: usize, new: u
 // The word that a branch was recorded with; 0 of any other event.
 fn recorded_word(code: &[u8], event: LayoutEvent) -> u32
     requires { Writes event × (end_of event ≤ length code.now) }
-    ensures { Keeps event result (part code.now (start_of event) (extentOf event)) }
+    ensures { Keeps event result (part code.now (start_of event) (extent_of event)) }
 {
     match event {
         LayoutEvent::Jump(_) => 0,
@@ -166,10 +166,10 @@ fn emit_segment(
     new: usize,
     arch: u32,
 )
-    requires fact_1 { (i * eventSize + eventSize ≤ length events.now) × Writes (eventAt events.now i) × (end_of (eventAt events.now i) ≤ length code.now) }
+    requires fact_1 { (i * event_size + event_size ≤ length events.now) × Writes (event_at events.now i) × (end_of (event_at events.now i) ≤ length code.now) }
     requires fact_2 { (old ≤ segment.old_start) × (segment.old_start ≤ length code.now) × (new + (segment.old_start - old) ≤ length output.old) }
-    requires fact_3 { (segment.new_end ≡ segment.new_start + width (eventAt events.now i) long segment.new_start) × (segment.new_end ≤ length output.old) }
-    ensures { output.new ≡ over (over output.old new (take (segment.old_start - old) (drop old code.now))) segment.new_start (formAt arch code.now (eventAt events.now i) long segment.new_start) }
+    requires fact_3 { (segment.new_end ≡ segment.new_start + width (event_at events.now i) long segment.new_start) × (segment.new_end ≤ length output.old) }
+    ensures { output.new ≡ over (over output.old new (take (segment.old_start - old) (drop old code.now))) segment.new_start (form_at arch code.now (event_at events.now i) long segment.new_start) }
 {
     let event = relax::event_at(events, i);
     copy_run(output, code, old, segment.old_start as usize, new);
@@ -189,7 +189,7 @@ pub fn emit_events(
     arch: u32,
 )
     requires { Emits output.old code.now events.now long.now segments.now n len arch }
-    ensures { output.new ≡ over output.old 0 (runs arch 0 0 (take len code.now) (entries (eventAt events.now) n) long.now) }
+    ensures { output.new ≡ over output.old 0 (runs arch 0 0 (take len code.now) (entries (event_at events.now) n) long.now) }
 {
     let mut old: usize = 0;
     let mut new: usize = 0;
@@ -205,8 +205,8 @@ pub fn emit_events(
 }
 
 fn patch_field(output: &mut [u8], kind: LabelUse, at: u32, label: u32, addend: u32)
-    requires { at + patchSize kind ≤ length output.old }
-    ensures { output.new ≡ over output.old at (patched kind at (plus label (signExtend 32 addend)) (part output.old at (patchSize kind))) }
+    requires { at + patch_size kind ≤ length output.old }
+    ensures { output.new ≡ over output.old at (patched kind at (plus label (sign_extend 32 addend)) (part output.old at (patch_size kind))) }
 {
     let start = at as usize;
     let end = start + kind.patch_size();
@@ -215,8 +215,8 @@ fn patch_field(output: &mut [u8], kind: LabelUse, at: u32, label: u32, addend: u
 }
 
 fn patch_held(output: &mut [u8], kind: LabelUse, at: u32, label: u32)
-    requires { at + patchSize kind ≤ length output.old }
-    ensures { output.new ≡ over output.old at (patchedUse kind at label (part output.old at (patchSize kind))) }
+    requires { at + patch_size kind ≤ length output.old }
+    ensures { output.new ≡ over output.old at (patched_use kind at label (part output.old at (patch_size kind))) }
 {
     let start = at as usize;
     let end = start + kind.patch_size();
@@ -225,7 +225,7 @@ fn patch_held(output: &mut [u8], kind: LabelUse, at: u32, label: u32)
 
 fn patch_use(output: &mut [u8], uses: &[u8], labels: &[u8], i: usize)
     requires { UseFits (length output.old) uses.now labels.now i }
-    ensures { output.new ≡ useFilled uses.now labels.now i output.old }
+    ensures { output.new ≡ use_filled uses.now labels.now i output.old }
 {
     let at = words::word_at(uses, i * buffer::USE_WORDS);
     let number = words::word_at(uses, i * buffer::USE_WORDS + 1) as usize;
@@ -241,7 +241,7 @@ fn patch_use(output: &mut [u8], uses: &[u8], labels: &[u8], i: usize)
 // Patches the uses in order.
 pub fn patch_uses(output: &mut [u8], uses: &[u8], labels: &[u8], count: usize)
     requires { UsesFit (length output.old) uses.now labels.now count }
-    ensures { output.new ≡ usesFilled output.old uses.now labels.now count }
+    ensures { output.new ≡ uses_filled output.old uses.now labels.now count }
 {
     let mut i: usize = 0;
     while i < count {
@@ -252,8 +252,8 @@ pub fn patch_uses(output: &mut [u8], uses: &[u8], labels: &[u8], count: usize)
 
 // The offset of the label that ref `i` names.
 fn ref_label(refs: &[u8], labels: &[u8], i: usize) -> u32
-    requires { (i * refSize + refSize ≤ length refs.now) × (word_at refs.now (i * refWords + 1) * labelSize + labelSize ≤ length labels.now) }
-    ensures { result ≡ word_at labels.now (word_at refs.now (i * refWords + 1)) }
+    requires { (i * ref_size + ref_size ≤ length refs.now) × (word_at refs.now (i * ref_words + 1) * label_size + label_size ≤ length labels.now) }
+    ensures { result ≡ word_at labels.now (word_at refs.now (i * ref_words + 1)) }
 {
     let number = words::word_at(refs, i * buffer::REF_WORDS + 1) as usize;
     words::word_at(labels, number)
@@ -262,7 +262,7 @@ fn ref_label(refs: &[u8], labels: &[u8], i: usize) -> u32
 // Fills ref `i`, whose field stands at `at`.
 fn patch_ref(output: &mut [u8], refs: &[u8], labels: &[u8], at: u32, i: usize)
     requires { RefFits (length output.old) refs.now labels.now at i }
-    ensures { output.new ≡ refFilled refs.now labels.now at i output.old }
+    ensures { output.new ≡ ref_filled refs.now labels.now at i output.old }
 {
     let label = ref_label(refs, labels, i);
     let kind = LabelUse::from_code(words::word_at(refs, i * buffer::REF_WORDS + 2));
@@ -288,7 +288,7 @@ pub fn patch_refs(
     requires fact_1 { Rising segments.now n }
     requires fact_2 { Indexed index.now (start_at segments.now) n shift }
     requires fact_3 { RefsFit (length output.old) refs.now labels.now segments.now n count }
-    ensures { output.new ≡ refsFilled output.old refs.now labels.now segments.now n count }
+    ensures { output.new ≡ refs_filled output.old refs.now labels.now segments.now n count }
 {
     let mut i: usize = 0;
     while i < count {
@@ -306,7 +306,7 @@ pub fn patch_refs(
 
 // How far from the field's first byte its target is.
 fn distance(at: u32, label: u32, addend: u32) -> u64
-    ensures { result ≡ minus (plus label (signExtend 32 addend)) at }
+    ensures { result ≡ minus (plus label (sign_extend 32 addend)) at }
 {
     let target = std::num::wrapping_add_u64(label as u64, fields::sign_extend_32(addend));
     std::num::wrapping_sub_u64(target, at as u64)
@@ -314,8 +314,8 @@ fn distance(at: u32, label: u32, addend: u32) -> u64
 
 // Whether ref `i` does, its field at `at` and its label at `label`.
 fn ref_reaches(refs: &[u8], at: u32, label: u32, i: usize) -> bool
-    requires { i * refSize + refSize ≤ length refs.now }
-    ensures { result ≡ fieldReaches (decoded (word_at refs.now (i * refWords + 2))) at label (word_at refs.now (i * refWords + 3)) }
+    requires { i * ref_size + ref_size ≤ length refs.now }
+    ensures { result ≡ field_reaches (decoded (word_at refs.now (i * ref_words + 2))) at label (word_at refs.now (i * ref_words + 3)) }
 {
     let kind = LabelUse::from_code(words::word_at(refs, i * buffer::REF_WORDS + 2));
     let far = distance(at, label, words::word_at(refs, i * buffer::REF_WORDS + 3));
@@ -339,7 +339,7 @@ pub fn refs_reach(
     requires fact_1 { Rising segments.now n }
     requires fact_2 { Indexed index.now (start_at segments.now) n shift }
     requires fact_3 { RefsKnown refs.now labels.now count }
-    ensures { result ≡ refsReach refs.now labels.now segments.now n count }
+    ensures { result ≡ refs_reach refs.now labels.now segments.now n count }
 {
     let mut i: usize = 0;
     while i < count {
@@ -361,9 +361,9 @@ pub fn refs_reach(
 
 // A jump's displacement is a field: its last byte where it is short, else its last four. `start` is the jump's.
 fn patch_displacement(output: &mut [u8], jump: RelaxableJump, long: bool, start: u32, label: u32)
-    requires fact_1 { start + (field_of (branchOf jump) long).place + patchSize (field_of (branchOf jump) long).kind ≤ length output.old }
-    requires fact_2 { start ≤ offsetBound }
-    ensures { output.new ≡ fillField (Use (field_of (branchOf jump) long).kind) (start + (field_of (branchOf jump) long).place) label 0 output.old }
+    requires fact_1 { start + (field_of (branch_of jump) long).place + patch_size (field_of (branch_of jump) long).kind ≤ length output.old }
+    requires fact_2 { start ≤ offset_bound }
+    ensures { output.new ≡ fill_field (Use (field_of (branch_of jump) long).kind) (start + (field_of (branch_of jump) long).place) label 0 output.old }
 {
     if long {
         let at = start + (jump.long_len() - 4);
@@ -376,9 +376,9 @@ fn patch_displacement(output: &mut [u8], jump: RelaxableJump, long: bool, start:
 
 // A branch's displacement is in its word, or in the B after its inverse. `start` is the branch's.
 fn patch_branch(output: &mut [u8], branch: FarBranch, long: bool, start: u32, label: u32)
-    requires fact_1 { start + (field_of (farBranchOf branch) long).place + patchSize (field_of (farBranchOf branch) long).kind ≤ length output.old }
-    requires fact_2 { start ≤ offsetBound }
-    ensures { output.new ≡ fillField (Use (field_of (farBranchOf branch) long).kind) (start + (field_of (farBranchOf branch) long).place) label 0 output.old }
+    requires fact_1 { start + (field_of (far_branch_of branch) long).place + patch_size (field_of (far_branch_of branch) long).kind ≤ length output.old }
+    requires fact_2 { start ≤ offset_bound }
+    ensures { output.new ≡ fill_field (Use (field_of (far_branch_of branch) long).kind) (start + (field_of (far_branch_of branch) long).place) label 0 output.old }
 {
     if long {
         patch_field(
@@ -403,7 +403,7 @@ fn patch_jump(
     i: usize,
 )
     requires { JumpFits (length output.old) events.now labels.now long segment.new_start i }
-    ensures { output.new ≡ fillJump (word_at labels.now) (eventAt events.now i) long segment.new_start output.old }
+    ensures { output.new ≡ fill_jump (word_at labels.now) (event_at events.now i) long segment.new_start output.old }
 {
     let event = relax::event_at(events, i);
     match event {
@@ -429,7 +429,7 @@ pub fn patch_jumps(
     n: usize,
 )
     requires { JumpsFit (length output.old) events.now labels.now long.now segments.now n }
-    ensures { output.new ≡ jumpsFilled output.old events.now labels.now long.now segments.now n }
+    ensures { output.new ≡ jumps_filled output.old events.now labels.now long.now segments.now n }
 {
     let mut i: usize = 0;
     while i < n {
@@ -452,7 +452,7 @@ pub fn map_words(
     requires fact_1 { Rising segments.now n }
     requires fact_2 { Indexed index.now (start_at segments.now) n shift }
     requires fact_3 { WordsFit table.old stride count }
-    ensures { table.new ≡ mappedWords (mapOffset (take n segments.now)) table.old stride count }
+    ensures { table.new ≡ mapped_words (map_offset (take n segments.now)) table.old stride count }
 {
     let mut i: usize = 0;
     while i < count {

@@ -20,10 +20,10 @@ unfoldable pub form : ℕ → List ℕ
 form n = slice_index_or ([] ∷ forms) n []
 
 -- `nines` forms of 9 bytes, then the form of the remainder.
-unfoldable pub nopsBy : ℕ → ℕ → List ℕ
-nopsBy zero remainder = form remainder
-nopsBy (suc nines) remainder = form 9 ++ nopsBy nines remainder
+unfoldable pub nops_by : ℕ → ℕ → List ℕ
+nops_by zero remainder = form remainder
+nops_by (suc nines) remainder = form 9 ++ nops_by nines remainder
 
 -- len bytes: 9-byte forms while 9 or more remain, then the remainder; 10 is 9 then 1.
 unfoldable pub nops : ℕ → List ℕ
-nops len = nopsBy (len / 9) (len % 9)
+nops len = nops_by (len / 9) (len % 9)

@@ -1,7 +1,7 @@
 // x86 padding: NOP instructions, and how many bytes an alignment takes. After asmkit's x86/encoder.rs (see NOTICE).
 ghost use Rattle.std.specs.Prelude.{◌≡◌, ◌≤◌, length, take};
 ghost use Rattle.encoder.specs.Nops.{form, nops};
-ghost use Rattle.encoder.specs.Padding.{paddingLength, paddingWithin};
+ghost use Rattle.encoder.specs.Padding.{padding_length, padding_within};
 
 // Row n - 1 starts with the form of n bytes; its rest is 0.
 const NOP_TABLE: [[u8; 9]; 9] = [
@@ -46,7 +46,7 @@ pub fn push_nops(pad: &mut [u8])
 
 // The least number of bytes that takes `offset` to a multiple of `align_to`; 0 where that is 0. A power of two takes no division.
 pub fn padding_len(offset: u32, align_to: u32) -> u32
-    ensures { result ≡ paddingLength offset align_to }
+    ensures { result ≡ padding_length offset align_to }
 {
     if align_to == 0 {
         return 0;
@@ -64,7 +64,7 @@ pub fn padding_len(offset: u32, align_to: u32) -> u32
 
 // The same, or 0 where that is more than `most`.
 pub fn padding_within(offset: u32, align_to: u32, most: u32) -> u32
-    ensures { result ≡ paddingWithin offset align_to most }
+    ensures { result ≡ padding_within offset align_to most }
 {
     let needed = padding_len(offset, align_to);
     if needed <= most { needed } else { 0 }

@@ -1,7 +1,7 @@
 -- Patching changes no bit outside the field.
 use Rattle.std.proofs.Common.{◌≡◌, ℕ, ◌+◌, ◌-◌, ◌*◌, ◌/◌, ◌%◌, ◌^◌, ◌<◌, ◌≤◌, true, false, ◌||◌, ◌⊎◌, sym, ap, ◌∙◌, inl, inr, ⊎_elim, arith, lt-ltb, le-leb}
-use Rattle.seqs.proofs.Booleans.{true-is-not-false, both_false}
-use Rattle.seqs.proofs.Numbers.{lt-or-ge}
+use Rattle.seqs.proofs.Booleans.{true_is_not_false, both_false}
+use Rattle.seqs.proofs.Numbers.{lt_or_ge}
 use Rattle.fields.specs.declared.LabelUse.{LabelUse}
 use Rattle.fields.specs.declared.LabelUse.TheVariants.{
   X86JmpRel32,
@@ -15,11 +15,11 @@ use Rattle.fields.specs.declared.LabelUse.TheVariants.{
   A64AddAbsLo12,
 }
 use Rattle.fields.specs.Words64.{minus}
-use Rattle.fields.specs.Bits.{bits, insertBits}
-use Rattle.fields.specs.Kinds.{patchSize}
-use Rattle.fields.specs.Patch.{patchedWord, insertAdr}
-use Rattle.fields.specs.Meaning.{covers, inField}
-use Rattle.fields.proofs.Insertion.{insert-below, insert-above}
+use Rattle.fields.specs.Bits.{bits, insert_bits}
+use Rattle.fields.specs.Kinds.{patch_size}
+use Rattle.fields.specs.Patch.{patched_word, insert_adr}
+use Rattle.fields.specs.Meaning.{covers, in_field}
+use Rattle.fields.proofs.Insertion.{insert_below, insert_above}
 
 -- a bit outside a field is below it or above it
 outside : (p n i : ℕ) → covers p n i ≡ false → (1 + i ≤ p) ⊎ (p + n ≤ i)
@@ -30,41 +30,41 @@ outside p n i h =
     ⊎_elim
     (λ lt.
     let yes : covers p n i ≡ true = rw (le-leb p i ge, lt-ltb i (p + n) lt) in
-    absurd (true-is-not-false (sym yes ∙ h)))
+    absurd (true_is_not_false (sym yes ∙ h)))
     (λ above. inr above)
-    (lt-or-ge i (p + n)))
-    (lt-or-ge i p)
+    (lt_or_ge i (p + n)))
+    (lt_or_ge i p)
 
 -- bit i, as Arm writes word<i:i>
 bit : (i word : ℕ) → bits i i word ≡ word / 2 ^ i % 2 ^ 1
 bit i word = let e : i + 1 - i ≡ 1 = omega arith in ap (λ (n : ℕ). word / 2 ^ i % 2 ^ n) e
 
-insert-outside : (p n w v i : ℕ) → covers p n i ≡ false → bits i i (insertBits p n w v) ≡ bits i i w
-insert-outside p n w v i h =
-    bit i (insertBits p n w v)
+insert_outside : (p n w v i : ℕ) → covers p n i ≡ false → bits i i (insert_bits p n w v) ≡ bits i i w
+insert_outside p n w v i h =
+    bit i (insert_bits p n w v)
     ∙ ⊎_elim
-    (λ below. insert-below p n w v i 1 below)
-    (λ above. ap (λ (x : ℕ). x % 2 ^ 1) (insert-above p n w v i above))
+    (λ below. insert_below p n w v i 1 below)
+    (λ above. ap (λ (x : ℕ). x % 2 ^ 1) (insert_above p n w v i above))
     (outside p n i h)
     ∙ sym (bit i w)
 
-adr-outside : (w v i : ℕ) → (covers 5 19 i || covers 29 2 i) ≡ false → bits i i (insertAdr w v) ≡ bits i i w
-adr-outside w v i h =
+adr_outside : (w v i : ℕ) → (covers 5 19 i || covers 29 2 i) ≡ false → bits i i (insert_adr w v) ≡ bits i i w
+adr_outside w v i h =
     let n = both_false (covers 5 19 i) (covers 29 2 i) h in
-    insert-outside 5 19 (insertBits 29 2 w v) (v / 4) i n.0 ∙ insert-outside 29 2 w v i n.1
+    insert_outside 5 19 (insert_bits 29 2 w v) (v / 4) i n.0 ∙ insert_outside 29 2 w v i n.1
 
 inside : (size i : ℕ) → i < size → covers 0 size i ≡ false → ⊥
 inside size i l h = ⊎_elim (λ below. omega arith) (λ above. omega arith) (outside 0 size i h)
 
 -- Of the bits of a field's bytes, those that are not the field's own stay.
-pub outside-stays : (k : LabelUse) (word offset target i : ℕ) → i < 8 * patchSize k → inField k i ≡ false
-    → bits i i (patchedWord k word offset target) ≡ bits i i word
-outside-stays X86JmpRel32 word offset target i l h = absurd (inside 32 i l h)
-outside-stays X86BranchRel8 word offset target i l h = absurd (inside 8 i l h)
-outside-stays A64Branch14 word offset target i l h = insert-outside 5 14 word (minus target offset / 4) i h
-outside-stays A64Branch19 word offset target i l h = insert-outside 5 19 word (minus target offset / 4) i h
-outside-stays A64Branch26 word offset target i l h = insert-outside 0 26 word (minus target offset / 4) i h
-outside-stays A64Ldr19 word offset target i l h = insert-outside 5 19 word (minus target offset / 4) i h
-outside-stays A64Adr21 word offset target i l h = adr-outside word (minus target offset) i h
-outside-stays A64Adrp21 word offset target i l h = adr-outside word (minus (target / 4096) (offset / 4096)) i h
-outside-stays A64AddAbsLo12 word offset target i l h = insert-outside 10 12 word target i h
+pub outside_stays : (k : LabelUse) (word offset target i : ℕ) → i < 8 * patch_size k → in_field k i ≡ false
+    → bits i i (patched_word k word offset target) ≡ bits i i word
+outside_stays X86JmpRel32 word offset target i l h = absurd (inside 32 i l h)
+outside_stays X86BranchRel8 word offset target i l h = absurd (inside 8 i l h)
+outside_stays A64Branch14 word offset target i l h = insert_outside 5 14 word (minus target offset / 4) i h
+outside_stays A64Branch19 word offset target i l h = insert_outside 5 19 word (minus target offset / 4) i h
+outside_stays A64Branch26 word offset target i l h = insert_outside 0 26 word (minus target offset / 4) i h
+outside_stays A64Ldr19 word offset target i l h = insert_outside 5 19 word (minus target offset / 4) i h
+outside_stays A64Adr21 word offset target i l h = adr_outside word (minus target offset) i h
+outside_stays A64Adrp21 word offset target i l h = adr_outside word (minus (target / 4096) (offset / 4096)) i h
+outside_stays A64AddAbsLo12 word offset target i l h = insert_outside 10 12 word target i h

@@ -1,8 +1,8 @@
 -- Laws of 64-bit two's complement words.
 use Rattle.std.proofs.Common.{◌≡◌, ℕ, suc, ◌+◌, ◌-◌, ◌*◌, ◌%◌, ◌^◌, ◌<◌, ◌≤◌, true, sym, ap, ◌∙◌, subst, ⊎_elim, mod-lt, mod-eq_of_lt, mul_comm, pow-suc, mul-one, le-mul_of_pos_right, two-mul, arith, pow_pos, pow-add, le-ltb, lt-ltb, le-leb, leb-true}
 use native.Mathlib.Nat.{mod-mod, mod-add-mod, mul-add-mod_self_left, mul-sub}
-use Rattle.seqs.proofs.Numbers.{lt-or-ge}
-use Rattle.fields.specs.Words64.{modulus, plus, minus, range, signExtend}
+use Rattle.seqs.proofs.Numbers.{lt_or_ge}
+use Rattle.fields.specs.Words64.{modulus, plus, minus, range, sign_extend}
 use Rattle.fields.specs.declared.LabelUse.{LabelUse}
 use Rattle.fields.specs.declared.LabelUse.TheVariants.{
   X86JmpRel32,
@@ -18,48 +18,48 @@ use Rattle.fields.specs.declared.LabelUse.TheVariants.{
 use Rattle.fields.specs.Kinds.{info}
 
 -- `in_range` can be asked of every kind
-pub limits-fit : (k : LabelUse) → (info k).low + (info k).high ≤ 18446744073709551615
-limits-fit X86JmpRel32 = omega arith
-limits-fit X86BranchRel8 = omega arith
-limits-fit A64Branch14 = omega arith
-limits-fit A64Branch19 = omega arith
-limits-fit A64Branch26 = omega arith
-limits-fit A64Ldr19 = omega arith
-limits-fit A64Adr21 = omega arith
-limits-fit A64Adrp21 = omega arith
-limits-fit A64AddAbsLo12 = omega arith
+pub limits_fit : (k : LabelUse) → (info k).low + (info k).high ≤ 18446744073709551615
+limits_fit X86JmpRel32 = omega arith
+limits_fit X86BranchRel8 = omega arith
+limits_fit A64Branch14 = omega arith
+limits_fit A64Branch19 = omega arith
+limits_fit A64Branch26 = omega arith
+limits_fit A64Ldr19 = omega arith
+limits_fit A64Adr21 = omega arith
+limits_fit A64Adrp21 = omega arith
+limits_fit A64AddAbsLo12 = omega arith
 
 module _ (n v : ℕ) where
-  pub extend-positive : v % 2 ^ n < 2 ^ (n - 1) → signExtend n v ≡ v % 2 ^ n
-  unfolding signExtend
-  extend-positive h = rw (lt-ltb (v % 2 ^ n) (2 ^ (n - 1)) h)
+  pub extend_positive : v % 2 ^ n < 2 ^ (n - 1) → sign_extend n v ≡ v % 2 ^ n
+  unfolding sign_extend
+  extend_positive h = rw (lt-ltb (v % 2 ^ n) (2 ^ (n - 1)) h)
 
-  pub extend-negative : 2 ^ (n - 1) ≤ v % 2 ^ n → signExtend n v ≡ v % 2 ^ n + (modulus - 2 ^ n)
-  unfolding signExtend
-  extend-negative h = rw (le-ltb (v % 2 ^ n) (2 ^ (n - 1)) h)
+  pub extend_negative : 2 ^ (n - 1) ≤ v % 2 ^ n → sign_extend n v ≡ v % 2 ^ n + (modulus - 2 ^ n)
+  unfolding sign_extend
+  extend_negative h = rw (le-ltb (v % 2 ^ n) (2 ^ (n - 1)) h)
 
   -- only the low n bits count
-  pub extend-low : signExtend n (v % 2 ^ n) ≡ signExtend n v
-  unfolding signExtend
-  extend-low = rw (mod-mod v (2 ^ n))
+  pub extend_low : sign_extend n (v % 2 ^ n) ≡ sign_extend n v
+  unfolding sign_extend
+  extend_low = rw (mod-mod v (2 ^ n))
 
-pub range-true : (low high d : ℕ) → range low high d ≡ true → plus d low ≤ low + high
+pub range_true : (low high d : ℕ) → range low high d ≡ true → plus d low ≤ low + high
 unfolding range
-range-true low high d h = leb-true (plus d low) (low + high) h
+range_true low high d h = leb-true (plus d low) (low + high) h
 
-pub true-range : (low high d : ℕ) → plus d low ≤ low + high → range low high d ≡ true
+pub true_range : (low high d : ℕ) → plus d low ≤ low + high → range low high d ≡ true
 unfolding range
-true-range low high d h = le-leb (plus d low) (low + high) h
+true_range low high d h = le-leb (plus d low) (low + high) h
 
-pub minus-zero : (d : ℕ) → d < modulus → minus d 0 ≡ d
-minus-zero d h = omega arith
+pub minus_zero : (d : ℕ) → d < modulus → minus d 0 ≡ d
+minus_zero d h = omega arith
 
 -- an address and a distance from it
-pub plus-minus : (base offset target : ℕ) → offset < modulus → plus (plus base offset) (minus target offset) ≡ plus base target
-plus-minus base offset target h = omega arith
+pub plus_minus : (base offset target : ℕ) → offset < modulus → plus (plus base offset) (minus target offset) ≡ plus base target
+plus_minus base offset target h = omega arith
 
-pub minus-of-plus : (offset distance target : ℕ) → offset < modulus → distance < modulus → plus offset distance ≡ target → minus target offset ≡ distance
-minus-of-plus offset distance target h l e = omega arith
+pub minus_of_plus : (offset distance target : ℕ) → offset < modulus → distance < modulus → plus offset distance ≡ target → minus target offset ≡ distance
+minus_of_plus offset distance target h l e = omega arith
 
 pub minus_minus : (target offset size : ℕ) → offset < modulus → size < modulus → minus (minus target offset) size ≡ minus target (plus offset size)
 minus_minus target offset size h l =
@@ -70,11 +70,11 @@ minus_minus target offset size h l =
     let e : plus offset size ≡ offset + size - modulus = omega arith in
     let f : target + (modulus - offset) + (modulus - size) ≡ target + (modulus - (offset + size - modulus)) = omega arith in
     rw (e, f))
-    (lt-or-ge (offset + size) modulus)
+    (lt_or_ge (offset + size) modulus)
 
 -- 2^64 is a multiple of 2^n
-multiple-below : (n : ℕ) → n ≤ 64 → (modulus - 2 ^ n ≡ 2 ^ n * (2 ^ (64 - n) - 1)) × (2 ^ n ≤ modulus)
-multiple-below n h =
+multiple_below : (n : ℕ) → n ≤ 64 → (modulus - 2 ^ n ≡ 2 ^ n * (2 ^ (64 - n) - 1)) × (2 ^ n ≤ modulus)
+multiple_below n h =
     let e : n + (64 - n) ≡ 64 = omega arith in
     let whole : 2 ^ n * 2 ^ (64 - n) ≡ modulus = sym (pow-add 2 n (64 - n)) ∙ ap (λ (q : ℕ). 2 ^ q) e in (
       ap (λ (q : ℕ). q - 2 ^ n) (sym whole) ∙ ap (λ (q : ℕ). 2 ^ n * 2 ^ (64 - n) - q) (sym (mul-one (2 ^ n))) ∙ sym (mul-sub (2 ^ n) (2 ^ (64 - n)) 1),
@@ -88,17 +88,17 @@ twice n h =
 
 module _ (n : ℕ) (positive : 0 < n) (small : n ≤ 64) where
   -- A distance in range is what its own low n bits extend to: it can be encoded.
-  pub extend-exact : (d : ℕ) → d < modulus → range (2 ^ (n - 1)) (2 ^ (n - 1) - 1) d ≡ true → signExtend n d ≡ d
-  extend-exact d l r =
+  pub extend_exact : (d : ℕ) → d < modulus → range (2 ^ (n - 1)) (2 ^ (n - 1) - 1) d ≡ true → sign_extend n d ≡ d
+  extend_exact d l r =
       let half = 2 ^ (n - 1) in
       let pos = pow_pos (n - 1) in
       let t = twice n positive in
-      let m = multiple-below n small in
-      let in-range = range-true half (half - 1) d r in
+      let m = multiple_below n small in
+      let in-range = range_true half (half - 1) d r in
       ⊎_elim
       (λ lt.
       let e : d % 2 ^ n ≡ d = mod-eq_of_lt (omega arith) in
-      extend-positive n d (rw e lt) ∙ e)
+      extend_positive n d (rw e lt) ∙ e)
       (λ ge.
       let top : modulus - half ≤ d = omega arith in
       let e : d ≡ 2 ^ n * (2 ^ (64 - n) - 1) + (d - (modulus - 2 ^ n)) = omega arith in
@@ -106,33 +106,33 @@ module _ (n : ℕ) (positive : 0 < n) (small : n ≤ 64) where
       ap (λ (q : ℕ). q % 2 ^ n) e
       ∙ mul-add-mod_self_left (2 ^ n) (2 ^ (64 - n) - 1) (d - (modulus - 2 ^ n))
       ∙ mod-eq_of_lt (omega arith) in
-      extend-negative n d (omega arith) ∙ omega arith)
-      (lt-or-ge d half)
+      extend_negative n d (omega arith) ∙ omega arith)
+      (lt_or_ge d half)
 
   -- What n bits extend to is in range.
-  pub extend-range : (v : ℕ) → range (2 ^ (n - 1)) (2 ^ (n - 1) - 1) (signExtend n v) ≡ true
-  extend-range v =
+  pub extend_range : (v : ℕ) → range (2 ^ (n - 1)) (2 ^ (n - 1) - 1) (sign_extend n v) ≡ true
+  extend_range v =
       let half = 2 ^ (n - 1) in
       let pos = pow_pos (n - 1) in
       let t = twice n positive in
-      let m = multiple-below n small in
+      let m = multiple_below n small in
       let under = mod-lt v (pow_pos n) in
-      true-range half (half - 1) (signExtend n v)
+      true_range half (half - 1) (sign_extend n v)
       (⊎_elim
-      (λ lt. omega (arith, extend-positive n v lt))
-      (λ ge. omega (arith, extend-negative n v ge))
-      (lt-or-ge (v % 2 ^ n) half))
+      (λ lt. omega (arith, extend_positive n v lt))
+      (λ ge. omega (arith, extend_negative n v ge))
+      (lt_or_ge (v % 2 ^ n) half))
 
-  pub extend-lt : (v : ℕ) → signExtend n v < modulus
-  extend-lt v =
+  pub extend_lt : (v : ℕ) → sign_extend n v < modulus
+  extend_lt v =
       let pos = pow_pos (n - 1) in
       let t = twice n positive in
-      let m = multiple-below n small in
+      let m = multiple_below n small in
       let under = mod-lt v (pow_pos n) in
       ⊎_elim
-      (λ lt. omega (arith, extend-positive n v lt))
-      (λ ge. omega (arith, extend-negative n v ge))
-      (lt-or-ge (v % 2 ^ n) (2 ^ (n - 1)))
+      (λ lt. omega (arith, extend_positive n v lt))
+      (λ ge. omega (arith, extend_negative n v ge))
+      (lt_or_ge (v % 2 ^ n) (2 ^ (n - 1)))
 
-pub widen-range : (low high more d : ℕ) → high ≤ more → range low high d ≡ true → range low more d ≡ true
-widen-range low high more d h r = true-range low more d (omega (arith, range-true low high d r))
+pub widen_range : (low high more d : ℕ) → high ≤ more → range low high d ≡ true → range low more d ≡ true
+widen_range low high more d h r = true_range low more d (omega (arith, range_true low high d r))

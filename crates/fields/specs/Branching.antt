@@ -5,13 +5,13 @@ use Rattle.words.specs.Words.{word_at}
 use Rattle.fields.specs.Words64.{plus}
 use Rattle.fields.specs.Bits.{bits}
 use Rattle.fields.specs.Arm.{b, cbz, tbz}
-use Rattle.fields.specs.Branches.{State, isTest, isCompare, isOnFlags, testHolds, compareHolds, conditionHolds, taken}
+use Rattle.fields.specs.Branches.{State, is_test, is_compare, is_on_flags, test_holds, compare_holds, condition_holds, taken}
 
 -- one instruction, its word at an address: where control goes in a state
 pub data Goes (s : State) (pc : ℕ) : ℕ → ℕ → Type 0 where
-  test_bit : (w : ℕ) → isTest w ≡ true → Goes s pc w (pick (testHolds s w) (tbz pc w) (plus pc 4))
-  compare : (w : ℕ) → isCompare w ≡ true → Goes s pc w (pick (compareHolds s w) (cbz pc w) (plus pc 4))
-  on-flags : (w : ℕ) → isOnFlags w ≡ true → Goes s pc w (pick (conditionHolds s (bits 3 0 w)) (cbz pc w) (plus pc 4))
+  test_bit : (w : ℕ) → is_test w ≡ true → Goes s pc w (pick (test_holds s w) (tbz pc w) (plus pc 4))
+  compare : (w : ℕ) → is_compare w ≡ true → Goes s pc w (pick (compare_holds s w) (cbz pc w) (plus pc 4))
+  on_flags : (w : ℕ) → is_on_flags w ≡ true → Goes s pc w (pick (condition_holds s (bits 3 0 w)) (cbz pc w) (plus pc 4))
   always : (w : ℕ) → bits 31 26 w ≡ 5 → Goes s pc w (b pc w)
 
 -- four bytes that are one branch to the target, on the condition of the word that was recorded

@@ -35,26 +35,26 @@ abbrev pub code_of : LabelUse → ℕ
 code_of k = (info k).code
 
 -- a field's size in bytes
-abbrev pub patchSize : LabelUse → ℕ
-patchSize k = (info k).size
+abbrev pub patch_size : LabelUse → ℕ
+patch_size k = (info k).size
 
 -- the architectures, by document 01's numbers
-abbrev pub archX86 : ℕ
-archX86 = 1
+abbrev pub arch_x86 : ℕ
+arch_x86 = 1
 
-abbrev pub archX64 : ℕ
-archX64 = 2
+abbrev pub arch_x64 : ℕ
+arch_x64 = 2
 
-abbrev pub archA64 : ℕ
-archA64 = 6
+abbrev pub arch_a64 : ℕ
+arch_a64 = 6
 
 -- of X86 and X64, or of AArch64
-abbrev pub isArch : Bool → ℕ → Bool
-isArch true arch = arch == archX86 || arch == archX64
-isArch false arch = arch == archA64
+abbrev pub is_arch : Bool → ℕ → Bool
+is_arch true arch = arch == arch_x86 || arch == arch_x64
+is_arch false arch = arch == arch_a64
 
-abbrev pub supportsArch : LabelUse → ℕ → Bool
-supportsArch k arch = isArch (info k).x86 arch
+abbrev pub supports_arch : LabelUse → ℕ → Bool
+supports_arch k arch = is_arch (info k).x86 arch
 
 -- 2 to 8 are the RISC-V kinds, 15 is A64Ldr12
 abbrev pub codes : List Decoded
@@ -79,17 +79,17 @@ codes =
     ∷ []
 
 -- the code of a use that is not supported, and the last code
-abbrev pub unsupportedCode : ℕ
-unsupportedCode = 15
+abbrev pub unsupported_code : ℕ
+unsupported_code = 15
 
-abbrev pub lastCode : ℕ
-lastCode = 16
+abbrev pub last_code : ℕ
+last_code = 16
 
 unfoldable pub decoded : ℕ → Decoded
 decoded code = slice_index_or codes code Unknown
 
 -- the size of the field that a code stands for; 0 where it stands for none
 abbrev pub size_of : Decoded → ℕ
-size_of (Use k) = patchSize k
+size_of (Use k) = patch_size k
 size_of Unsupported = 0
 size_of Unknown = 0

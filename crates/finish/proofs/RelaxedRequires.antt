@@ -15,144 +15,144 @@ use Rattle.fields.specs.declared.Decoded.TheVariants.{Use, Unsupported, Unknown}
 use Rattle.fields.specs.Kinds.{decoded}
 use Rattle.relax.specs.declared.LayoutEvent.{LayoutEvent}
 use Rattle.relax.specs.declared.Segment.{Segment}
-use Rattle.relax.specs.Events.{eventAt, end_of, noEvent}
+use Rattle.relax.specs.Events.{event_at, end_of, no_event}
 use Rattle.buffer.specs.State.{none}
-use Rattle.buffer.specs.Tables.{mostEntries, mostCode, refWords, refSize}
+use Rattle.buffer.specs.Tables.{most_entries, most_code, ref_words, ref_size}
 use Rattle.recording.specs.Sound.{RefsSound}
 use Rattle.recording.specs.View as tables
-use Rattle.recording.proofs.Views.{length-entries, getD-entries}
+use Rattle.recording.proofs.Views.{length_entries, get_d_entries}
 use Rattle.fresh.specs.Pooled.{Pooled}
-use Rattle.fresh.specs.Fresh.{Choice, isLong, others}
-use Rattle.fresh.specs.Segments.{segment, segments, decided, mapOffset, segmentsOf}
+use Rattle.fresh.specs.Fresh.{Choice, is_long, others}
+use Rattle.fresh.specs.Segments.{segment, segments, decided, map_offset, segments_of}
 use Rattle.fresh.specs.Order.{Apart, Ordered, RefsLie, PoolLies, WellFormed}
-use Rattle.fresh.specs.steps.Runs.{runs, newStarts}
-use Rattle.fresh.proofs.Segments.{placed-runs, length-placed}
+use Rattle.fresh.specs.steps.Runs.{runs, new_starts}
+use Rattle.fresh.proofs.Segments.{placed_runs, length_placed}
 use Rattle.fresh.proofs.Loops.{length_runs}
-use Rattle.fresh.proofs.Within.{mapped-within, field-within}
-use Rattle.fresh.specs.Forms.{roleOf}
-use Rattle.pool.specs.steps.Pool.{label_at, bytes_at, poolStart, poolOffset, poolEvent, PoolRoom, pooledBound}
-use Rattle.pool.proofs.Pool.{from-poolStart, poolStart-bound, poolOffset-bound}
-use Rattle.layout.specs.steps.Layout.{allEvents, finishedLength, Recorded, Rising, Labelled}
-use Rattle.layout.proofs.Pooling.{all-ordered, all-modest, length-all}
-use Rattle.layout.proofs.Table.{table-laid, rising-laid}
+use Rattle.fresh.proofs.Within.{mapped_within, field_within}
+use Rattle.fresh.specs.Forms.{role_of}
+use Rattle.pool.specs.steps.Pool.{label_at, bytes_at, pool_start, pool_offset, pool_event, PoolRoom, pooled_bound}
+use Rattle.pool.proofs.Pool.{from_pool_start, pool_start_bound, pool_offset_bound}
+use Rattle.layout.specs.steps.Layout.{all_events, finished_length, Recorded, Rising, Labelled}
+use Rattle.layout.proofs.Pooling.{all_ordered, all_modest, length_all}
+use Rattle.layout.proofs.Table.{table_laid, rising_laid}
 use Rattle.emit.specs.steps.Emit.{Within, start_at, RefsFit, RefsKnown, JumpsFit, WordsFit}
 use Rattle.fields.specs.Kinds.{size_of}
-use Rattle.checks.specs.steps.Fields.{refsClear}
-use Rattle.seqs.proofs.Every.{every-at}
+use Rattle.checks.specs.steps.Fields.{refs_clear}
+use Rattle.seqs.proofs.Every.{every_at}
 use Rattle.seqs.specs.Every.{every}
-use Rattle.finish.specs.Refusals.{refClear}
-use Rattle.finish.specs.steps.Tables.{laidPooled}
-use Rattle.finish.specs.steps.Ready.{Ready, Clearing, Writing, endOfRuns}
-use Rattle.finish.proofs.PooledInOrder.{recorded-ordered, recorded-modest, recorded-writes, jump_label, offset-lies, ref-apart, constant-size, pooled-length, well-formed, pool-apart}
-use Rattle.finish.proofs.ScansAgree.{refs-clear}
-use Rattle.finish.proofs.FinishedCode.{any·ref, start-segment}
-use Rattle.finish.proofs.PooledRuns.{PoolRuns, pool-runs}
+use Rattle.finish.specs.Refusals.{ref_clear}
+use Rattle.finish.specs.steps.Tables.{laid_pooled}
+use Rattle.finish.specs.steps.Ready.{Ready, Clearing, Writing, end_of_runs}
+use Rattle.finish.proofs.PooledInOrder.{recorded_ordered, recorded_modest, recorded_writes, jump_label, offset_lies, ref_apart, constant_size_lem, pooled_length, well_formed, pool_apart}
+use Rattle.finish.proofs.ScansAgree.{refs_clear_lem}
+use Rattle.finish.proofs.FinishedCode.{any·ref, start_segment}
+use Rattle.finish.proofs.PooledRuns.{PoolRuns, pool_runs}
 
 -- the events as a layout is handed them
 pub recorded : {code labels events constants asked : List ℕ} {arch len count n m : ℕ} → Ready code labels events constants asked arch len count n m → Recorded events n len
 recorded {events} {arch} {len} {count} {n} ready =
     record {
       room = omega (arith, ready.recorded.room);
-      ordered = recorded-ordered events n count len arch ready.recorded;
-      modest = recorded-modest events n count len arch ready.recorded;
+      ordered = recorded_ordered events n count len arch ready.recorded;
+      modest = recorded_modest events n count len arch ready.recorded;
       small = ready.bytes.limit;
     }
 
 -- the segments of the first events are the first of the segments
-take-segments : (xs ys : List LayoutEvent) (o n : ℕ) (c : Choice) → take (length xs) (segments o n (xs ++ ys) c) ≡ segments o n xs c
+take_segments : (xs ys : List LayoutEvent) (o n : ℕ) (c : Choice) → take (length xs) (segments o n (xs ++ ys) c) ≡ segments o n xs c
 unfolding segments
-take-segments [] ys o n c = refl
-take-segments (x ∷ xs) ys o n c = ap (λ l. segment o n x (isLong c) ∷ l) (take-segments xs ys (end_of x) (segment o n x (isLong c)).new_end (others c))
+take_segments [] ys o n c = refl
+take_segments (x ∷ xs) ys o n c = ap (λ l. segment o n x (is_long c) ∷ l) (take_segments xs ys (end_of x) (segment o n x (is_long c)).new_end (others c))
 
 module _ {code labels events constants asked : List ℕ} {arch len count n m : ℕ} (ready : Ready code labels events constants asked arch len count n m)
-    (before ss : List Segment) (c : Choice) (laid : ss ≡ over before 0 (segments 0 0 (allEvents events n len constants asked m) c))
-    (few : n + m ≤ mostEntries) (room : n + m ≤ length before) where
+    (before ss : List Segment) (c : Choice) (laid : ss ≡ over before 0 (segments 0 0 (all_events events n len constants asked m) c))
+    (few : n + m ≤ most_entries) (room : n + m ≤ length before) where
   abbrev es : List LayoutEvent
-  es = allEvents events n len constants asked m
+  es = all_events events n len constants asked m
 
-  long-es : length es ≡ n + m
-  long-es = length-all events n len constants asked m
+  long_es : length es ≡ n + m
+  long_es = length_all events n len constants asked m
 
   rec : Recorded events n len
   rec = recorded ready
 
-  pub rising-all : Rising ss (n + m)
-  rising-all =
-      subst (λ (k : ℕ). Rising ss k) long-es
-      (rising-laid before ss es c laid (omega (arith, long-es)) (poolStart len constants asked m) (all-ordered events n len constants asked rec m)
-      (all-modest events n len constants asked rec m)
-      (omega (arith, ready.bytes.limit, ready.pool.few, poolStart-bound len constants asked m ready.pool m (omega arith)))
-      (omega (arith, long-es)))
+  pub rising_all : Rising ss (n + m)
+  rising_all =
+      subst (λ (k : ℕ). Rising ss k) long_es
+      (rising_laid before ss es c laid (omega (arith, long_es)) (pool_start len constants asked m) (all_ordered events n len constants asked rec m)
+      (all_modest events n len constants asked rec m)
+      (omega (arith, ready.bytes.limit, ready.pool.few, pool_start_bound len constants asked m ready.pool m (omega arith)))
+      (omega (arith, long_es)))
 
   pub rising : Rising ss n
   rising = record {
-    fits = omega (arith, rising-all.fits);
-    rises = λ i j h k. rising-all.rises i j h (omega arith);
-    small = λ i h. rising-all.small i (omega arith);
+    fits = omega (arith, rising_all.fits);
+    rises = λ i j h k. rising_all.rises i j h (omega arith);
+    small = λ i h. rising_all.small i (omega arith);
   }
 
-  pub table-all : take (n + m) ss ≡ segments 0 0 es c
-  table-all = rw (← long-es) (table-laid before ss es c laid (omega (arith, long-es)))
+  pub table_all : take (n + m) ss ≡ segments 0 0 es c
+  table_all = rw (← long_es) (table_laid before ss es c laid (omega (arith, long_es)))
 
-  pub table-first : take n ss ≡ segments 0 0 (tables.entries (eventAt events) n) c
-  table-first =
+  pub table_first : take n ss ≡ segments 0 0 (tables.entries (event_at events) n) c
+  table_first =
       sym (take-take n (n + m) ss (omega arith))
-      ∙ ap (take n) table-all
-      ∙ ap (λ (k : ℕ). take k (segments 0 0 es c)) (sym (length-entries (eventAt events) n))
-      ∙ take-segments (tables.entries (eventAt events) n) (tables.entries (poolEvent len constants asked) m) 0 0 c
+      ∙ ap (take n) table_all
+      ∙ ap (λ (k : ℕ). take k (segments 0 0 es c)) (sym (length_entries (event_at events) n))
+      ∙ take_segments (tables.entries (event_at events) n) (tables.entries (pool_event len constants asked) m) 0 0 c
 
   -- where the recorded code ends
   abbrev to : ℕ
-  to = length (runs arch 0 0 (take len code) (tables.entries (eventAt events) n) c)
+  to = length (runs arch 0 0 (take len code) (tables.entries (event_at events) n) c)
 
   size : length (take len code) ≡ len
   size = length-take-le len code ready.bytes.room
 
-  first-ordered : Ordered 0 (length (take len code)) (tables.entries (eventAt events) n)
-  first-ordered = rw size (recorded-ordered events n count len arch ready.recorded)
+  first_ordered : Ordered 0 (length (take len code)) (tables.entries (event_at events) n)
+  first_ordered = rw size (recorded_ordered events n count len arch ready.recorded)
 
   -- the recorded code alone, in good order
   alone : Pooled
-  alone = record { arch = arch; code = take len code; events = tables.entries (eventAt events) n; labels = []; uses = []; refs = []; pool = [] }
+  alone = record { arch = arch; code = take len code; events = tables.entries (event_at events) n; labels = []; uses = []; refs = []; pool = [] }
 
-  alone-formed : WellFormed alone
+  alone_formed : WellFormed alone
   unfolding alone RefsLie PoolLies
-  alone-formed = record { ordered = first-ordered; landed = λ l bound. absurd (bound refl); fields = tt; constants = tt }
+  alone_formed = record { ordered = first_ordered; landed = λ l bound. absurd (bound refl); fields = tt; constants = tt }
 
-  pub end-mapped : mapOffset (take n ss) len ≡ to
-  unfolding alone mapOffset
-  end-mapped =
-      rw table-first
-      (rw (ne_eqb len none (λ e. omega (arith, ready.bytes.limit)), mapOffset)
-      (ap (λ (k : ℕ). decided (segments 0 0 (tables.entries (eventAt events) n) c) k k) (sym size)
-      ∙ sym (length-placed alone c alone-formed)
-      ∙ ap length (placed-runs alone c alone-formed)))
+  pub end_mapped : map_offset (take n ss) len ≡ to
+  unfolding alone map_offset
+  end_mapped =
+      rw table_first
+      (rw (ne_eqb len none (λ e. omega (arith, ready.bytes.limit)), map_offset)
+      (ap (λ (k : ℕ). decided (segments 0 0 (tables.entries (event_at events) n) c) k k) (sym size)
+      ∙ sym (length_placed alone c alone_formed)
+      ∙ ap length (placed_runs alone c alone_formed)))
 
   -- the finished length, and the pool within it
-  pooled-runs : PoolRuns arch (take len code) (tables.entries (eventAt events) n) constants asked c m len to
-  pooled-runs = pool-runs arch (take len code) (tables.entries (eventAt events) n) constants asked c len to (sym size) first-ordered refl m
+  pooled_runs : PoolRuns arch (take len code) (tables.entries (event_at events) n) constants asked c m len to
+  pooled_runs = pool_runs arch (take len code) (tables.entries (event_at events) n) constants asked c len to (sym size) first_ordered refl m
 
-  pub pool-ends : poolStart to constants asked m ≡ finishedLength es c (poolStart len constants asked m)
-  pool-ends = sym pooled-runs.here
+  pub pool_ends : pool_start to constants asked m ≡ finished_length es c (pool_start len constants asked m)
+  pool_ends = sym pooled_runs.here
 
 -- a bound label's offset is small
-pub landed-small : (code labels events constants asked : List ℕ) (arch len count n m : ℕ) (ready : Ready code labels events constants asked arch len count n m)
-    → (l : ℕ) → l < count → word_at labels l ≢ none → word_at labels l ≤ pooledBound
-landed-small code labels events constants asked arch len count n m ready l h bound =
+pub landed_small : (code labels events constants asked : List ℕ) (arch len count n m : ℕ) (ready : Ready code labels events constants asked arch len count n m)
+    → (l : ℕ) → l < count → word_at labels l ≢ none → word_at labels l ≤ pooled_bound
+landed_small code labels events constants asked arch len count n m ready l h bound =
     omega (
       arith,
-      (offset-lies code labels events constants asked arch len count n m ready (allEvents events n len constants asked m) refl (word_at labels l) (ready.landed l h) bound).0,
+      (offset_lies code labels events constants asked arch len count n m ready (all_events events n len constants asked m) refl (word_at labels l) (ready.landed l h) bound).0,
       ready.bytes.limit,
       ready.pool.few,
-      poolStart-bound len constants asked m ready.pool m (omega arith),
+      pool_start_bound len constants asked m ready.pool m (omega arith),
     )
 
 module _ {code labels events constants asked : List ℕ} {arch len count n m : ℕ} (ready : Ready code labels events constants asked arch len count n m) where
   abbrev ends : ℕ
-  ends = poolStart len constants asked m
+  ends = pool_start len constants asked m
 
-  pub end-small : poolStart len constants asked m ≤ pooledBound
-  end-small = omega (arith, ready.bytes.limit, ready.pool.few, poolStart-bound len constants asked m ready.pool m (omega arith))
+  pub end_small : pool_start len constants asked m ≤ pooled_bound
+  end_small = omega (arith, ready.bytes.limit, ready.pool.few, pool_start_bound len constants asked m ready.pool m (omega arith))
 
   -- the jumps' labels, for the rounds
   pub labelled : Labelled events labels n
@@ -160,18 +160,18 @@ module _ {code labels events constants asked : List ℕ} {arch len count n m : �
     known = λ i h. record {
       room = λ b r. omega (arith, jump_label events n count len arch ready.recorded i b h r, ready.room);
       small = λ b r bound.
-          omega (arith, landed-small code labels events constants asked arch len count n m ready b.label (jump_label events n count len arch ready.recorded i b h r) bound);
+          omega (arith, landed_small code labels events constants asked arch len count n m ready b.label (jump_label events n count len arch ready.recorded i b h r) bound);
     };
   }
 
   -- the events and the pool, for 17
-  pub clearing : (refs : List ℕ) (f end : ℕ) → f * refSize ≤ length refs → n ≤ mostEntries → end ≡ poolStart len constants asked m
+  pub clearing : (refs : List ℕ) (f end : ℕ) → f * ref_size ≤ length refs → n ≤ most_entries → end ≡ pool_start len constants asked m
       → Clearing refs events labels constants asked f n m len end
   clearing refs f end room few e = record {
-    refs-room = room;
-    events-room = omega (arith, ready.recorded.room);
+    refs_room = room;
+    events_room = omega (arith, ready.recorded.room);
     few = few;
-    pool-few = ready.pool.few;
+    pool_few = ready.pool.few;
     ends = e;
     ordered = record {
       forward = λ j h. omega arith;
@@ -186,173 +186,173 @@ module _ {code labels events constants asked : List ℕ} {arch len count n m : �
   }
 
   -- the table of labels, whose offsets are mapped
-  pub labels-fit : WordsFit labels 1 count
-  labels-fit = record {
+  pub labels_fit_lem : WordsFit labels 1 count
+  labels_fit_lem = record {
     some = omega arith;
     entry = λ i h. omega (arith, ready.room);
     recorded = λ i h bound.
         let e : i * 1 ≡ i = omega arith in
-        rw e (omega (arith, landed-small code labels events constants asked arch len count n m ready i h (λ z. bound (rw e z))));
+        rw e (omega (arith, landed_small code labels events constants asked arch len count n m ready i h (λ z. bound (rw e z))));
   }
 
-pub within-size : (d : Decoded) (offset room : ℕ) → offset + size_of d ≤ room → Within d offset room
-within-size (Use k) offset room h = h
-within-size Unsupported offset room h = tt
-within-size Unknown offset room h = tt
+pub within_size : (d : Decoded) (offset room : ℕ) → offset + size_of d ≤ room → Within d offset room
+within_size (Use k) offset room h = h
+within_size Unsupported offset room h = tt
+within_size Unknown offset room h = tt
 
 module _ {code labels events constants asked refs : List ℕ} {arch len count n m f : ℕ} (ready : Ready code labels events constants asked arch len count n m)
-    (referred : RefsSound refs f arch count) (clear : refsClear refs f events n len constants asked m ≡ true) where
+    (referred : RefsSound refs f arch count) (clear : refs_clear refs f events n len constants asked m ≡ true) where
   abbrev pooled·of : List tables.Use → Pooled
   pooled·of us =
-      laidPooled arch len (take len code) (tables.entries (word_at labels) count) (tables.entries (eventAt events) n) us (tables.entries (tables.ref_at refs) f) constants asked m
+      laid_pooled arch len (take len code) (tables.entries (word_at labels) count) (tables.entries (event_at events) n) us (tables.entries (tables.ref_at refs) f) constants asked m
 
-  pub clear-all : (us : List tables.Use) → every (refClear (pooled·of us)) (tables.entries (tables.ref_at refs) f) ≡ true
-  clear-all us =
-      refs-clear (pooled·of us) refs events constants asked f n m len refl refl
-      (pooled-length code labels events constants asked arch len count n m ready us (tables.entries (tables.ref_at refs) f))
+  pub clear_all : (us : List tables.Use) → every (ref_clear (pooled·of us)) (tables.entries (tables.ref_at refs) f) ≡ true
+  clear_all us =
+      refs_clear_lem (pooled·of us) refs events constants asked f n m len refl refl
+      (pooled_length code labels events constants asked arch len count n m ready us (tables.entries (tables.ref_at refs) f))
       ∙ clear
 
   pub formed : (us : List tables.Use) → WellFormed (pooled·of us)
-  formed us = well-formed code labels events constants asked arch len count n m ready us (tables.entries (tables.ref_at refs) f) (clear-all us)
+  formed us = well_formed code labels events constants asked arch len count n m ready us (tables.entries (tables.ref_at refs) f) (clear_all us)
 
-  pub ref-beside : (us : List tables.Use) (i : ℕ) → i < f → Apart (pooled·of us) (word_at refs (i * refWords)) (size_of (decoded (word_at refs (i * refWords + 2))))
-  ref-beside us i h =
-      let k : i < length (tables.entries (tables.ref_at refs) f) = omega (arith, length-entries (tables.ref_at refs) f) in
-      let e = getD-entries (tables.ref_at refs) f i any·ref h in
+  pub ref_beside : (us : List tables.Use) (i : ℕ) → i < f → Apart (pooled·of us) (word_at refs (i * ref_words)) (size_of (decoded (word_at refs (i * ref_words + 2))))
+  ref_beside us i h =
+      let k : i < length (tables.entries (tables.ref_at refs) f) = omega (arith, length_entries (tables.ref_at refs) f) in
+      let e = get_d_entries (tables.ref_at refs) f i any·ref h in
       subst (λ (x : tables.Ref). Apart (pooled·of us) x.offset (size_of (decoded x.code))) e
-      (ref-apart (pooled·of us) (get_or (tables.entries (tables.ref_at refs) f) i any·ref)
-      (every-at (refClear (pooled·of us)) (tables.entries (tables.ref_at refs) f) any·ref (clear-all us) i k))
+      (ref_apart (pooled·of us) (get_or (tables.entries (tables.ref_at refs) f) i any·ref)
+      (every_at (ref_clear (pooled·of us)) (tables.entries (tables.ref_at refs) f) any·ref (clear_all us) i k))
 
-  ref-small : (i : ℕ) → i < f → word_at refs (i * refWords) ≤ pooledBound
-  ref-small i h =
+  ref_small : (i : ℕ) → i < f → word_at refs (i * ref_words) ≤ pooled_bound
+  ref_small i h =
       omega (
         arith,
-        (ref-beside [] i h).0,
-        pooled-length code labels events constants asked arch len count n m ready [] (tables.entries (tables.ref_at refs) f),
-        end-small ready,
+        (ref_beside [] i h).0,
+        pooled_length code labels events constants asked arch len count n m ready [] (tables.entries (tables.ref_at refs) f),
+        end_small ready,
       )
 
   -- the refs, for 18
-  pub refs-known : RefsKnown refs labels f
-  refs-known = record {
+  pub refs_known : RefsKnown refs labels f
+  refs_known = record {
     each = λ i h. record {
       entry = omega (arith, referred.room);
       known = omega (arith, (referred.entry i h).label, ready.room);
-      recorded = λ bound. omega (arith, ref-small i h);
-      bound = λ bound. omega (arith, landed-small code labels events constants asked arch len count n m ready (word_at refs (i * refWords + 1)) (referred.entry i h).label bound);
+      recorded = λ bound. omega (arith, ref_small i h);
+      bound = λ bound. omega (arith, landed_small code labels events constants asked arch len count n m ready (word_at refs (i * ref_words + 1)) (referred.entry i h).label bound);
     };
   }
 
-  module _ (before ss : List Segment) (c : Choice) (laid : ss ≡ over before 0 (segments 0 0 (allEvents events n len constants asked m) c))
-      (few : n + m ≤ mostEntries) (room : n + m ≤ length before) (chosen : length c ≡ n + m) (final output : List ℕ)
-      (moved : (l : ℕ) → l < count → word_at final l ≡ mapOffset (take (n + m) ss) (word_at labels l)) (same : length final ≡ length labels)
-      (fits : finishedLength (allEvents events n len constants asked m) c (poolStart len constants asked m) ≤ length output) (limit : length output ≤ mostCode) where
+  module _ (before ss : List Segment) (c : Choice) (laid : ss ≡ over before 0 (segments 0 0 (all_events events n len constants asked m) c))
+      (few : n + m ≤ most_entries) (room : n + m ≤ length before) (chosen : length c ≡ n + m) (final output : List ℕ)
+      (moved : (l : ℕ) → l < count → word_at final l ≡ map_offset (take (n + m) ss) (word_at labels l)) (same : length final ≡ length labels)
+      (fits : finished_length (all_events events n len constants asked m) c (pool_start len constants asked m) ≤ length output) (limit : length output ≤ most_code) where
     abbrev p : Pooled
     p = pooled·of []
 
     -- the code is as long as the layout says
-    length-all-runs : length (runs arch 0 0 p.code p.events c) ≤ length output
-    length-all-runs =
+    length_all_runs : length (runs arch 0 0 p.code p.events c) ≤ length output
+    length_all_runs =
         omega (
           arith,
           length_runs arch p.events 0 0 p.code c (formed []).ordered,
-          pooled-length code labels events constants asked arch len count n m ready [] (tables.entries (tables.ref_at refs) f),
+          pooled_length code labels events constants asked arch len count n m ready [] (tables.entries (tables.ref_at refs) f),
           fits,
         )
 
-    table : take (n + m) ss ≡ segmentsOf p c
-    table = table-all ready before ss c laid few room
+    table : take (n + m) ss ≡ segments_of p c
+    table = table_all ready before ss c laid few room
 
-    refs-fit : RefsFit (length output) refs final ss (n + m) f
-    refs-fit = record {
-      recorded = λ i h bound. omega (arith, ref-small i h);
+    refs_fit_lem : RefsFit (length output) refs final ss (n + m) f
+    refs_fit_lem = record {
+      recorded = λ i h bound. omega (arith, ref_small i h);
       each = λ i h. record {
         entry = omega (arith, referred.room);
         known = omega (arith, same, (referred.entry i h).label, ready.room);
         within =
-            within-size (decoded (word_at refs (i * refWords + 2))) (mapOffset (take (n + m) ss) (word_at refs (i * refWords))) (length output)
+            within_size (decoded (word_at refs (i * ref_words + 2))) (map_offset (take (n + m) ss) (word_at refs (i * ref_words))) (length output)
             (omega (
               arith,
-              ap (λ (ss : List Segment). mapOffset ss (word_at refs (i * refWords))) table,
-              mapped-within p c (formed []) (word_at refs (i * refWords)) (size_of (decoded (word_at refs (i * refWords + 2)))) (omega (arith, ref-small i h)) (ref-beside [] i h),
-              length-all-runs,
+              ap (λ (ss : List Segment). map_offset ss (word_at refs (i * ref_words))) table,
+              mapped_within p c (formed []) (word_at refs (i * ref_words)) (size_of (decoded (word_at refs (i * ref_words + 2)))) (omega (arith, ref_small i h)) (ref_beside [] i h),
+              length_all_runs,
             ));
       };
     }
 
-    starts-at : (i : ℕ) → i < n → start_at ss i ≡ get_or (newStarts (segmentsOf p c)) i 0
-    starts-at i h = start-segment ss (segmentsOf p c) (n + m) i (omega arith) table
+    starts_at : (i : ℕ) → i < n → start_at ss i ≡ get_or (new_starts (segments_of p c)) i 0
+    starts_at i h = start_segment ss (segments_of p c) (n + m) i (omega arith) table
 
-    event-is : (i : ℕ) → i < n → get_or p.events i noEvent ≡ eventAt events i
-    event-is i h =
-        get_or-append (tables.entries (eventAt events) n) (tables.entries (poolEvent len constants asked) m) noEvent i
-        (omega (arith, length-entries (eventAt events) n))
-        ∙ getD-entries (eventAt events) n i noEvent h
+    event_is : (i : ℕ) → i < n → get_or p.events i no_event ≡ event_at events i
+    event_is i h =
+        get_or-append (tables.entries (event_at events) n) (tables.entries (pool_event len constants asked) m) no_event i
+        (omega (arith, length_entries (event_at events) n))
+        ∙ get_d_entries (event_at events) n i no_event h
 
-    jumps-fit : JumpsFit (length output) events final c ss n
-    jumps-fit = record {
+    jumps_fit : JumpsFit (length output) events final c ss n
+    jumps_fit = record {
       chosen = omega (arith, chosen);
-      laid = omega (arith, (rising-all ready before ss c laid few room).fits);
+      laid = omega (arith, (rising_all ready before ss c laid few room).fits);
       each = λ i h. record {
         entry = omega (arith, ready.recorded.room);
         known = λ b r. omega (arith, same, jump_label events n count len arch ready.recorded i b h r, ready.room);
         within = λ b r.
             omega (
               arith,
-              starts-at i h,
-              field-within p c (formed []) i b (omega (arith, length-all events n len constants asked m)) (ap roleOf (event-is i h) ∙ r),
-              length-all-runs,
+              starts_at i h,
+              field_within p c (formed []) i b (omega (arith, length_all events n len constants asked m)) (ap role_of (event_is i h) ∙ r),
+              length_all_runs,
             );
-        small = omega (arith, (rising-all ready before ss c laid few room).small i (omega arith));
+        small = omega (arith, (rising_all ready before ss c laid few room).small i (omega arith));
       };
     }
 
-    pool-room : PoolRoom output final constants asked m
-    pool-room = record {
+    pool_room : PoolRoom output final constants asked m
+    pool_room = record {
       within = λ j h.
           omega (
             arith,
             moved (label_at constants asked j) (ready.owned j h),
-            ap (mapOffset (take (n + m) ss)) (ready.stands j h),
-            ap (λ (ss : List Segment). mapOffset ss (poolOffset len constants asked j)) table,
-            mapped-within p c (formed []) (poolOffset len constants asked j) (length (bytes_at constants asked j))
-                (omega (arith, ready.bytes.limit, ready.pool.few, poolOffset-bound len constants asked m ready.pool j h))
-                (pool-apart code labels events constants asked arch len count n m ready [] (tables.entries (tables.ref_at refs) f) j h),
-            constant-size constants asked m ready.pool j h,
-            length-all-runs,
+            ap (map_offset (take (n + m) ss)) (ready.stands j h),
+            ap (λ (ss : List Segment). map_offset ss (pool_offset len constants asked j)) table,
+            mapped_within p c (formed []) (pool_offset len constants asked j) (length (bytes_at constants asked j))
+                (omega (arith, ready.bytes.limit, ready.pool.few, pool_offset_bound len constants asked m ready.pool j h))
+                (pool_apart code labels events constants asked arch len count n m ready [] (tables.entries (tables.ref_at refs) f) j h),
+            constant_size_lem constants asked m ready.pool j h,
+            length_all_runs,
           );
     }
 
-    to-fits : endOfRuns arch code events c len n ≤ length output
-    to-fits =
+    to_fits : end_of_runs arch code events c len n ≤ length output
+    to_fits =
         omega (
           arith,
-          from-poolStart (endOfRuns arch code events c len n) constants asked m,
-          pool-ends ready before ss c laid few room,
+          from_pool_start (end_of_runs arch code events c len n) constants asked m,
+          pool_ends ready before ss c laid few room,
           fits,
         )
 
     -- What a relaxed finish writes the code from.
-    pub writing : Writing output code final events refs constants asked c ss arch len n m f (endOfRuns arch code events c len n)
+    pub writing : Writing output code final events refs constants asked c ss arch len n m f (end_of_runs arch code events c len n)
     writing = record {
       small = ready.bytes.limit;
       rising = rising ready before ss c laid few room;
-      rising-all = rising-all ready before ss c laid few room;
+      rising_all = rising_all ready before ss c laid few room;
       emits = record {
         recorded = omega (arith, ready.recorded.room);
         chosen = omega (arith, chosen);
-        laid = table-first ready before ss c laid few room;
-        ordered = recorded-ordered events n count len arch ready.recorded;
+        laid = table_first ready before ss c laid few room;
+        ordered = recorded_ordered events n count len arch ready.recorded;
         coded = ready.bytes.room;
-        writes = recorded-writes events n count len arch ready.recorded;
-        room = to-fits;
+        writes = recorded_writes events n count len arch ready.recorded;
+        room = to_fits;
       };
-      ends = end-mapped ready before ss c laid few room;
-      near = omega (arith, to-fits, limit);
+      ends = end_mapped ready before ss c laid few room;
+      near = omega (arith, to_fits, limit);
       pool = ready.pool;
-      pooled = rw (pool-ends ready before ss c laid few room) fits;
-      filled = refs-fit;
-      jumped = jumps-fit;
+      pooled = rw (pool_ends ready before ss c laid few room) fits;
+      filled = refs_fit_lem;
+      jumped = jumps_fit;
       named = record { known = λ j h. omega (arith, same, ready.named.known j h) };
-      written = pool-room;
+      written = pool_room;
     }

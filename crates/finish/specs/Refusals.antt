@@ -6,100 +6,100 @@ use Rattle.seqs.specs.Every.{every}
 use Rattle.seqs.specs.Pick.{pick, first, or_else}
 use Rattle.fields.specs.declared.Decoded.{Decoded}
 use Rattle.fields.specs.declared.Decoded.TheVariants.{Use, Unsupported, Unknown}
-use Rattle.fields.specs.Words64.{plus, minus, signExtend}
+use Rattle.fields.specs.Words64.{plus, minus, sign_extend}
 use Rattle.fields.specs.Kinds.{decoded}
-use Rattle.fields.specs.Reach.{canReachDelta}
+use Rattle.fields.specs.Reach.{can_reach_delta}
 use Rattle.relax.specs.declared.LayoutEvent.{LayoutEvent}
 use Rattle.relax.specs.Events.{end_of, start_of}
-use Rattle.buffer.specs.State.{none, labelTarget}
+use Rattle.buffer.specs.State.{none, label_target}
 use Rattle.buffer.specs.Refusals.{standing}
-use Rattle.buffer.specs.Tables.{mostCode}
+use Rattle.buffer.specs.Tables.{most_code}
 use Rattle.recording.specs.Calls.{Recording}
 use Rattle.recording.specs.View as tables
-use Rattle.recording.specs.Open.{openOf}
+use Rattle.recording.specs.Open.{open_of}
 use Rattle.fresh.specs.Pooled.{Pooled, pooled}
 use Rattle.fresh.specs.Fresh.{Choice, moved, target}
 use Rattle.fresh.specs.Rounds.{settled}
 use Rattle.fresh.specs.Fill.{assembled}
-use Rattle.fresh.specs.Forms.{Role, pads, branches, roleOf}
-use Rattle.checks.specs.Lent.{countsFit, withinLimits}
-use Rattle.checks.specs.Entries.{entriesFit}
+use Rattle.fresh.specs.Forms.{Role, pads, branches, role_of}
+use Rattle.checks.specs.Lent.{counts_fit, within_limits}
+use Rattle.checks.specs.Entries.{entries_fit}
 use Rattle.fields.specs.Kinds.{size_of}
-use Rattle.fields.specs.Reach.{reachOf}
+use Rattle.fields.specs.Reach.{reach_of}
 
-abbrev pub isBound : List ℕ → ℕ → Bool
-isBound labels label = not (eqb (get_or labels label none) none)
+abbrev pub is_bound : List ℕ → ℕ → Bool
+is_bound labels label = not (eqb (get_or labels label none) none)
 
 -- 13: "a pooled constant's label bound by the caller"
-unfoldable pub poolBoundBefore : tables.View → Bool
-poolBoundBefore v =
-    not (every (λ (n : ℕ). not (isBound v.labels (get_or v.constants n (record { bytes = []; label = none })).label)) v.asked)
+unfoldable pub pool_bound_before : tables.View → Bool
+pool_bound_before v =
+    not (every (λ (n : ℕ). not (is_bound v.labels (get_or v.constants n (record { bytes = []; label = none })).label)) v.asked)
 
 -- 15: "a use, label relocation, ref or jump names an unbound label": none does
-abbrev pub boundBy : List ℕ → Role → Bool
-boundBy labels pads = true
-boundBy labels (branches b) = isBound labels b.label
+abbrev pub bound_by : List ℕ → Role → Bool
+bound_by labels pads = true
+bound_by labels (branches b) = is_bound labels b.label
 
-abbrev pub jumpBound : List ℕ → LayoutEvent → Bool
-jumpBound labels e = boundBy labels (roleOf e)
+abbrev pub jump_bound : List ℕ → LayoutEvent → Bool
+jump_bound labels e = bound_by labels (role_of e)
 
-unfoldable pub relocBound : List ℕ → tables.Relocation → Bool
-relocBound labels l = ltb l.target labelTarget || isBound labels (l.target - labelTarget)
+unfoldable pub reloc_bound : List ℕ → tables.Relocation → Bool
+reloc_bound labels l = ltb l.target label_target || is_bound labels (l.target - label_target)
 
-unfoldable pub allBound : Pooled → List tables.Relocation → Bool
-allBound p relocs =
-    every (λ (u : tables.Use). isBound p.labels u.label) p.uses
-    && (every (relocBound p.labels) relocs
-    && (every (λ (f : tables.Ref). isBound p.labels f.label) p.refs && every (jumpBound p.labels) p.events))
+unfoldable pub all_bound : Pooled → List tables.Relocation → Bool
+all_bound p relocs =
+    every (λ (u : tables.Use). is_bound p.labels u.label) p.uses
+    && (every (reloc_bound p.labels) relocs
+    && (every (λ (f : tables.Ref). is_bound p.labels f.label) p.refs && every (jump_bound p.labels) p.events))
 
 -- 17: "a ref's field passes the pooled code's end, or it starts before an event's end and ends after that event's start": it does not
-unfoldable pub refClear : Pooled → tables.Ref → Bool
-refClear p f =
+unfoldable pub ref_clear : Pooled → tables.Ref → Bool
+ref_clear p f =
     let end = f.offset + size_of (decoded f.code) in
     leb end (length p.code) && every (λ (e : LayoutEvent). leb (end_of e) f.offset || leb end (start_of e)) p.events
 
 -- 18: "a ref can't reach its label plus addend": it can, where the choice places it
-abbrev pub reachesBy : Decoded → ℕ → Bool
-reachesBy (Use k) distance = canReachDelta k distance
-reachesBy Unsupported distance = true
-reachesBy Unknown distance = true
+abbrev pub reaches_by : Decoded → ℕ → Bool
+reaches_by (Use k) distance = can_reach_delta k distance
+reaches_by Unsupported distance = true
+reaches_by Unknown distance = true
 
-unfoldable pub refReaches : Pooled → Choice → tables.Ref → Bool
-refReaches p c f = reachesBy (decoded f.code) (minus (plus (target p c f.label) (signExtend 32 f.addend)) (moved p c f.offset))
+unfoldable pub ref_reaches : Pooled → Choice → tables.Ref → Bool
+ref_reaches p c f = reaches_by (decoded f.code) (minus (plus (target p c f.label) (sign_extend 32 f.addend)) (moved p c f.offset))
 
 -- with a jump, on a table of `segments` entries and an output of `output` bytes; 23: "the finished code exceeds the lent output"
-unfoldable pub whyNotLaid : Pooled → ℕ → ℕ
-whyNotLaid p segments = first ((ltb segments (length p.events), refusals.tooFewSegments) ∷ (not (every (refClear p) p.refs), refusals.refOverlaps) ∷ [])
+unfoldable pub why_not_laid : Pooled → ℕ → ℕ
+why_not_laid p segments = first ((ltb segments (length p.events), refusals.too_few_segments) ∷ (not (every (ref_clear p) p.refs), refusals.ref_overlaps) ∷ [])
 
-unfoldable pub whyNotWritten : Pooled → ℕ → ℕ
-whyNotWritten p output =
+unfoldable pub why_not_written : Pooled → ℕ → ℕ
+why_not_written p output =
     let c = (settled p).choice in
-    first ((not (every (refReaches p c) p.refs), refusals.refOutOfReach) ∷ (ltb output (length (assembled p c)), refusals.outputTooSmall) ∷ [])
+    first ((not (every (ref_reaches p c) p.refs), refusals.ref_out_of_reach) ∷ (ltb output (length (assembled p c)), refusals.output_too_small) ∷ [])
 
 -- 19 to 22, "tried together for each use in order"
-unfoldable pub useRefusal : Pooled → tables.Use → ℕ
-useRefusal p u =
+unfoldable pub use_refusal : Pooled → tables.Use → ℕ
+use_refusal p u =
     let kind = decoded u.code in
-    pick (ltb (length p.code) (u.offset + size_of kind)) refusals.usePastEnd (reachOf kind u.offset (get_or p.labels u.label none))
+    pick (ltb (length p.code) (u.offset + size_of kind)) refusals.use_past_end (reach_of kind u.offset (get_or p.labels u.label none))
 
-unfoldable pub usesRefusal : Pooled → List tables.Use → ℕ
-usesRefusal p [] = 0
-usesRefusal p (u ∷ us) = or_else (useRefusal p u) (usesRefusal p us)
+unfoldable pub uses_refusal : Pooled → List tables.Use → ℕ
+uses_refusal p [] = 0
+uses_refusal p (u ∷ us) = or_else (use_refusal p u) (uses_refusal p us)
 
 -- without a jump
-unfoldable pub whyNotInPlace : Pooled → ℕ → ℕ
-whyNotInPlace p output = or_else (usesRefusal p p.uses) (first ((ltb output (length p.code), refusals.outputTooSmall) ∷ []))
+unfoldable pub why_not_in_place : Pooled → ℕ → ℕ
+why_not_in_place p output = or_else (uses_refusal p p.uses) (first ((ltb output (length p.code), refusals.output_too_small) ∷ []))
 
 -- what finish asks before it looks whether a jump stands. 1, too: "any other wrong number handed in, after a recorded refusal, 3 and 4".
-unfoldable pub whyUnfit : Recording → ℕ → ℕ → ℕ
-whyUnfit r segments output =
+unfoldable pub why_unfit : Recording → ℕ → ℕ → ℕ
+why_unfit r segments output =
     let v = tables.view r in
     let p = pooled r.buffer.arch v in
-    or_else (standing r.buffer (countsFit r) (withinLimits r segments output))
+    or_else (standing r.buffer (counts_fit r) (within_limits r segments output))
     (first (
-    (not (entriesFit r), refusals.malformed)
-    ∷ (not (eqb r.buffer.unresolved (openOf v)), refusals.malformed)
-    ∷ (poolBoundBefore v, refusals.poolLabelBound)
-    ∷ (ltb mostCode (length p.code), refusals.poolTooLarge)
+    (not (entries_fit r), refusals.malformed)
+    ∷ (not (eqb r.buffer.unresolved (open_of v)), refusals.malformed)
+    ∷ (pool_bound_before v, refusals.pool_label_bound)
+    ∷ (ltb most_code (length p.code), refusals.pool_too_large)
     ∷ []
     ))

@@ -3,9 +3,9 @@
 ghost use Rattle.std.specs.Prelude.{◌≡◌, true, false, List, length};
 ghost use Rattle.relax.specs.declared.Segment.{Segment};
 ghost use Rattle.pool.specs.steps.Pool.{PoolFits, PoolLabels};
-ghost use Rattle.checks.specs.Lent.{recordingOf};
-ghost use Rattle.finish.specs.Refusals.{whyUnfit};
-ghost use Rattle.finish.specs.Finish.{unfinished, finishedWith, finish};
+ghost use Rattle.checks.specs.Lent.{recording_of};
+ghost use Rattle.finish.specs.Refusals.{why_unfit};
+ghost use Rattle.finish.specs.Finish.{unfinished, finished_with, finish};
 ghost use Rattle.finish.specs.steps.Ready.{concluded, Begins};
 
 use buffer::CodeBuffer;
@@ -72,7 +72,7 @@ fn why_unfit(
     segments: usize,
     output: usize,
 ) -> u32
-    ensures { result ≡ whyUnfit (recordingOf b code.now labels.now events.now uses.now refs.now constants.now asked.now relocs.now) segments output }
+    ensures { result ≡ why_unfit (recording_of b code.now labels.now events.now uses.now refs.now constants.now asked.now relocs.now) segments output }
 {
     let why = checks::lent::why_not_standing(
         b, code, labels, events, uses, refs, constants, asked, relocs, segments, output,
@@ -115,7 +115,7 @@ fn unfinished(b: CodeBuffer, why: u32) -> Finished
 }
 
 fn finished_with(mut b: CodeBuffer, alignment: u32, placed: Outcome) -> Finished
-    ensures { result ≡ finishedWith b alignment placed }
+    ensures { result ≡ finished_with b alignment placed }
 {
     b.finished = 1;
     b.unresolved = 0;
@@ -167,8 +167,8 @@ fn begin(
     segments: usize,
     output: &mut [u8],
 ) -> Begun
-    ensures output_after { result.relax ≡ false → (ss : List Segment) → length ss ≡ segments → (result.finished, (labels.new, (relocs.now, (ss, output.new)))) ≡ finish (recordingOf b code.now labels.old events.now uses.now refs.now constants.now asked.now relocs.now) ss output.old }
-    ensures begins { result.relax ≡ true → Begins (recordingOf b code.now labels.old events.now uses.now refs.now constants.now asked.now relocs.now) labels.new output.old output.new segments }
+    ensures output_after { result.relax ≡ false → (ss : List Segment) → length ss ≡ segments → (result.finished, (labels.new, (relocs.now, (ss, output.new)))) ≡ finish (recording_of b code.now labels.old events.now uses.now refs.now constants.now asked.now relocs.now) ss output.old }
+    ensures begins { result.relax ≡ true → Begins (recording_of b code.now labels.old events.now uses.now refs.now constants.now asked.now relocs.now) labels.new output.old output.new segments }
 {
     let why = why_unfit(
         b,
@@ -221,7 +221,7 @@ pub fn finish(
     segments: &mut [Segment],
     output: &mut [u8],
 ) -> Finished
-    ensures { (result, (labels.new, (relocs.new, (segments.new, output.new)))) ≡ finish (recordingOf b code.now labels.old events.now uses.now refs.now constants.now asked.now relocs.old) segments.old output.old }
+    ensures { (result, (labels.new, (relocs.new, (segments.new, output.new)))) ≡ finish (recording_of b code.now labels.old events.now uses.now refs.now constants.now asked.now relocs.old) segments.old output.old }
 {
     let begun = begin(
         b,

@@ -3,19 +3,19 @@ ghost use Rattle.std.specs.Prelude.{◌≡◌, true, false, not, List, [], ◌�
 ghost use Rattle.refusals.specs.Numbers as refusals;
 ghost use Rattle.seqs.specs.Pick.{first, or_else};
 ghost use Rattle.words.specs.Words.{word_at};
-ghost use Rattle.lookup.specs.steps.Index.{indexSize, Indexed};
+ghost use Rattle.lookup.specs.steps.Index.{index_size, Indexed};
 ghost use Rattle.relax.specs.declared.LayoutEvent.{LayoutEvent};
 ghost use Rattle.relax.specs.declared.Segment.{Segment};
-ghost use Rattle.relax.specs.Events.{eventAt};
-ghost use Rattle.buffer.specs.Tables.{labelSize, useSize};
+ghost use Rattle.relax.specs.Events.{event_at};
+ghost use Rattle.buffer.specs.Tables.{label_size, use_size};
 ghost use Rattle.recording.specs.View as tables;
 ghost use Rattle.layout.specs.steps.Layout.{start_at};
-ghost use Rattle.buffer.specs.steps.Count.{NamersFit, openCount};
-ghost use Rattle.checks.specs.steps.Fields.{refsClear, whyUses};
-ghost use Rattle.checks.specs.steps.Handed.{fewMarks, useLabel, Named};
+ghost use Rattle.buffer.specs.steps.Count.{NamersFit, open_count};
+ghost use Rattle.checks.specs.steps.Fields.{refs_clear, why_uses};
+ghost use Rattle.checks.specs.steps.Handed.{few_marks, use_label, Named};
 ghost use Rattle.finish.specs.Finish.{relaxed};
-ghost use Rattle.finish.specs.steps.Tables.{tablesPooled, laidPooled};
-ghost use Rattle.finish.specs.steps.Ready.{Clearing, endOfRuns, codeWritten, Writing, Layable, codeCopied, Copying, Keepable, kept, Placeable, pooledOf, placedAs, Starts};
+ghost use Rattle.finish.specs.steps.Tables.{tables_pooled, laid_pooled};
+ghost use Rattle.finish.specs.steps.Ready.{Clearing, end_of_runs, code_written, Writing, Layable, code_copied, Copying, Keepable, kept, Placeable, pooled_of, placed_as, Starts};
 
 use crate::{Outcome, Started};
 use buffer::CodeBuffer;
@@ -40,10 +40,10 @@ fn all_bound(
     refs: &[u8],
     relocs: &[u8],
 ) -> bool
-    requires fact_1 { b.labels * labelSize ≤ length labels.now }
+    requires fact_1 { b.labels * label_size ≤ length labels.now }
     requires fact_2 { NamersFit b events.now uses.now refs.now relocs.now }
-    requires fact_3 { (b.unresolved ≡ 0 → openCount b labels.now events.now uses.now refs.now relocs.now ≡ 0) }
-    ensures { result ≡ eqb (openCount b labels.now events.now uses.now refs.now relocs.now) 0 }
+    requires fact_3 { (b.unresolved ≡ 0 → open_count b labels.now events.now uses.now refs.now relocs.now ≡ 0) }
+    ensures { result ≡ eqb (open_count b labels.now events.now uses.now refs.now relocs.now) 0 }
 {
     if b.unresolved == 0 {
         return true;
@@ -63,7 +63,7 @@ fn why_not_laid(
     end: u32,
 ) -> u32
     requires { Clearing refs.now events.now labels.now constants.now asked.now b.refs b.events b.asked b.code end }
-    ensures { result ≡ first ((ltb segments (b.events + b.asked), refusals.tooFewSegments) ∷ (not (refsClear refs.now b.refs events.now b.events b.code constants.now asked.now b.asked), refusals.refOverlaps) ∷ []) }
+    ensures { result ≡ first ((ltb segments (b.events + b.asked), refusals.too_few_segments) ∷ (not (refs_clear refs.now b.refs events.now b.events b.code constants.now asked.now b.asked), refusals.ref_overlaps) ∷ []) }
 {
     let recorded = b.events as usize;
     let pooled = b.asked as usize;
@@ -89,7 +89,7 @@ fn why_not_laid(
 
 // 18: a ref can't reach; 23: the finished code exceeds the output.
 fn why_not_written(reach: bool, len: u32, output: usize) -> u32
-    ensures { result ≡ first ((not reach, refusals.refOutOfReach) ∷ (ltb output len, refusals.outputTooSmall) ∷ []) }
+    ensures { result ≡ first ((not reach, refusals.ref_out_of_reach) ∷ (ltb output len, refusals.output_too_small) ∷ []) }
 {
     if !reach {
         return refusals::REF_OUT_OF_REACH;
@@ -116,8 +116,8 @@ pub(crate) fn write_relaxed(
     shift: u32,
 )
     requires fact_1 { Indexed index.now (start_at segments.now) (b.events + b.asked) shift }
-    requires fact_2 { Writing output.old code.now labels.now events.now refs.now constants.now asked.now long.now segments.now b.arch b.code b.events b.asked b.refs (endOfRuns b.arch code.now events.now long.now b.code b.events) }
-    ensures { output.new ≡ codeWritten b.arch output.old code.now labels.now events.now refs.now constants.now asked.now long.now segments.now b.code b.events b.asked b.refs }
+    requires fact_2 { Writing output.old code.now labels.now events.now refs.now constants.now asked.now long.now segments.now b.arch b.code b.events b.asked b.refs (end_of_runs b.arch code.now events.now long.now b.code b.events) }
+    ensures { output.new ≡ code_written b.arch output.old code.now labels.now events.now refs.now constants.now asked.now long.now segments.now b.code b.events b.asked b.refs }
 {
     let recorded = b.events as usize;
     let pooled = b.asked as usize;
@@ -166,7 +166,7 @@ pub(crate) fn relax_and_write(
 ) -> Outcome
     requires fact_1 { Layable code.now labels.old events.now refs.now constants.now asked.now relocs.old output.old (length segments.old) b.arch b.code b.labels b.events b.asked b.refs b.relocs }
     requires fact_2 { long.old ≡ replicate (b.events + b.asked) false }
-    ensures { (us : List tables.Use) → (result, (labels.new, (relocs.new, (segments.new, output.new)))) ≡ relaxed (laidPooled b.arch b.code (take b.code code.now) (tables.entries (word_at labels.old) b.labels) (tables.entries (eventAt events.now) b.events) us (tables.entries (tables.ref_at refs.now) b.refs) constants.now asked.now b.asked) b.relocs labels.old relocs.old segments.old output.old }
+    ensures { (us : List tables.Use) → (result, (labels.new, (relocs.new, (segments.new, output.new)))) ≡ relaxed (laid_pooled b.arch b.code (take b.code code.now) (tables.entries (word_at labels.old) b.labels) (tables.entries (event_at events.now) b.events) us (tables.entries (tables.ref_at refs.now) b.refs) constants.now asked.now b.asked) b.relocs labels.old relocs.old segments.old output.old }
 {
     let recorded = b.events as usize;
     let pooled = b.asked as usize;
@@ -203,7 +203,7 @@ pub(crate) fn relax_and_write(
 
 // How long an index of so many starts is: none where it does not pay.
 fn index_size(all: usize) -> usize
-    ensures { result ≤ indexSize }
+    ensures { result ≤ index_size }
 {
     if lookup::pays(all, all) {
         return lookup::SIZE;
@@ -226,7 +226,7 @@ pub(crate) fn tiny_relaxed(
 ) -> Outcome
     requires fact_1 { Layable code.now labels.old events.now refs.now constants.now asked.now relocs.old output.old (length segments.old) b.arch b.code b.labels b.events b.asked b.refs b.relocs }
     requires fact_2 { b.events + b.asked < 24 }
-    ensures { (us : List tables.Use) → (result, (labels.new, (relocs.new, (segments.new, output.new)))) ≡ relaxed (laidPooled b.arch b.code (take b.code code.now) (tables.entries (word_at labels.old) b.labels) (tables.entries (eventAt events.now) b.events) us (tables.entries (tables.ref_at refs.now) b.refs) constants.now asked.now b.asked) b.relocs labels.old relocs.old segments.old output.old }
+    ensures { (us : List tables.Use) → (result, (labels.new, (relocs.new, (segments.new, output.new)))) ≡ relaxed (laid_pooled b.arch b.code (take b.code code.now) (tables.entries (word_at labels.old) b.labels) (tables.entries (event_at events.now) b.events) us (tables.entries (tables.ref_at refs.now) b.refs) constants.now asked.now b.asked) b.relocs labels.old relocs.old segments.old output.old }
 {
     let all = b.events as usize + b.asked as usize;
     let mut long = [false; lookup::FEW];
@@ -261,8 +261,8 @@ pub(crate) fn small_relaxed(
     output: &mut [u8],
 ) -> Outcome
     requires fact_1 { Layable code.now labels.old events.now refs.now constants.now asked.now relocs.old output.old (length segments.old) b.arch b.code b.labels b.events b.asked b.refs b.relocs }
-    requires fact_2 { b.events + b.asked ≤ fewMarks }
-    ensures { (us : List tables.Use) → (result, (labels.new, (relocs.new, (segments.new, output.new)))) ≡ relaxed (laidPooled b.arch b.code (take b.code code.now) (tables.entries (word_at labels.old) b.labels) (tables.entries (eventAt events.now) b.events) us (tables.entries (tables.ref_at refs.now) b.refs) constants.now asked.now b.asked) b.relocs labels.old relocs.old segments.old output.old }
+    requires fact_2 { b.events + b.asked ≤ few_marks }
+    ensures { (us : List tables.Use) → (result, (labels.new, (relocs.new, (segments.new, output.new)))) ≡ relaxed (laid_pooled b.arch b.code (take b.code code.now) (tables.entries (word_at labels.old) b.labels) (tables.entries (event_at events.now) b.events) us (tables.entries (tables.ref_at refs.now) b.refs) constants.now asked.now b.asked) b.relocs labels.old relocs.old segments.old output.old }
 {
     let all = b.events as usize + b.asked as usize;
     let mut long = [false; checks::entries::FEW_MARKS];
@@ -300,7 +300,7 @@ pub(crate) fn large_relaxed(
     again: usize,
 ) -> Outcome
     requires { (again ≡ 0) × Layable code.now labels.old events.now refs.now constants.now asked.now relocs.old output.old (length segments.old) b.arch b.code b.labels b.events b.asked b.refs b.relocs }
-    ensures { (us : List tables.Use) → (result, (labels.new, (relocs.new, (segments.new, output.new)))) ≡ relaxed (laidPooled b.arch b.code (take b.code code.now) (tables.entries (word_at labels.old) b.labels) (tables.entries (eventAt events.now) b.events) us (tables.entries (tables.ref_at refs.now) b.refs) constants.now asked.now b.asked) b.relocs labels.old relocs.old segments.old output.old }
+    ensures { (us : List tables.Use) → (result, (labels.new, (relocs.new, (segments.new, output.new)))) ≡ relaxed (laid_pooled b.arch b.code (take b.code code.now) (tables.entries (word_at labels.old) b.labels) (tables.entries (event_at events.now) b.events) us (tables.entries (tables.ref_at refs.now) b.refs) constants.now asked.now b.asked) b.relocs labels.old relocs.old segments.old output.old }
 {
     if again != 0 {
         let before = large_relaxed(
@@ -355,7 +355,7 @@ pub(crate) fn relaxed(
     output: &mut [u8],
 ) -> Outcome
     requires { Layable code.now labels.old events.now refs.now constants.now asked.now relocs.old output.old (length segments.old) b.arch b.code b.labels b.events b.asked b.refs b.relocs }
-    ensures { (us : List tables.Use) → (result, (labels.new, (relocs.new, (segments.new, output.new)))) ≡ relaxed (laidPooled b.arch b.code (take b.code code.now) (tables.entries (word_at labels.old) b.labels) (tables.entries (eventAt events.now) b.events) us (tables.entries (tables.ref_at refs.now) b.refs) constants.now asked.now b.asked) b.relocs labels.old relocs.old segments.old output.old }
+    ensures { (us : List tables.Use) → (result, (labels.new, (relocs.new, (segments.new, output.new)))) ≡ relaxed (laid_pooled b.arch b.code (take b.code code.now) (tables.entries (word_at labels.old) b.labels) (tables.entries (event_at events.now) b.events) us (tables.entries (tables.ref_at refs.now) b.refs) constants.now asked.now b.asked) b.relocs labels.old relocs.old segments.old output.old }
 {
     if (b.events as usize + b.asked as usize) < lookup::FEW {
         return tiny_relaxed(
@@ -384,9 +384,9 @@ pub(crate) fn relaxed(
 
 // 19 to 22: a use's field passes the code's end, or it can't reach; 23: the code exceeds the output.
 fn why_not_in_place(b: CodeBuffer, labels: &[u8], uses: &[u8], end: u32, output: usize) -> u32
-    requires fact_1 { b.uses * useSize ≤ length uses.now }
-    requires fact_2 { Named (useLabel uses.now) b.uses labels.now }
-    ensures { result ≡ or_else (whyUses uses.now labels.now end b.uses) (first ((ltb output end, refusals.outputTooSmall) ∷ [])) }
+    requires fact_1 { b.uses * use_size ≤ length uses.now }
+    requires fact_2 { Named (use_label uses.now) b.uses labels.now }
+    ensures { result ≡ or_else (why_uses uses.now labels.now end b.uses) (first ((ltb output end, refusals.output_too_small) ∷ [])) }
 {
     let why = checks::fields_fit::why_uses(uses, b.uses as usize, labels, end);
     if why != 0 {
@@ -409,7 +409,7 @@ fn write_in_place(
     asked: &[u8],
 )
     requires { Copying output.old code.now labels.now uses.now constants.now asked.now b.code b.uses b.asked }
-    ensures { output.new ≡ codeCopied output.old code.now labels.now uses.now constants.now asked.now b.arch b.code b.uses b.asked }
+    ensures { output.new ≡ code_copied output.old code.now labels.now uses.now constants.now asked.now b.arch b.code b.uses b.asked }
 {
     let pooled = b.asked as usize;
     emit::copy_run(output, code, 0, b.code as usize, 0);
@@ -429,7 +429,7 @@ fn unrelaxed(
     output: &mut [u8],
 ) -> Outcome
     requires { Keepable code.now labels.now uses.now constants.now asked.now b.code b.labels b.uses b.asked }
-    ensures { (es : List LayoutEvent) (rs : List tables.Ref) → (result, output.new) ≡ kept (tablesPooled b.arch b.code (take b.code code.now) (tables.entries (word_at labels.now) b.labels) es (tables.entries (tables.useAt uses.now) b.uses) rs constants.now asked.now b.asked) output.old }
+    ensures { (es : List LayoutEvent) (rs : List tables.Ref) → (result, output.new) ≡ kept (tables_pooled b.arch b.code (take b.code code.now) (tables.entries (word_at labels.now) b.labels) es (tables.entries (tables.use_at uses.now) b.uses) rs constants.now asked.now b.asked) output.old }
 {
     let end = pool::pool_end(b.code, constants, asked, b.asked as usize);
     let why = why_not_in_place(b, labels, uses, end, output.len());
@@ -459,7 +459,7 @@ pub(crate) fn start(
     output: &mut [u8],
 ) -> Started
     requires { Placeable b code.now labels.now events.now uses.now refs.now constants.now asked.now relocs.now output.old segments }
-    ensures output_after { result.relax ≡ false → (ss : List Segment) → length ss ≡ segments → (result.outcome, (labels.now, (relocs.now, (ss, output.new)))) ≡ placedAs (pooledOf b code.now labels.now events.now uses.now refs.now constants.now asked.now) b labels.now relocs.now ss output.old }
+    ensures output_after { result.relax ≡ false → (ss : List Segment) → length ss ≡ segments → (result.outcome, (labels.now, (relocs.now, (ss, output.new)))) ≡ placed_as (pooled_of b code.now labels.now events.now uses.now refs.now constants.now asked.now) b labels.now relocs.now ss output.old }
     ensures starts { result.relax ≡ true → Starts b code.now labels.now events.now uses.now refs.now constants.now asked.now relocs.now output.old output.new segments }
 {
     if !all_bound(b, labels, events, uses, refs, relocs) {

@@ -6,47 +6,47 @@ use mathlib.Core.List.{List, [], ◌∷◌, ◌++◌}
 use Prim.Native.Nat.{ℕ, zero, suc, ◌+◌, ◌<◌}
 use native.Mathlib.Numerals.{add-one}
 use native.Mathlib.Omega.{arith}
-use Rattle.seqs.proofs.Numbers.{eq-or-ne}
+use Rattle.seqs.proofs.Numbers.{eq_or_ne}
 use Rattle.relax.specs.declared.LayoutEvent.{LayoutEvent}
 use Rattle.recording.specs.View.{entries}
-use Rattle.fresh.specs.Forms.{isMoving, moves}
+use Rattle.fresh.specs.Forms.{is_moving, moves}
 
 or_assoc : (a b c : Bool) → (a || (b || c)) ≡ ((a || b) || c)
 or_assoc true b c = refl
 or_assoc false b c = refl
 
-or-none : (a : Bool) → (a || false) ≡ a
-or-none true = refl
-or-none false = refl
+or_none : (a : Bool) → (a || false) ≡ a
+or_none true = refl
+or_none false = refl
 
-or-one : (a : Bool) → (a || true) ≡ true
-or-one true = refl
-or-one false = refl
+or_one : (a : Bool) → (a || true) ≡ true
+or_one true = refl
+or_one false = refl
 
-pub moves-append : (xs ys : List LayoutEvent) → moves (xs ++ ys) ≡ (moves xs || moves ys)
+pub moves_append : (xs ys : List LayoutEvent) → moves (xs ++ ys) ≡ (moves xs || moves ys)
 unfolding moves
-moves-append [] ys = refl
-moves-append (x ∷ xs) ys = ap (λ (t : Bool). isMoving x || t) (moves-append xs ys) ∙ or_assoc (isMoving x) (moves xs) (moves ys)
+moves_append [] ys = refl
+moves_append (x ∷ xs) ys = ap (λ (t : Bool). is_moving x || t) (moves_append xs ys) ∙ or_assoc (is_moving x) (moves xs) (moves ys)
 
 module _ (f : ℕ → LayoutEvent) where
-  moves_more : (i : ℕ) → moves (entries f (suc i)) ≡ (moves (entries f i) || isMoving (f i))
+  moves_more : (i : ℕ) → moves (entries f (suc i)) ≡ (moves (entries f i) || is_moving (f i))
   unfolding moves
-  moves_more i = moves-append (entries f i) (f i ∷ []) ∙ ap (λ (t : Bool). moves (entries f i) || t) (or-none (isMoving (f i)))
+  moves_more i = moves_append (entries f i) (f i ∷ []) ∙ ap (λ (t : Bool). moves (entries f i) || t) (or_none (is_moving (f i)))
 
   -- the events so far leave it as it is
-  pub still-more : (i : ℕ) → moves (entries f i) ≡ false → isMoving (f i) ≡ false → moves (entries f (i + 1)) ≡ false
-  still-more i h e = rw (add-one i) (moves_more i ∙ rw (h, e))
+  pub still_more : (i : ℕ) → moves (entries f i) ≡ false → is_moving (f i) ≡ false → moves (entries f (i + 1)) ≡ false
+  still_more i h e = rw (add-one i) (moves_more i ∙ rw (h, e))
 
-  pub still-all : (n : ℕ) → ((i : ℕ) → i < n → isMoving (f i) ≡ false) → moves (entries f n) ≡ false
+  pub still_all : (n : ℕ) → ((i : ℕ) → i < n → is_moving (f i) ≡ false) → moves (entries f n) ≡ false
   unfolding moves
-  still-all zero h = refl
-  still-all (suc n) h = moves_more n ∙ rw (still-all n (λ i l. h i (omega arith)), h n (omega arith))
+  still_all zero h = refl
+  still_all (suc n) h = moves_more n ∙ rw (still_all n (λ i l. h i (omega arith)), h n (omega arith))
 
   -- one of them does not
-  pub moved_by : (n i : ℕ) → i < n → isMoving (f i) ≡ true → moves (entries f n) ≡ true
+  pub moved_by : (n i : ℕ) → i < n → is_moving (f i) ≡ true → moves (entries f n) ≡ true
   moved_by zero i h e = absurd (omega arith)
   moved_by (suc n) i h e =
       ⊎_elim
-      (λ (same : i ≡ n). moves_more n ∙ rw (← same, e) (or-one (moves (entries f i))))
+      (λ (same : i ≡ n). moves_more n ∙ rw (← same, e) (or_one (moves (entries f i))))
       (λ other. moves_more n ∙ rw (moved_by n i (omega arith) e))
-      (eq-or-ne i n)
+      (eq_or_ne i n)

@@ -2,11 +2,11 @@
 use Rattle.std.specs.Prelude.{◌≡◌, true, false, List, [], ◌∷◌, map, ℕ, ◌+◌, ◌≤◌, ◌<◌, length, get_or}
 use Rattle.fields.specs.Kinds.{info}
 use Rattle.relax.specs.declared.LayoutEvent.{LayoutEvent}
-use Rattle.relax.specs.Events.{noEvent}
+use Rattle.relax.specs.Events.{no_event}
 use Rattle.fresh.specs.Pooled.{Pooled}
-use Rattle.fresh.specs.Forms.{Branch, Role, pads, branches, roleOf}
+use Rattle.fresh.specs.Forms.{Branch, Role, pads, branches, role_of}
 use Rattle.fresh.specs.Fresh.{Choice, walk, starts, moved, target}
-use Rattle.fresh.specs.Rounds.{allShort, jumps, Rounds}
+use Rattle.fresh.specs.Rounds.{all_short, jumps, Rounds}
 use Rattle.fresh.specs.Fill.{assembled}
 
 -- a label lies where a short jump that starts at `start` reaches it (`reaches`)
@@ -16,7 +16,7 @@ pub record Reach (b : Branch) (start label : ℕ) : Type 0 where
 
 -- every short jump reaches, where the choice places it
 unfoldable pub Fits : Pooled → Choice → Type 0
-Fits p c = (i : ℕ) (b : Branch) → i < length p.events → roleOf (get_or p.events i noEvent) ≡ branches b → get_or c i false ≡ false
+Fits p c = (i : ℕ) (b : Branch) → i < length p.events → role_of (get_or p.events i no_event) ≡ branches b → get_or c i false ≡ false
     → Reach b (get_or (starts 0 (walk p) c) i 0) (target p c b.label)
 
 -- what is long in c is long in d
@@ -31,13 +31,13 @@ Branches (branches b) = Unit {0}
 -- "neither alignment nor pooled constant": every event names a label. A pooled constant has an alignment among the events.
 unfoldable pub NoAlign : List LayoutEvent → Type 0
 NoAlign [] = Unit {0}
-NoAlign (e ∷ es) = Branches (roleOf e) × NoAlign es
+NoAlign (e ∷ es) = Branches (role_of e) × NoAlign es
 
 -- A finish of p hands out `code`, the labels' offsets, and says how long the code is and how many layouts it made.
 pub record Demand3 (p : Pooled) (code labels : List ℕ) (len layouts : ℕ) : Type 0 where
   -- the jumps that are long: those on which the rounds settle; the layouts reported equal the number of rounds
   pub choice : Choice
-  pub rounds : Rounds p (allShort p.events) choice layouts
+  pub rounds : Rounds p (all_short p.events) choice layouts
   -- finished length and every byte, and every label's offset, equal those of a fresh assembly told from the start which jumps are long
   pub finished : len ≡ length (assembled p choice)
   pub bytes : code ≡ assembled p choice

@@ -1,7 +1,7 @@
 -- Recordings in good order: events that follow one another, and offsets that lie strictly inside none of them. With a jump finish refuses any other.
 use Rattle.std.specs.Prelude.{◌⊎◌, ◌≢◌, List, [], ◌∷◌, ℕ, ◌+◌, ◌≤◌, ◌<◌, length, get_or}
 use Rattle.relax.specs.declared.LayoutEvent.{LayoutEvent}
-use Rattle.relax.specs.Events.{start_of, end_of, noEvent}
+use Rattle.relax.specs.Events.{start_of, end_of, no_event}
 use Rattle.buffer.specs.State.{none}
 use Rattle.recording.specs.View.{Ref}
 use Rattle.fresh.specs.Pooled.{Placed, Pooled}
@@ -25,7 +25,7 @@ abbrev pub Apart : Pooled → ℕ → ℕ → Type 0
 Apart p offset n =
     (offset + n ≤ length p.code)
     × ((i : ℕ) → i < length p.events
-    → (offset + n ≤ start_of (get_or p.events i noEvent)) ⊎ (end_of (get_or p.events i noEvent) ≤ offset))
+    → (offset + n ≤ start_of (get_or p.events i no_event)) ⊎ (end_of (get_or p.events i no_event) ≤ offset))
 
 -- each ref's field starts at an offset of the code strictly inside no event
 unfoldable pub RefsLie : Pooled → List Ref → Type 0

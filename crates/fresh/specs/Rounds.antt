@@ -3,13 +3,13 @@ use Rattle.std.specs.Prelude.{◌≡◌, Bool, true, false, not, ◌&&◌, ◌||
 use Rattle.fields.specs.Kinds.{info}
 use Rattle.relax.specs.declared.LayoutEvent.{LayoutEvent}
 use Rattle.fresh.specs.Pooled.{Pooled}
-use Rattle.fresh.specs.Forms.{Branch, Role, pads, branches, roleOf}
-use Rattle.fresh.specs.Fresh.{Choice, isLong, others, walk, starts, target}
+use Rattle.fresh.specs.Forms.{Branch, Role, pads, branches, role_of}
+use Rattle.fresh.specs.Fresh.{Choice, is_long, others, walk, starts, target}
 
 -- no jump is long
-abbrev pub allShort : List LayoutEvent → Choice
-allShort [] = []
-allShort (e ∷ es) = false ∷ allShort es
+abbrev pub all_short : List LayoutEvent → Choice
+all_short [] = []
+all_short (e ∷ es) = false ∷ all_short es
 
 -- how many jumps there are: events that name a label
 abbrev pub counted : Role → ℕ
@@ -18,7 +18,7 @@ counted (branches b) = 1
 
 unfoldable pub jumps : List LayoutEvent → ℕ
 jumps [] = 0
-jumps (e ∷ es) = counted (roleOf e) + jumps es
+jumps (e ∷ es) = counted (role_of e) + jumps es
 
 -- A short jump that starts at `start` reaches a label where its field does: of a jump, the label's offset minus the jump's end lies in -128..127.
 unfoldable pub reaches : Branch → ℕ → ℕ → Bool
@@ -28,25 +28,25 @@ reaches b start label =
     leb from (label + field.low) && leb label (from + field.high)
 
 -- an event, long or not, that starts at `start` is a short jump that does not reach its label, whose offset `at` knows by its number
-unfoldable pub isFar : (ℕ → ℕ) → LayoutEvent → Bool → ℕ → Bool
-isFar at e long start = elim (roleOf e) [ pads ↦ false | branches b ↦ not long && not (reaches b start (at b.label)) ]
+unfoldable pub is_far : (ℕ → ℕ) → LayoutEvent → Bool → ℕ → Bool
+is_far at e long start = elim (role_of e) [ pads ↦ false | branches b ↦ not long && not (reaches b start (at b.label)) ]
 
 -- the first of the starts, and those after it
-abbrev pub firstStart : List ℕ → ℕ
-firstStart [] = 0
-firstStart (x ∷ xs) = x
+abbrev pub first_start : List ℕ → ℕ
+first_start [] = 0
+first_start (x ∷ xs) = x
 
-abbrev pub otherStarts : List ℕ → List ℕ
-otherStarts [] = []
-otherStarts (x ∷ xs) = xs
+abbrev pub other_starts : List ℕ → List ℕ
+other_starts [] = []
+other_starts (x ∷ xs) = xs
 
-unfoldable pub farOf : (ℕ → ℕ) → List LayoutEvent → Choice → List ℕ → Choice
-farOf at [] c starts = []
-farOf at (e ∷ es) c starts = isFar at e (isLong c) (firstStart starts) ∷ farOf at es (others c) (otherStarts starts)
+unfoldable pub far_of : (ℕ → ℕ) → List LayoutEvent → Choice → List ℕ → Choice
+far_of at [] c starts = []
+far_of at (e ∷ es) c starts = is_far at e (is_long c) (first_start starts) ∷ far_of at es (others c) (other_starts starts)
 
 -- which events a round lengthens: the short jumps that do not reach where the choice places them
 abbrev pub far : Pooled → Choice → Choice
-far p c = farOf (target p c) p.events c (starts 0 (walk p) c)
+far p c = far_of (target p c) p.events c (starts 0 (walk p) c)
 
 unfoldable pub any : Choice → Bool
 any [] = false
@@ -55,7 +55,7 @@ any (b ∷ bs) = b || any bs
 -- what is long in the first or in the second
 unfoldable pub join : Choice → Choice → Choice
 join c [] = []
-join c (f ∷ fs) = (isLong c || f) ∷ join (others c) fs
+join c (f ∷ fs) = (is_long c || f) ∷ join (others c) fs
 
 -- the choice that a round makes; "none returns to short"
 abbrev pub longer : Pooled → Choice → Choice
@@ -79,6 +79,6 @@ settle (suc k) p c = elim (any (far p c)) [
   | true ↦ record { choice = (settle k p (longer p c)).choice; rounds = suc (settle k p (longer p c)).rounds }
 ]
 
--- No more rounds lengthen a jump than there are jumps (`rounds-settle`).
+-- No more rounds lengthen a jump than there are jumps (`rounds_settle`).
 abbrev pub settled : Pooled → Settled
-settled p = settle (jumps p.events) p (allShort p.events)
+settled p = settle (jumps p.events) p (all_short p.events)

@@ -1,6 +1,6 @@
 -- Small recordings, for cases that are worked out: events over zeros on X64, and the jump that stands among them.
 use Rattle.std.specs.Prelude.{List, [], ℕ, replicate}
-use Rattle.fields.specs.Kinds.{archX64}
+use Rattle.fields.specs.Kinds.{arch_x64}
 use Rattle.relax.specs.declared.Condition.TheVariants.{Always}
 use Rattle.relax.specs.declared.LayoutEvent.{LayoutEvent}
 use Rattle.relax.specs.declared.LayoutEvent.TheVariants.{Jump}
@@ -12,4 +12,4 @@ jmp start label = Jump (record { start = start; len = 5; label = label; cc = Alw
 
 -- events over n zeros, on X64
 abbrev pub zeros : ℕ → List LayoutEvent → List ℕ → Pooled
-zeros n es labels = record { arch = archX64; code = replicate n 0; events = es; labels = labels; uses = []; refs = []; pool = [] }
+zeros n es labels = record { arch = arch_x64; code = replicate n 0; events = es; labels = labels; uses = []; refs = []; pool = [] }

@@ -1,5 +1,5 @@
 -- The segments that a layout fills and `map`, which searches them: document 01, the paragraph on relax.rs. Labels and a ref's field go where the fresh
--- assembly has them (`moved-map`); relocations go where `map` says.
+-- assembly has them (`moved_map`); relocations go where `map` says.
 use Rattle.std.specs.Prelude.{Bool, true, false, List, [], ◌∷◌, ℕ, ◌+◌, ◌-◌, ltb, leb, eqb}
 use Rattle.relax.specs.declared.LayoutEvent.{LayoutEvent}
 use Rattle.relax.specs.declared.Segment.{Segment}
@@ -7,7 +7,7 @@ use Rattle.relax.specs.Events.{end_of, start_of}
 use Rattle.buffer.specs.State.{none}
 use Rattle.fresh.specs.Pooled.{Pooled}
 use Rattle.fresh.specs.Forms.{width}
-use Rattle.fresh.specs.Fresh.{Choice, isLong, others}
+use Rattle.fresh.specs.Fresh.{Choice, is_long, others}
 
 -- the segment of an event, where the event before ended at the recorded offset o and the new offset n
 abbrev pub segment : ℕ → ℕ → LayoutEvent → Bool → Segment
@@ -22,7 +22,7 @@ segment o n e long =
 -- "Segments follow events in order."
 unfoldable pub segments : ℕ → ℕ → List LayoutEvent → Choice → List Segment
 segments o n [] c = []
-segments o n (e ∷ es) c = segment o n e (isLong c) ∷ segments (end_of e) (segment o n e (isLong c)).new_end es (others c)
+segments o n (e ∷ es) c = segment o n e (is_long c) ∷ segments (end_of e) (segment o n e (is_long c)).new_end es (others c)
 
 -- "an offset in an event counts from its start, any other from the end of the event before"
 unfoldable pub image : Segment → ℕ → ℕ
@@ -38,9 +38,9 @@ decided [] t d = d
 decided (s ∷ ss) t d = decided ss t (chosen s t d)
 
 -- "`map` keeps 0xFFFFFFFF"
-unfoldable pub mapOffset : List Segment → ℕ → ℕ
-mapOffset ss t = elim (eqb t none) [ true ↦ t | false ↦ decided ss t t ]
+unfoldable pub map_offset : List Segment → ℕ → ℕ
+map_offset ss t = elim (eqb t none) [ true ↦ t | false ↦ decided ss t t ]
 
 -- the layout of a choice of long jumps
-abbrev pub segmentsOf : Pooled → Choice → List Segment
-segmentsOf p c = segments 0 0 p.events c
+abbrev pub segments_of : Pooled → Choice → List Segment
+segments_of p c = segments 0 0 p.events c

@@ -3,19 +3,19 @@ use Rattle.std.proofs.Common.{◌≡◌, ℕ, ◌<◌, ◌≤◌, Bool, true, fa
 use borrow.Author.Tests.{not-true, not-false}
 use Rattle.seqs.specs.Over.{over}
 use Rattle.seqs.specs.Pick.{pick, or_else}
-use Rattle.seqs.proofs.Picking.{yes_lt, no_lt, yes-eq, no_eq, yes-not, no-not}
-use Rattle.words.specs.Words.{overWords}
+use Rattle.seqs.proofs.Picking.{yes_lt, no_lt, yes_eq, no_eq, yes_not, no_not}
+use Rattle.words.specs.Words.{over_words}
 use Rattle.finish.specs.declared.CodeBufferFinalized.{CodeBufferFinalized}
 use Rattle.join.specs.declared.Joined.{Joined}
-use Rattle.join.specs.Pieces.{Lent, pieceCount}
+use Rattle.join.specs.Pieces.{Lent, piece_count}
 use Rattle.join.specs.Join.{
-  joinedLabels,
+  labels_joined,
   remaining,
   image,
   known_in,
-  whyNotJoined,
-  noRecord,
-  wholeRecord,
+  why_not_joined,
+  no_record,
+  whole_record,
   Left,
   joined,
   join,
@@ -23,10 +23,10 @@ use Rattle.join.specs.Join.{
 
 -- a test of a chain that fails, and one that holds
 pub refuses : {s t : Bool} {n : ℕ} (rest : ℕ) → s ≡ t → not s ≡ true → n ≡ pick (not t) n rest
-refuses {s} {t} {n} rest e fails = sym (yes-not t n rest (sym e ∙ not-true s fails))
+refuses {s} {t} {n} rest e fails = sym (yes_not t n rest (sym e ∙ not-true s fails))
 
 pub accepts : {s t : Bool} {r rest : ℕ} (n : ℕ) → s ≡ t → not s ≡ false → r ≡ rest → r ≡ pick (not t) n rest
-accepts {s} {t} {r} {rest} n e holds then = then ∙ sym (no-not t n rest (sym e ∙ not-false s holds))
+accepts {s} {t} {r} {rest} n e holds then = then ∙ sym (no_not t n rest (sym e ∙ not-false s holds))
 
 -- the same of a length that is short, and one that is enough
 pub short : (a b n rest : ℕ) → a < b → n ≡ pick (ltb a b) n rest
@@ -40,29 +40,29 @@ pub answers : {why n : ℕ} (m : ℕ) → why ≡ n → why ≢ 0 → why ≡ or
 answers {why} {n} m e some = e ∙ sym (no_eq n 0 m n (λ z. some (e ∙ z)))
 
 pub leaves : {why n r m : ℕ} → why ≡ n → why ≡ 0 → r ≡ m → r ≡ or_else n m
-leaves {why} {n} {r} {m} e none then = then ∙ sym (yes-eq n 0 m n (sym e ∙ none))
+leaves {why} {n} {r} {m} e none then = then ∙ sym (yes_eq n 0 m n (sym e ∙ none))
 
 -- a refusal leaves the outputs, without one the whole is there
 module _ (l : Lent) (output labels relocs : List ℕ) where
-  pub join-refused : (why : ℕ) (answer : Joined) → why ≡ whyNotJoined l (length output) (length labels) (length relocs) → why ≢ 0
-      → answer ≡ record { refusal = why; code = noRecord } → (answer, (output, (labels, relocs))) ≡ join l output labels relocs
+  pub join-refused : (why : ℕ) (answer : Joined) → why ≡ why_not_joined l (length output) (length labels) (length relocs) → why ≢ 0
+      → answer ≡ record { refusal = why; code = no_record } → (answer, (output, (labels, relocs))) ≡ join l output labels relocs
   unfolding join
   join-refused why answer e some given =
-      ap (λ (a : Joined). (a, (output, (labels, relocs)))) (given ∙ ap (λ (w : ℕ). record { refusal = w; code = noRecord }) e)
-      ∙ sym (no_eq (whyNotJoined l (length output) (length labels) (length relocs)) 0 _ _ (λ z. some (e ∙ z)))
+      ap (λ (a : Joined). (a, (output, (labels, relocs)))) (given ∙ ap (λ (w : ℕ). record { refusal = w; code = no_record }) e)
+      ∙ sym (no_eq (why_not_joined l (length output) (length labels) (length relocs)) 0 _ _ (λ z. some (e ∙ z)))
 
-  pub join-done : (why : ℕ) (code : CodeBufferFinalized) (left : Left) → why ≡ whyNotJoined l (length output) (length labels) (length relocs) → why ≡ 0
+  pub join-done : (why : ℕ) (code : CodeBufferFinalized) (left : Left) → why ≡ why_not_joined l (length output) (length labels) (length relocs) → why ≡ 0
       → (code, left) ≡ joined l output labels relocs → (record { refusal = 0; code = code }, left) ≡ join l output labels relocs
   unfolding join
   join-done why code left e none whole =
       ap (λ (w : CodeBufferFinalized × Left). (record { refusal = 0; code = w.0 }, w.1)) whole
-      ∙ sym (yes-eq (whyNotJoined l (length output) (length labels) (length relocs)) 0 _ _ (sym e ∙ none))
+      ∙ sym (yes_eq (why_not_joined l (length output) (length labels) (length relocs)) 0 _ _ (sym e ∙ none))
 
   -- the whole, from its parts
-  pub whole-put : (code : CodeBufferFinalized) (output' labels' relocs' : List ℕ) → code ≡ wholeRecord l.pieces l.relocs (pieceCount l.pieces)
-      → output' ≡ over output 0 (image (known_in l) l.pieces l.relocs l.code (pieceCount l.pieces))
-      → labels' ≡ overWords labels (joinedLabels l.pieces l.labels (pieceCount l.pieces))
-      → relocs' ≡ overWords relocs (remaining l.pieces l.relocs (pieceCount l.pieces))
+  pub whole-put : (code : CodeBufferFinalized) (output' labels' relocs' : List ℕ) → code ≡ whole_record l.pieces l.relocs (piece_count l.pieces)
+      → output' ≡ over output 0 (image (known_in l) l.pieces l.relocs l.code (piece_count l.pieces))
+      → labels' ≡ over_words labels (labels_joined l.pieces l.labels (piece_count l.pieces))
+      → relocs' ≡ over_words relocs (remaining l.pieces l.relocs (piece_count l.pieces))
       → (code, (output', (labels', relocs'))) ≡ joined l output labels relocs
   unfolding joined
   whole-put code output' labels' relocs' recorded coded labelled listed = rw (recorded, coded, labelled, listed) refl

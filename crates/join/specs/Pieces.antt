@@ -5,10 +5,10 @@ use Rattle.std.specs.Prelude.{ℕ, zero, suc, ◌+◌, ◌*◌, ◌/◌, max, Bo
 use Rattle.seqs.specs.Every.{all}
 use Rattle.seqs.specs.Pick.{pick}
 use Rattle.words.specs.Words.{word_at}
-use Rattle.encoder.specs.Padding.{paddingLength}
-use Rattle.fields.specs.Kinds.{archA64}
-use Rattle.buffer.specs.Refusals.{archOccurs}
-use Rattle.buffer.specs.Tables.{mostEntries, mostCode, labelSize, relocSize}
+use Rattle.encoder.specs.Padding.{padding_length}
+use Rattle.fields.specs.Kinds.{arch_a64}
+use Rattle.buffer.specs.Refusals.{arch_occurs}
+use Rattle.buffer.specs.Tables.{most_entries, most_code, label_size, reloc_size}
 use Rattle.join.specs.declared.Piece.{Piece}
 use Rattle.join.specs.declared.Cursor.{Cursor}
 
@@ -23,56 +23,56 @@ abbrev pub lent_of : List ℕ → List ℕ → List ℕ → List ℕ → List �
 lent_of pieces code labels relocs definitions =
     record { pieces = pieces; code = code; labels = labels; relocs = relocs; definitions = definitions }
 
-abbrev pub mostPieces : ℕ
-mostPieces = 256
+abbrev pub most_pieces : ℕ
+most_pieces = 256
 
 -- an entry of the table of pieces, in words and in bytes
-abbrev pub pieceWords : ℕ
-pieceWords = 7
+abbrev pub piece_words : ℕ
+piece_words = 7
 
 abbrev pub piece_size : ℕ
 piece_size = 28
 
 -- a definition: a symbol's number and the label, one of its piece, that defines it
-abbrev pub definitionWords : ℕ
-definitionWords = 2
+abbrev pub definition_words : ℕ
+definition_words = 2
 
-abbrev pub definitionSize : ℕ
-definitionSize = 8
+abbrev pub definition_size : ℕ
+definition_size = 8
 
 -- the two alignments that a record gives, and the bytes of a page
-abbrev pub codeAlignment : ℕ
-codeAlignment = 32
+abbrev pub code_alignment : ℕ
+code_alignment = 32
 
-abbrev pub wideAlignment : ℕ
-wideAlignment = 64
+abbrev pub wide_alignment : ℕ
+wide_alignment = 64
 
-abbrev pub pageSize : ℕ
-pageSize = 4096
+abbrev pub page_size : ℕ
+page_size = 4096
 
 -- how many pieces are lent: the whole entries
-abbrev pub pieceCount : List ℕ → ℕ
-pieceCount pieces = length pieces / piece_size
+abbrev pub piece_count : List ℕ → ℕ
+piece_count pieces = length pieces / piece_size
 
 -- piece k
 unfoldable pub piece_at : List ℕ → ℕ → Piece
 piece_at pieces k =
     record {
-      arch = word_at pieces (k * pieceWords);
-      len = word_at pieces (k * pieceWords + 1);
-      alignment = word_at pieces (k * pieceWords + 2);
-      labels = word_at pieces (k * pieceWords + 4);
-      relocs = word_at pieces (k * pieceWords + 5);
-      definitions = word_at pieces (k * pieceWords + 6);
+      arch = word_at pieces (k * piece_words);
+      len = word_at pieces (k * piece_words + 1);
+      alignment = word_at pieces (k * piece_words + 2);
+      labels = word_at pieces (k * piece_words + 4);
+      relocs = word_at pieces (k * piece_words + 5);
+      definitions = word_at pieces (k * piece_words + 6);
     }
 
 -- "each starts at the next multiple of its alignment (of 4,096 on AArch64, or pages would shift)"
 abbrev pub boundary : Piece → ℕ
-boundary p = pick (p.arch == archA64) pageSize p.alignment
+boundary p = pick (p.arch == arch_a64) page_size p.alignment
 
 -- the zeros in front of a piece, and its base; the cursor is how far the pieces before it reach, in each slice and in the whole
 abbrev pub gap : Piece → Cursor → ℕ
-gap p c = paddingLength c.end (boundary p)
+gap p c = padding_length c.end (boundary p)
 
 abbrev pub base_of : Piece → Cursor → ℕ
 base_of p c = c.end + gap p c
@@ -88,37 +88,37 @@ after p c =
     }
 
 -- how far the first k pieces reach
-unfoldable pub cursorAt : List ℕ → ℕ → Cursor
-cursorAt pieces zero = record { code = 0; labels = 0; relocs = 0; definitions = 0; end = 0 }
-cursorAt pieces (suc k) = after (piece_at pieces k) (cursorAt pieces k)
+unfoldable pub cursor_at : List ℕ → ℕ → Cursor
+cursor_at pieces zero = record { code = 0; labels = 0; relocs = 0; definitions = 0; end = 0 }
+cursor_at pieces (suc k) = after (piece_at pieces k) (cursor_at pieces k)
 
 -- an architecture that occurs, and an alignment that a record gives
-abbrev pub pieceFits : Piece → Bool
-pieceFits p = archOccurs p.arch && (p.alignment == codeAlignment || p.alignment == wideAlignment)
+abbrev pub piece_fits : Piece → Bool
+piece_fits p = arch_occurs p.arch && (p.alignment == code_alignment || p.alignment == wide_alignment)
 
 -- no sum passes what is lent
-abbrev pub sumsFit : Lent → Cursor → Bool
-sumsFit l c =
+abbrev pub sums_fit : Lent → Cursor → Bool
+sums_fit l c =
     nat_le c.code (length l.code)
-    && (nat_le c.labels (length l.labels / labelSize)
-    && (nat_le c.relocs (length l.relocs / relocSize) && nat_le c.definitions (length l.definitions / definitionSize)))
+    && (nat_le c.labels (length l.labels / label_size)
+    && (nat_le c.relocs (length l.relocs / reloc_size) && nat_le c.definitions (length l.definitions / definition_size)))
 
 -- "Number 3 looks at each piece's tables alone."
-abbrev pub pieceWithinLimits : Piece → Bool
-pieceWithinLimits p =
-    nat_le p.len mostCode && (nat_le p.labels mostEntries && (nat_le p.relocs mostEntries && nat_le p.definitions mostEntries))
+abbrev pub piece_within_limits : Piece → Bool
+piece_within_limits p =
+    nat_le p.len most_code && (nat_le p.labels most_entries && (nat_le p.relocs most_entries && nat_le p.definitions most_entries))
 
 -- each of the first n
-unfoldable pub piecesFit : List ℕ → ℕ → Bool
-piecesFit pieces n = all (λ (k : ℕ). pieceFits (piece_at pieces k)) n
+unfoldable pub pieces_fit : List ℕ → ℕ → Bool
+pieces_fit pieces n = all (λ (k : ℕ). piece_fits (piece_at pieces k)) n
 
-unfoldable pub withinLimits : List ℕ → ℕ → Bool
-withinLimits pieces n = all (λ (k : ℕ). pieceWithinLimits (piece_at pieces k)) n
+unfoldable pub within_limits : List ℕ → ℕ → Bool
+within_limits pieces n = all (λ (k : ℕ). piece_within_limits (piece_at pieces k)) n
 
-unfoldable pub sameArch : List ℕ → ℕ → Bool
-sameArch pieces n = all (λ (k : ℕ). nat_eq (piece_at pieces k).arch (piece_at pieces 0).arch) n
+unfoldable pub same_arch : List ℕ → ℕ → Bool
+same_arch pieces n = all (λ (k : ℕ). nat_eq (piece_at pieces k).arch (piece_at pieces 0).arch) n
 
 -- "The whole's alignment is the greatest that a record gives."
-unfoldable pub greatestAlignment : List ℕ → ℕ → ℕ
-greatestAlignment pieces zero = 0
-greatestAlignment pieces (suc k) = max (greatestAlignment pieces k) (piece_at pieces k).alignment
+unfoldable pub greatest_alignment : List ℕ → ℕ → ℕ
+greatest_alignment pieces zero = 0
+greatest_alignment pieces (suc k) = max (greatest_alignment pieces k) (piece_at pieces k).alignment

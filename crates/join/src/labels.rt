@@ -1,16 +1,16 @@
 // Labels: whether each has an offset in the whole, and the labels of the whole.
 ghost use Rattle.std.specs.Prelude.{◌≡◌, ◌+◌, ◌*◌, ◌≤◌, true};
 ghost use Rattle.seqs.specs.Over.{over};
-ghost use Rattle.words.specs.Words.{bytesOfAll};
-ghost use Rattle.buffer.specs.Tables.{labelSize};
-ghost use Rattle.join.specs.Join.{labelMoves, labelsMove, allLabelsMove, movedLabel, movedLabels};
-ghost use Rattle.join.specs.steps.Within.{mostBase, Placed, Labelled, Labels};
+ghost use Rattle.words.specs.Words.{bytes_of_all};
+ghost use Rattle.buffer.specs.Tables.{label_size};
+ghost use Rattle.join.specs.Join.{label_moves, labels_move, all_labels_move, moved_label, moved_labels};
+ghost use Rattle.join.specs.steps.Within.{most_base, Placed, Labelled, Labels};
 
 use crate::{Cursor, LAST_PLACE, Piece, pieces};
 
 fn label_moves(base: u64, offset: u32) -> bool
-    requires { base ≤ mostBase }
-    ensures { result ≡ labelMoves base offset }
+    requires { base ≤ most_base }
+    ensures { result ≡ label_moves base offset }
 {
     if offset == buffer::NONE {
         return true;
@@ -22,7 +22,7 @@ fn label_moves(base: u64, offset: u32) -> bool
 fn labels_move(labels: &[u8], piece: Piece, cursor: Cursor) -> bool
     requires fact_1 { Placed piece cursor }
     requires fact_2 { Labelled labels.now piece cursor }
-    ensures { result ≡ labelsMove labels.now piece cursor piece.labels }
+    ensures { result ≡ labels_move labels.now piece cursor piece.labels }
 {
     let base = pieces::base(piece, cursor);
     let m = piece.labels as usize;
@@ -38,7 +38,7 @@ fn labels_move(labels: &[u8], piece: Piece, cursor: Cursor) -> bool
 
 pub fn all_labels_move(pieces: &[u8], labels: &[u8], n: usize) -> bool
     requires { Labels pieces.now labels.now n }
-    ensures { result ≡ allLabelsMove pieces.now labels.now n }
+    ensures { result ≡ all_labels_move pieces.now labels.now n }
 {
     let mut cursor = pieces::START;
     let mut k: usize = 0;
@@ -55,8 +55,8 @@ pub fn all_labels_move(pieces: &[u8], labels: &[u8], n: usize) -> bool
 
 // A label's offset in the whole.
 fn moved(base: u64, offset: u32) -> u32
-    requires { labelMoves base offset ≡ true }
-    ensures { result ≡ movedLabel base offset }
+    requires { label_moves base offset ≡ true }
+    ensures { result ≡ moved_label base offset }
 {
     if offset == buffer::NONE {
         return buffer::NONE;
@@ -69,8 +69,8 @@ pub fn put_labels(joined: &mut [u8], labels: &[u8], piece: Piece, cursor: Cursor
     requires fact_1 { Placed piece cursor }
     requires fact_2 { Labelled labels.now piece cursor }
     requires fact_3 { Labelled joined.old piece cursor }
-    requires fact_4 { labelsMove labels.now piece cursor piece.labels ≡ true }
-    ensures { joined.new ≡ over joined.old (cursor.labels * labelSize) (bytesOfAll (movedLabels labels.now piece cursor piece.labels)) }
+    requires fact_4 { labels_move labels.now piece cursor piece.labels ≡ true }
+    ensures { joined.new ≡ over joined.old (cursor.labels * label_size) (bytes_of_all (moved_labels labels.now piece cursor piece.labels)) }
 {
     let base = pieces::base(piece, cursor);
     let m = piece.labels as usize;

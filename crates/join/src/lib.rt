@@ -1,7 +1,7 @@
 // `join`: several finished records become one. After asmkit's core/linker.rs (see NOTICE), whose layout it has; fields it fills itself.
 ghost use Rattle.std.specs.Prelude.{◌≡◌, length};
 ghost use Rattle.join.specs.Pieces.{lent_of};
-ghost use Rattle.join.specs.Join.{noRecord, wholeRecord, join};
+ghost use Rattle.join.specs.Join.{no_record, whole_record, join};
 ghost use Rattle.join.specs.steps.Tables.{Settled};
 ghost use Rattle.join.specs.steps.Writes.{Whole};
 
@@ -79,7 +79,7 @@ const FEW_SYMBOLS: usize = 256;
 const FEW_ENTRIES: usize = 1024;
 
 fn refused(why: u32) -> Joined
-    ensures { result ≡ record { refusal = why; code = noRecord } }
+    ensures { result ≡ record { refusal = why; code = no_record } }
 {
     Joined {
         refusal: why,
@@ -97,7 +97,7 @@ fn refused(why: u32) -> Joined
 // The whole's record.
 fn whole(pieces: &[u8], relocs: &[u8], n: usize) -> CodeBufferFinalized
     requires { Whole pieces.now relocs.now n }
-    ensures { result ≡ wholeRecord pieces.now relocs.now n }
+    ensures { result ≡ whole_record pieces.now relocs.now n }
 {
     let first = pieces::piece_at(pieces, 0);
     let sum = pieces::sum(pieces, n);

@@ -1,8 +1,8 @@
 // Pieces: their records, where they start, and what is asked of each alone.
 ghost use Rattle.std.specs.Prelude.{◌≡◌, ℕ, ◌+◌, ◌*◌, ◌<◌, ◌≤◌, max, true, ◌||◌, length, ◌==◌, nat_eq};
 ghost use Rattle.seqs.specs.Every.{all};
-ghost use Rattle.join.specs.Pieces.{piece_size, piece_at, pieceFits, piecesFit, boundary, gap, base_of, after, cursorAt, pieceWithinLimits, withinLimits, sameArch, greatestAlignment, codeAlignment, wideAlignment, mostPieces};
-ghost use Rattle.join.specs.steps.Within.{mostBase, NearBy, Near};
+ghost use Rattle.join.specs.Pieces.{piece_size, piece_at, piece_fits, pieces_fit, boundary, gap, base_of, after, cursor_at, piece_within_limits, within_limits, same_arch, greatest_alignment, code_alignment, wide_alignment, most_pieces};
+ghost use Rattle.join.specs.steps.Within.{most_base, NearBy, Near};
 
 use crate::{Cursor, Piece};
 
@@ -33,7 +33,7 @@ pub fn piece_at(pieces: &[u8], k: usize) -> Piece
 }
 
 fn is_alignment(n: u32) -> bool
-    ensures { result ≡ (n == codeAlignment || n == wideAlignment) }
+    ensures { result ≡ (n == code_alignment || n == wide_alignment) }
 {
     if n == CODE_ALIGNMENT {
         return true;
@@ -43,7 +43,7 @@ fn is_alignment(n: u32) -> bool
 
 fn piece_fits(pieces: &[u8], k: usize) -> bool
     requires { k * piece_size + piece_size ≤ length pieces.now }
-    ensures { result ≡ pieceFits (piece_at pieces.now k) }
+    ensures { result ≡ piece_fits (piece_at pieces.now k) }
 {
     let piece = piece_at(pieces, k);
     if !buffer::arch_occurs(piece.arch) {
@@ -54,7 +54,7 @@ fn piece_fits(pieces: &[u8], k: usize) -> bool
 
 pub fn pieces_fit(pieces: &[u8], n: usize) -> bool
     requires { n * piece_size ≤ length pieces.now }
-    ensures { result ≡ piecesFit pieces.now n }
+    ensures { result ≡ pieces_fit pieces.now n }
 {
     let mut k: usize = 0;
     while k < n {
@@ -78,7 +78,7 @@ fn boundary(piece: Piece) -> u32
 
 // The zeros in front of a piece.
 pub fn gap(piece: Piece, cursor: Cursor) -> u64
-    requires { pieceFits piece ≡ true }
+    requires { piece_fits piece ≡ true }
     ensures { (result ≡ gap piece cursor) × (result < 4096) }
 {
     let multiple = boundary(piece) as u64;
@@ -91,15 +91,15 @@ pub fn gap(piece: Piece, cursor: Cursor) -> u64
 
 // Where a piece starts in the whole.
 pub fn base(piece: Piece, cursor: Cursor) -> u64
-    requires { (pieceFits piece ≡ true) × (Near cursor) }
-    ensures { (result ≡ base_of piece cursor) × (result ≤ mostBase) }
+    requires { (piece_fits piece ≡ true) × (Near cursor) }
+    ensures { (result ≡ base_of piece cursor) × (result ≤ most_base) }
 {
     cursor.end + gap(piece, cursor)
 }
 
 // The cursor behind a piece.
 pub fn after(piece: Piece, cursor: Cursor) -> Cursor
-    requires fact_1 { pieceFits piece ≡ true }
+    requires fact_1 { piece_fits piece ≡ true }
     requires fact_2 { Near cursor }
     ensures { (result ≡ after piece cursor) × ((k : ℕ) → NearBy k cursor → NearBy (k + 1) result) }
 {
@@ -125,9 +125,9 @@ pub const START: Cursor = Cursor {
 // The cursor behind the first `n` pieces.
 pub fn sum(pieces: &[u8], n: usize) -> Cursor
     requires fact_1 { n * piece_size ≤ length pieces.now }
-    requires fact_2 { n ≤ mostPieces }
-    requires fact_3 { piecesFit pieces.now n ≡ true }
-    ensures { (result ≡ cursorAt pieces.now n) × Near result }
+    requires fact_2 { n ≤ most_pieces }
+    requires fact_3 { pieces_fit pieces.now n ≡ true }
+    ensures { (result ≡ cursor_at pieces.now n) × Near result }
 {
     let mut cursor = START;
     let mut k: usize = 0;
@@ -140,7 +140,7 @@ pub fn sum(pieces: &[u8], n: usize) -> Cursor
 
 fn piece_within_limits(pieces: &[u8], k: usize) -> bool
     requires { k * piece_size + piece_size ≤ length pieces.now }
-    ensures { result ≡ pieceWithinLimits (piece_at pieces.now k) }
+    ensures { result ≡ piece_within_limits (piece_at pieces.now k) }
 {
     let piece = piece_at(pieces, k);
     if buffer::MOST_CODE < piece.len as usize {
@@ -157,7 +157,7 @@ fn piece_within_limits(pieces: &[u8], k: usize) -> bool
 
 pub fn within_limits(pieces: &[u8], n: usize) -> bool
     requires { n * piece_size ≤ length pieces.now }
-    ensures { result ≡ withinLimits pieces.now n }
+    ensures { result ≡ within_limits pieces.now n }
 {
     let mut k: usize = 0;
     while k < n {
@@ -195,7 +195,7 @@ fn all_have_arch(pieces: &[u8], arch: u32, n: usize) -> bool
 pub fn same_arch(pieces: &[u8], n: usize) -> bool
     requires fact_1 { n * piece_size ≤ length pieces.now }
     requires fact_2 { 0 < n }
-    ensures { result ≡ sameArch pieces.now n }
+    ensures { result ≡ same_arch pieces.now n }
 {
     let first = piece_at(pieces, 0);
     all_have_arch(pieces, first.arch, n)
@@ -210,7 +210,7 @@ fn greater(a: u32, b: u32) -> u32
 // The greatest alignment that the first `n` records give.
 pub fn greatest_alignment(pieces: &[u8], n: usize) -> u32
     requires { n * piece_size ≤ length pieces.now }
-    ensures { result ≡ greatestAlignment pieces.now n }
+    ensures { result ≡ greatest_alignment pieces.now n }
 {
     let mut greatest: u32 = 0;
     let mut k: usize = 0;

@@ -2,11 +2,11 @@
 ghost use Rattle.std.specs.Prelude.{◌≡◌, ◌+◌, ◌-◌, ◌*◌, ◌<◌, ◌≤◌, true, not, ◌||◌, length, nat_le, nat_lt};
 ghost use Rattle.seqs.specs.Counting.{one};
 ghost use Rattle.fields.specs.Words64.{minus};
-ghost use Rattle.buffer.specs.State.{labelTarget};
-ghost use Rattle.buffer.specs.Tables.{relocSize};
+ghost use Rattle.buffer.specs.State.{label_target};
+ghost use Rattle.buffer.specs.Tables.{reloc_size};
 ghost use Rattle.join.specs.Pieces.{base_of};
-ghost use Rattle.join.specs.Symbols.{firstPlace, find};
-ghost use Rattle.join.specs.Join.{isFilled, relocOf, value, fits32, fieldSize, lastPlace, filledHolds, remainingHolds, holds, relocsHold, allHold, countRemainingIn, countRemaining};
+ghost use Rattle.join.specs.Symbols.{first_place, find};
+ghost use Rattle.join.specs.Join.{is_filled, reloc_of, value, fits32, field_size, last_place, filled_holds, remaining_holds, holds, relocs_hold, all_hold, count_remaining_in, count_remaining};
 ghost use Rattle.join.specs.steps.Within.{Placed, RelocsIn, Relocations};
 ghost use Rattle.join.specs.steps.Tables.{Resolves};
 
@@ -22,8 +22,8 @@ pub const FIELD_SIZE: usize = 4;
 
 // Relocation `i` of all.
 pub fn reloc_at(relocs: &[u8], i: usize) -> AsmReloc
-    requires { i * relocSize + relocSize ≤ length relocs.now }
-    ensures { result ≡ relocOf relocs.now i }
+    requires { i * reloc_size + reloc_size ≤ length relocs.now }
+    ensures { result ≡ reloc_of relocs.now i }
 {
     let k = i * buffer::RELOC_WORDS;
     AsmReloc {
@@ -36,7 +36,7 @@ pub fn reloc_at(relocs: &[u8], i: usize) -> AsmReloc
 }
 
 pub fn is_filled(arch: u32, reloc: AsmReloc) -> bool
-    ensures { result ≡ isFilled arch reloc }
+    ensures { result ≡ is_filled arch reloc }
 {
     if arch != fields::X64 {
         return false;
@@ -67,7 +67,7 @@ pub fn value(known: u64, piece: Piece, cursor: Cursor, reloc: AsmReloc) -> u64
 }
 
 fn place_of(known: u64) -> u64
-    ensures { result ≡ known - firstPlace }
+    ensures { result ≡ known - first_place }
 {
     if known < symbols::FIRST_PLACE {
         return 0;
@@ -83,7 +83,7 @@ fn fits_32(value: u64) -> bool
 }
 
 fn is_label_known(piece: Piece, reloc: AsmReloc) -> bool
-    ensures { result ≡ (nat_lt reloc.target labelTarget || nat_lt (reloc.target - labelTarget) piece.labels) }
+    ensures { result ≡ (nat_lt reloc.target label_target || nat_lt (reloc.target - label_target) piece.labels) }
 {
     if reloc.target < buffer::LABEL_TARGET {
         return true;
@@ -92,14 +92,14 @@ fn is_label_known(piece: Piece, reloc: AsmReloc) -> bool
 }
 
 fn lies_inside(piece: Piece, reloc: AsmReloc) -> bool
-    ensures { result ≡ nat_le (reloc.offset + fieldSize) piece.len }
+    ensures { result ≡ nat_le (reloc.offset + field_size) piece.len }
 {
     reloc.offset as usize + FIELD_SIZE <= piece.len as usize
 }
 
 fn moves(piece: Piece, cursor: Cursor, reloc: AsmReloc) -> bool
     requires { Placed piece cursor }
-    ensures { result ≡ nat_le (base_of piece cursor + reloc.offset) lastPlace }
+    ensures { result ≡ nat_le (base_of piece cursor + reloc.offset) last_place }
 {
     pieces::base(piece, cursor) + reloc.offset as u64 <= LAST_PLACE
 }
@@ -118,7 +118,7 @@ fn filled_holds(
 ) -> bool
     requires fact_1 { Resolves table.now pieces.now labels.now definitions.now n }
     requires fact_2 { Placed piece cursor }
-    ensures { result ≡ filledHolds test (find pieces.now labels.now definitions.now n) piece cursor reloc }
+    ensures { result ≡ filled_holds test (find pieces.now labels.now definitions.now n) piece cursor reloc }
 {
     match test {
         Test::Known => true,
@@ -138,7 +138,7 @@ fn filled_holds(
 // And of one that remains.
 fn remaining_holds(test: Test, piece: Piece, cursor: Cursor, reloc: AsmReloc) -> bool
     requires { Placed piece cursor }
-    ensures { result ≡ remainingHolds test piece cursor reloc }
+    ensures { result ≡ remaining_holds test piece cursor reloc }
 {
     match test {
         Test::Known => is_label_known(piece, reloc),
@@ -195,7 +195,7 @@ fn relocs_hold(
     requires fact_1 { Resolves table.now pieces.now labels.now definitions.now n }
     requires fact_2 { Placed piece cursor }
     requires fact_3 { RelocsIn relocs.now piece cursor }
-    ensures { result ≡ relocsHold test (find pieces.now labels.now definitions.now n) relocs.now piece cursor piece.relocs }
+    ensures { result ≡ relocs_hold test (find pieces.now labels.now definitions.now n) relocs.now piece cursor piece.relocs }
 {
     let m = piece.relocs as usize;
     let mut j: usize = 0;
@@ -232,7 +232,7 @@ pub fn all_hold(
 ) -> bool
     requires fact_1 { Resolves table.now pieces.now labels.now definitions.now n }
     requires fact_2 { Relocations pieces.now relocs.now n }
-    ensures { result ≡ allHold test (find pieces.now labels.now definitions.now n) pieces.now relocs.now n }
+    ensures { result ≡ all_hold test (find pieces.now labels.now definitions.now n) pieces.now relocs.now n }
 {
     let mut cursor = pieces::START;
     let mut k: usize = 0;
@@ -260,7 +260,7 @@ pub fn all_hold(
 
 // 1 for a relocation that remains, else 0.
 fn remains(arch: u32, reloc: AsmReloc) -> usize
-    ensures { result ≡ one (not (isFilled arch reloc)) }
+    ensures { result ≡ one (not (is_filled arch reloc)) }
 {
     if is_filled(arch, reloc) {
         return 0;
@@ -272,7 +272,7 @@ fn remains(arch: u32, reloc: AsmReloc) -> usize
 fn count_remaining_in(relocs: &[u8], piece: Piece, cursor: Cursor) -> usize
     requires fact_1 { Placed piece cursor }
     requires fact_2 { RelocsIn relocs.now piece cursor }
-    ensures { result ≡ countRemainingIn relocs.now piece cursor piece.relocs }
+    ensures { result ≡ count_remaining_in relocs.now piece cursor piece.relocs }
 {
     let m = piece.relocs as usize;
     let mut count: usize = 0;
@@ -287,7 +287,7 @@ fn count_remaining_in(relocs: &[u8], piece: Piece, cursor: Cursor) -> usize
 // How many relocations of the first `n` pieces remain.
 pub fn count_remaining(pieces: &[u8], relocs: &[u8], n: usize) -> usize
     requires { Relocations pieces.now relocs.now n }
-    ensures { result ≡ countRemaining pieces.now relocs.now n }
+    ensures { result ≡ count_remaining pieces.now relocs.now n }
 {
     let mut count: usize = 0;
     let mut cursor = pieces::START;

@@ -1,7 +1,7 @@
 // Symbols: what their definitions say of them, and a table of it for the small numbers.
 ghost use Rattle.std.specs.Prelude.{◌≡◌, ◌+◌, ◌*◌, ◌≤◌, true, length, slice_set};
-ghost use Rattle.join.specs.Pieces.{definitionSize};
-ghost use Rattle.join.specs.Symbols.{symbol_at, place, defined, definedAs, findIn, find, findBefore, newIn, definedOnce};
+ghost use Rattle.join.specs.Pieces.{definition_size};
+ghost use Rattle.join.specs.Symbols.{symbol_at, place, defined, defined_as, find_in, find, find_before, new_in, defined_once};
 ghost use Rattle.join.specs.steps.Within.{Placed, Labelled, DefinitionsIn, Symbols};
 ghost use Rattle.join.specs.steps.Tables.{Begun, Settled, Resolves};
 
@@ -19,7 +19,7 @@ pub const FIRST_PLACE: u64 = 2;
 
 // The symbol of definition `j`.
 fn symbol_at(definitions: &[u8], cursor: Cursor, j: usize) -> u32
-    requires { (cursor.definitions + j + 1) * definitionSize ≤ length definitions.now }
+    requires { (cursor.definitions + j + 1) * definition_size ≤ length definitions.now }
     ensures { result ≡ symbol_at definitions.now cursor j }
 {
     words::word_at(definitions, (cursor.definitions + j) * DEFINITION_WORDS)
@@ -45,7 +45,7 @@ fn label_place(labels: &[u8], piece: Piece, cursor: Cursor, label: u32) -> u64
 fn defined(labels: &[u8], definitions: &[u8], piece: Piece, cursor: Cursor, j: usize) -> u64
     requires fact_1 { Placed piece cursor }
     requires fact_2 { Labelled labels.now piece cursor }
-    requires fact_3 { (cursor.definitions + j + 1) * definitionSize ≤ length definitions.now }
+    requires fact_3 { (cursor.definitions + j + 1) * definition_size ≤ length definitions.now }
     ensures { result ≡ defined labels.now definitions.now piece cursor j }
 {
     let label = words::word_at(definitions, (cursor.definitions + j) * DEFINITION_WORDS + 1);
@@ -63,8 +63,8 @@ fn defined_as(
 ) -> u64
     requires fact_1 { Placed piece cursor }
     requires fact_2 { Labelled labels.now piece cursor }
-    requires fact_3 { (cursor.definitions + j + 1) * definitionSize ≤ length definitions.now }
-    ensures { result ≡ definedAs labels.now definitions.now piece cursor symbol j }
+    requires fact_3 { (cursor.definitions + j + 1) * definition_size ≤ length definitions.now }
+    ensures { result ≡ defined_as labels.now definitions.now piece cursor symbol j }
 {
     if symbol_at(definitions, cursor, j) == symbol {
         return defined(labels, definitions, piece, cursor, j);
@@ -83,8 +83,8 @@ fn find_in(
 ) -> u64
     requires fact_1 { Placed piece cursor }
     requires fact_2 { Labelled labels.now piece cursor }
-    requires fact_3 { (cursor.definitions + m) * definitionSize ≤ length definitions.now }
-    ensures { result ≡ findIn labels.now definitions.now piece cursor m symbol }
+    requires fact_3 { (cursor.definitions + m) * definition_size ≤ length definitions.now }
+    ensures { result ≡ find_in labels.now definitions.now piece cursor m symbol }
 {
     let mut j: usize = 0;
     while j < m {
@@ -138,9 +138,9 @@ fn find_before(
     requires fact_1 { Symbols pieces.now labels.now definitions.now k }
     requires fact_2 { Placed piece cursor }
     requires fact_3 { Labelled labels.now piece cursor }
-    requires fact_4 { (cursor.definitions + j) * definitionSize ≤ length definitions.now }
+    requires fact_4 { (cursor.definitions + j) * definition_size ≤ length definitions.now }
     requires fact_5 { Begun table.now pieces.now labels.now definitions.now k piece cursor j }
-    ensures { result ≡ findBefore pieces.now labels.now definitions.now k piece cursor j symbol }
+    ensures { result ≡ find_before pieces.now labels.now definitions.now k piece cursor j symbol }
 {
     if (symbol as usize) < table.len() {
         return table[symbol as usize];
@@ -176,7 +176,7 @@ fn settle_piece(
     requires fact_3 { Labelled labels.now piece cursor }
     requires fact_4 { DefinitionsIn definitions.now piece cursor }
     requires fact_5 { Settled table.old pieces.now labels.now definitions.now k }
-    ensures { (result ≡ newIn pieces.now labels.now definitions.now k piece cursor piece.definitions) × (result ≡ true → Begun table.new pieces.now labels.now definitions.now k piece cursor piece.definitions) × (length table.new ≡ length table.old) }
+    ensures { (result ≡ new_in pieces.now labels.now definitions.now k piece cursor piece.definitions) × (result ≡ true → Begun table.new pieces.now labels.now definitions.now k piece cursor piece.definitions) × (length table.new ≡ length table.old) }
 {
     let m = piece.definitions as usize;
     let mut j: usize = 0;
@@ -207,7 +207,7 @@ fn settle_piece(
 pub fn settle(table: &mut [u64], pieces: &[u8], labels: &[u8], definitions: &[u8], n: usize) -> bool
     requires fact_1 { Symbols pieces.now labels.now definitions.now n }
     requires fact_2 { Settled table.old pieces.now labels.now definitions.now 0 }
-    ensures { (result ≡ definedOnce pieces.now labels.now definitions.now n) × (result ≡ true → Settled table.new pieces.now labels.now definitions.now n) }
+    ensures { (result ≡ defined_once pieces.now labels.now definitions.now n) × (result ≡ true → Settled table.new pieces.now labels.now definitions.now n) }
 {
     let mut cursor = pieces::START;
     let mut k: usize = 0;

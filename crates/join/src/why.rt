@@ -1,7 +1,7 @@
 // Why pieces are not joined: the refusals in their order.
 ghost use Rattle.std.specs.Prelude.{◌≡◌, ℕ, List};
-ghost use Rattle.join.specs.Pieces.{lent_of, pieceCount, sumsFit};
-ghost use Rattle.join.specs.Join.{lentFits, whyUnfit, whyUndefined, whyNoTable, whyNoField, whyNoOutput, whyNoRoom, whyNotJoined};
+ghost use Rattle.join.specs.Pieces.{lent_of, piece_count, sums_fit};
+ghost use Rattle.join.specs.Join.{lent_fits, why_unfit, why_undefined, why_no_table, why_no_field, why_no_output, why_no_room, why_not_joined};
 ghost use Rattle.join.specs.steps.Tables.{Settled};
 
 use crate::{
@@ -12,7 +12,7 @@ const MOST_PIECES: usize = 256;
 
 // Whether no sum passes what is lent.
 fn sums_fit(sum: Cursor, code: &[u8], labels: &[u8], relocs: &[u8], definitions: &[u8]) -> bool
-    ensures { (pieces : List ℕ) → result ≡ sumsFit (lent_of pieces code.now labels.now relocs.now definitions.now) sum }
+    ensures { (pieces : List ℕ) → result ≡ sums_fit (lent_of pieces code.now labels.now relocs.now definitions.now) sum }
 {
     if code.len() < sum.code {
         return false;
@@ -28,7 +28,7 @@ fn sums_fit(sum: Cursor, code: &[u8], labels: &[u8], relocs: &[u8], definitions:
 
 // 1.
 fn lent_fits(pieces: &[u8], code: &[u8], labels: &[u8], relocs: &[u8], definitions: &[u8]) -> bool
-    ensures { result ≡ lentFits (lent_of pieces.now code.now labels.now relocs.now definitions.now) }
+    ensures { result ≡ lent_fits (lent_of pieces.now code.now labels.now relocs.now definitions.now) }
 {
     let n = pieces.len() / PIECE_SIZE;
     if n == 0 {
@@ -50,7 +50,7 @@ fn lent_fits(pieces: &[u8], code: &[u8], labels: &[u8], relocs: &[u8], definitio
 
 // 1, 3 and 27.
 fn unfit(pieces: &[u8], code: &[u8], labels: &[u8], relocs: &[u8], definitions: &[u8]) -> u32
-    ensures { result ≡ whyUnfit (lent_of pieces.now code.now labels.now relocs.now definitions.now) }
+    ensures { result ≡ why_unfit (lent_of pieces.now code.now labels.now relocs.now definitions.now) }
 {
     if !lent_fits(pieces, code, labels, relocs, definitions) {
         return refusals::MALFORMED;
@@ -74,9 +74,9 @@ fn undefined(
     relocs: &[u8],
     definitions: &[u8],
 ) -> u32
-    requires fact_1 { whyUnfit (lent_of pieces.now code.now labels.now relocs.now definitions.now) ≡ 0 }
+    requires fact_1 { why_unfit (lent_of pieces.now code.now labels.now relocs.now definitions.now) ≡ 0 }
     requires fact_2 { Settled table.old pieces.now labels.now definitions.now 0 }
-    ensures { (result ≡ whyUndefined (lent_of pieces.now code.now labels.now relocs.now definitions.now)) × (result ≡ 0 → Settled table.new pieces.now labels.now definitions.now (pieceCount pieces.now)) }
+    ensures { (result ≡ why_undefined (lent_of pieces.now code.now labels.now relocs.now definitions.now)) × (result ≡ 0 → Settled table.new pieces.now labels.now definitions.now (piece_count pieces.now)) }
 {
     let n = pieces.len() / PIECE_SIZE;
     if !symbols::settle(table, pieces, labels, definitions, n) {
@@ -98,8 +98,8 @@ fn no_table(
     joined_labels: usize,
     joined_relocs: usize,
 ) -> u32
-    requires { whyUnfit (lent_of pieces.now code.now labels.now relocs.now definitions.now) ≡ 0 }
-    ensures { result ≡ whyNoTable (lent_of pieces.now code.now labels.now relocs.now definitions.now) joined_labels joined_relocs }
+    requires { why_unfit (lent_of pieces.now code.now labels.now relocs.now definitions.now) ≡ 0 }
+    ensures { result ≡ why_no_table (lent_of pieces.now code.now labels.now relocs.now definitions.now) joined_labels joined_relocs }
 {
     let n = pieces.len() / PIECE_SIZE;
     let sum = pieces::sum(pieces, n);
@@ -121,9 +121,9 @@ fn no_field(
     relocs: &[u8],
     definitions: &[u8],
 ) -> u32
-    requires fact_1 { whyUnfit (lent_of pieces.now code.now labels.now relocs.now definitions.now) ≡ 0 }
-    requires fact_2 { Settled table.now pieces.now labels.now definitions.now (pieceCount pieces.now) }
-    ensures { result ≡ whyNoField (lent_of pieces.now code.now labels.now relocs.now definitions.now) }
+    requires fact_1 { why_unfit (lent_of pieces.now code.now labels.now relocs.now definitions.now) ≡ 0 }
+    requires fact_2 { Settled table.now pieces.now labels.now definitions.now (piece_count pieces.now) }
+    ensures { result ≡ why_no_field (lent_of pieces.now code.now labels.now relocs.now definitions.now) }
 {
     let n = pieces.len() / PIECE_SIZE;
     if !relocs::all_hold(Test::Inside, table, pieces, labels, relocs, definitions, n) {
@@ -145,9 +145,9 @@ fn no_output(
     definitions: &[u8],
     output: usize,
 ) -> u32
-    requires fact_1 { whyUnfit (lent_of pieces.now code.now labels.now relocs.now definitions.now) ≡ 0 }
-    requires fact_2 { Settled table.now pieces.now labels.now definitions.now (pieceCount pieces.now) }
-    ensures { result ≡ whyNoOutput (lent_of pieces.now code.now labels.now relocs.now definitions.now) output }
+    requires fact_1 { why_unfit (lent_of pieces.now code.now labels.now relocs.now definitions.now) ≡ 0 }
+    requires fact_2 { Settled table.now pieces.now labels.now definitions.now (piece_count pieces.now) }
+    ensures { result ≡ why_no_output (lent_of pieces.now code.now labels.now relocs.now definitions.now) output }
 {
     let n = pieces.len() / PIECE_SIZE;
     let sum = pieces::sum(pieces, n);
@@ -178,9 +178,9 @@ fn no_room(
     joined_labels: usize,
     joined_relocs: usize,
 ) -> u32
-    requires fact_1 { whyUnfit (lent_of pieces.now code.now labels.now relocs.now definitions.now) ≡ 0 }
-    requires fact_2 { Settled table.now pieces.now labels.now definitions.now (pieceCount pieces.now) }
-    ensures { result ≡ whyNoRoom (lent_of pieces.now code.now labels.now relocs.now definitions.now) output joined_labels joined_relocs }
+    requires fact_1 { why_unfit (lent_of pieces.now code.now labels.now relocs.now definitions.now) ≡ 0 }
+    requires fact_2 { Settled table.now pieces.now labels.now definitions.now (piece_count pieces.now) }
+    ensures { result ≡ why_no_room (lent_of pieces.now code.now labels.now relocs.now definitions.now) output joined_labels joined_relocs }
 {
     let full = no_table(
         pieces,
@@ -214,7 +214,7 @@ pub fn not_joined(
     joined_relocs: usize,
 ) -> u32
     requires { Settled table.old pieces.now labels.now definitions.now 0 }
-    ensures { (result ≡ whyNotJoined (lent_of pieces.now code.now labels.now relocs.now definitions.now) output joined_labels joined_relocs) × (result ≡ 0 → Settled table.new pieces.now labels.now definitions.now (pieceCount pieces.now)) }
+    ensures { (result ≡ why_not_joined (lent_of pieces.now code.now labels.now relocs.now definitions.now) output joined_labels joined_relocs) × (result ≡ 0 → Settled table.new pieces.now labels.now definitions.now (piece_count pieces.now)) }
 {
     let first = unfit(pieces, code, labels, relocs, definitions);
     if first != 0 {

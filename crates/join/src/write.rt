@@ -2,13 +2,13 @@
 ghost use Rattle.std.specs.Prelude.{◌≡◌, ◌+◌, ◌*◌, ◌<◌, ◌≤◌, true, not, ◌++◌, length, replicate};
 ghost use Rattle.seqs.specs.Counting.{one};
 ghost use Rattle.seqs.specs.Over.{over};
-ghost use Rattle.words.specs.Words.{bytes_of, bytesOfAll, overWords};
-ghost use Rattle.buffer.specs.Tables.{relocSize};
-ghost use Rattle.buffer.specs.State.{labelTarget};
+ghost use Rattle.words.specs.Words.{bytes_of, bytes_of_all, over_words};
+ghost use Rattle.buffer.specs.Tables.{reloc_size};
+ghost use Rattle.buffer.specs.State.{label_target};
 ghost use Rattle.join.specs.declared.Test.TheVariants.{Inside};
 ghost use Rattle.join.specs.Pieces.{gap, base_of, lent_of};
 ghost use Rattle.join.specs.Symbols.{find};
-ghost use Rattle.join.specs.Join.{fieldSize, isFilled, relocsHold, pieceCode, fieldFilled, filledWith, filledCode, movedTarget, remainingWords, remainingIn, countRemainingIn, image, joinedLabels, remaining};
+ghost use Rattle.join.specs.Join.{field_size, is_filled, relocs_hold, piece_code, field_filled, filled_with, filled_code, moved_target, remaining_words, remaining_in, count_remaining_in, image, labels_joined, remaining};
 ghost use Rattle.join.specs.steps.Within.{Placed, RelocsIn, CodeIn};
 ghost use Rattle.join.specs.steps.Tables.{Resolves};
 ghost use Rattle.join.specs.steps.Writes.{RelocMoves, RelocsMove, Joins};
@@ -16,7 +16,7 @@ ghost use Rattle.join.specs.steps.Writes.{RelocMoves, RelocsMove, Joins};
 use crate::{AsmReloc, Cursor, Piece, labels, pieces, relocs, symbols};
 
 fn put_field(part: &mut [u8], offset: usize, value: u32)
-    requires { offset + fieldSize ≤ length part.old }
+    requires { offset + field_size ≤ length part.old }
     ensures { part.new ≡ over part.old offset (bytes_of value) }
 {
     words::put_word(&mut part[offset..offset + relocs::FIELD_SIZE], 0, value);
@@ -36,8 +36,8 @@ fn fill_field(
 )
     requires fact_1 { Resolves table.now pieces.now labels.now definitions.now n }
     requires fact_2 { Placed piece cursor }
-    requires fact_3 { (isFilled piece.arch reloc ≡ true → reloc.offset + fieldSize ≤ length part.old) }
-    ensures { part.new ≡ fieldFilled (find pieces.now labels.now definitions.now n) piece cursor reloc part.old }
+    requires fact_3 { (is_filled piece.arch reloc ≡ true → reloc.offset + field_size ≤ length part.old) }
+    ensures { part.new ≡ field_filled (find pieces.now labels.now definitions.now n) piece cursor reloc part.old }
 {
     if relocs::is_filled(piece.arch, reloc) {
         let known = symbols::known(table, pieces, labels, definitions, n, reloc.target);
@@ -62,8 +62,8 @@ fn fill_fields(
     requires fact_2 { Placed piece cursor }
     requires fact_3 { RelocsIn relocs.now piece cursor }
     requires fact_4 { length part.old ≡ piece.len }
-    requires fact_5 { relocsHold Inside (find pieces.now labels.now definitions.now n) relocs.now piece cursor piece.relocs ≡ true }
-    ensures { part.new ≡ filledWith (find pieces.now labels.now definitions.now n) relocs.now piece cursor part.old piece.relocs }
+    requires fact_5 { relocs_hold Inside (find pieces.now labels.now definitions.now n) relocs.now piece cursor piece.relocs ≡ true }
+    ensures { part.new ≡ filled_with (find pieces.now labels.now definitions.now n) relocs.now piece cursor part.old piece.relocs }
 {
     let m = piece.relocs as usize;
     let mut j: usize = 0;
@@ -89,7 +89,7 @@ fn put_code(output: &mut [u8], code: &[u8], piece: Piece, cursor: Cursor)
     requires fact_1 { Placed piece cursor }
     requires fact_2 { CodeIn code.now piece cursor }
     requires fact_3 { base_of piece cursor + piece.len ≤ length output.old }
-    ensures { output.new ≡ over output.old cursor.end (replicate (gap piece cursor) 0 ++ pieceCode code.now piece cursor) }
+    ensures { output.new ≡ over output.old cursor.end (replicate (gap piece cursor) 0 ++ piece_code code.now piece cursor) }
 {
     let base = pieces::base(piece, cursor) as usize;
     let end = cursor.end as usize;
@@ -115,8 +115,8 @@ fn put_filled(
     requires fact_2 { Placed piece cursor }
     requires fact_3 { CodeIn code.now piece cursor × RelocsIn relocs.now piece cursor }
     requires fact_4 { base_of piece cursor + piece.len ≤ length output.old }
-    requires fact_5 { relocsHold Inside (find pieces.now labels.now definitions.now n) relocs.now piece cursor piece.relocs ≡ true }
-    ensures { output.new ≡ over output.old cursor.end (replicate (gap piece cursor) 0 ++ filledCode (find pieces.now labels.now definitions.now n) relocs.now code.now piece cursor) }
+    requires fact_5 { relocs_hold Inside (find pieces.now labels.now definitions.now n) relocs.now piece cursor piece.relocs ≡ true }
+    ensures { output.new ≡ over output.old cursor.end (replicate (gap piece cursor) 0 ++ filled_code (find pieces.now labels.now definitions.now n) relocs.now code.now piece cursor) }
 {
     put_code(output, code, piece, cursor);
     let base = pieces::base(piece, cursor) as usize;
@@ -136,8 +136,8 @@ fn put_filled(
 
 // A target's number in the whole.
 fn moved_target(cursor: Cursor, target: u32) -> u32
-    requires { labelTarget ≤ target → target + cursor.labels < 4294967296 }
-    ensures { result ≡ movedTarget cursor target }
+    requires { label_target ≤ target → target + cursor.labels < 4294967296 }
+    ensures { result ≡ moved_target cursor target }
 {
     if target < buffer::LABEL_TARGET {
         return target;
@@ -154,9 +154,9 @@ fn put_remaining(
     reloc: AsmReloc,
 ) -> usize
     requires fact_1 { Placed piece cursor }
-    requires fact_2 { (i + one (not (isFilled piece.arch reloc))) * relocSize ≤ length joined.old }
+    requires fact_2 { (i + one (not (is_filled piece.arch reloc))) * reloc_size ≤ length joined.old }
     requires fact_3 { RelocMoves piece cursor reloc }
-    ensures { (result ≡ i + one (not (isFilled piece.arch reloc))) × (joined.new ≡ over joined.old (i * relocSize) (bytesOfAll (remainingWords piece cursor reloc))) }
+    ensures { (result ≡ i + one (not (is_filled piece.arch reloc))) × (joined.new ≡ over joined.old (i * reloc_size) (bytes_of_all (remaining_words piece cursor reloc))) }
 {
     if relocs::is_filled(piece.arch, reloc) {
         return i;
@@ -171,9 +171,9 @@ fn put_remaining(
 fn put_relocs(joined: &mut [u8], relocs: &[u8], piece: Piece, cursor: Cursor, at: usize) -> usize
     requires fact_1 { Placed piece cursor }
     requires fact_2 { RelocsIn relocs.now piece cursor }
-    requires fact_3 { (at + countRemainingIn relocs.now piece cursor piece.relocs) * relocSize ≤ length joined.old }
+    requires fact_3 { (at + count_remaining_in relocs.now piece cursor piece.relocs) * reloc_size ≤ length joined.old }
     requires fact_4 { RelocsMove relocs.now piece cursor }
-    ensures { (result ≡ at + countRemainingIn relocs.now piece cursor piece.relocs) × (joined.new ≡ over joined.old (at * relocSize) (bytesOfAll (remainingIn relocs.now piece cursor piece.relocs))) }
+    ensures { (result ≡ at + count_remaining_in relocs.now piece cursor piece.relocs) × (joined.new ≡ over joined.old (at * reloc_size) (bytes_of_all (remaining_in relocs.now piece cursor piece.relocs))) }
 {
     let m = piece.relocs as usize;
     let mut i: usize = at;
@@ -202,8 +202,8 @@ pub fn put_pieces(
     requires fact_1 { Joins (lent_of pieces.now code.now labels.now relocs.now definitions.now) n (length output.old) (length joined_labels.old) (length joined_relocs.old) }
     requires fact_2 { Resolves table.now pieces.now labels.now definitions.now n }
     ensures output_after { output.new ≡ over output.old 0 (image (find pieces.now labels.now definitions.now n) pieces.now relocs.now code.now n) }
-    ensures joined_labels_after { joined_labels.new ≡ overWords joined_labels.old (joinedLabels pieces.now labels.now n) }
-    ensures joined_relocs_after { joined_relocs.new ≡ overWords joined_relocs.old (remaining pieces.now relocs.now n) }
+    ensures joined_labels_after { joined_labels.new ≡ over_words joined_labels.old (labels_joined pieces.now labels.now n) }
+    ensures joined_relocs_after { joined_relocs.new ≡ over_words joined_relocs.old (remaining pieces.now relocs.now n) }
 {
     let mut cursor = pieces::START;
     let mut at: usize = 0;

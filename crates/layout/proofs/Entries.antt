@@ -6,8 +6,8 @@ use native.Mathlib.Omega.{arith}
 use Rattle.recording.specs.View.{entries}
 
 -- those before entry i, and the rest
-pub entries-split : {A : Type 0} (f : ℕ → A) (i k : ℕ) → entries f (i + k) ≡ entries f i ++ entries (λ (j : ℕ). f (i + j)) k
-entries-split f i zero = let e : i + 0 ≡ i = omega arith in ap (λ (n : ℕ). entries f n) e ∙ sym (append-nil (entries f i))
-entries-split f i (suc k) =
+pub entries_split : {A : Type 0} (f : ℕ → A) (i k : ℕ) → entries f (i + k) ≡ entries f i ++ entries (λ (j : ℕ). f (i + j)) k
+entries_split f i zero = let e : i + 0 ≡ i = omega arith in ap (λ (n : ℕ). entries f n) e ∙ sym (append-nil (entries f i))
+entries_split f i (suc k) =
     let e : i + suc k ≡ suc (i + k) = omega arith in
-    ap (λ (n : ℕ). entries f n) e ∙ rw (entries-split f i k) (append_assoc (entries f i) (entries (λ (j : ℕ). f (i + j)) k) (f (i + k) ∷ []))
+    ap (λ (n : ℕ). entries f n) e ∙ rw (entries_split f i k) (append_assoc (entries f i) (entries (λ (j : ℕ). f (i + j)) k) (f (i + k) ∷ []))

@@ -8,34 +8,34 @@ use lib.ListN.{length, get_or, take}
 use lib.Seq.{get_or-take, length-take-le}
 use borrow.Author.Tests.{eq-eqb, ne_eqb}
 use Rattle.lookup.specs.steps.Index.{part, Rises, Indexed, Narrowed}
-use Rattle.lookup.proofs.Index.{narrowed-around}
+use Rattle.lookup.proofs.Index.{narrowed_around}
 use Rattle.relax.specs.declared.Segment.{Segment}
 use Rattle.buffer.specs.State.{none}
-use Rattle.fresh.specs.Segments.{image, mapOffset}
-use Rattle.fresh.proofs.Loops.{decided-skip, decided-last}
-use Rattle.layout.specs.steps.Layout.{zeroSegment, start_at, Rising, Sorted, Between}
+use Rattle.fresh.specs.Segments.{image, map_offset}
+use Rattle.fresh.proofs.Loops.{decided_skip, decided_last}
+use Rattle.layout.specs.steps.Layout.{zero_segment, start_at, Rising, Sorted, Between}
 
 -- Where the search starts, by the index.
 pub between_first : {index : List ℕ} {ss : List Segment} {n shift : ℕ} (offset : ℕ) {low high : ℕ} → Indexed index (start_at ss) n shift
     → Narrowed index n (part (length index) shift offset) low high → Between ss n offset low high
 between_first offset x w =
-    let around = narrowed-around offset x w in
+    let around = narrowed_around offset x w in
     record { order = around.order; within = around.within; under = λ j h. omega (arith, around.under j h); above = around.above }
 
 pub sorted_rises : {ss : List Segment} {n : ℕ} → Sorted ss n → Rises (start_at ss) n
 sorted_rises sorted = record { rises = sorted.rises }
 
-pub rising-sorted : {ss : List Segment} {n : ℕ} → Rising ss n → Sorted ss n
-rising-sorted rise = record { fits = rise.fits; rises = rise.rises }
+pub rising_sorted : {ss : List Segment} {n : ℕ} → Rising ss n → Sorted ss n
+rising_sorted rise = record { fits = rise.fits; rises = rise.rises }
 
 -- `map` keeps 0xFFFFFFFF.
-pub map-none : (ss : List Segment) (offset : ℕ) → offset ≡ none → offset ≡ mapOffset ss offset
-unfolding mapOffset
-map-none ss offset e = rw (eq-eqb offset none e, mapOffset) refl
+pub map_none : (ss : List Segment) (offset : ℕ) → offset ≡ none → offset ≡ map_offset ss offset
+unfolding map_offset
+map_none ss offset e = rw (eq-eqb offset none e, map_offset) refl
 
 module _ (ss : List Segment) (n offset : ℕ) (rise : Sorted ss n) where
-  pub between-right : (lo hi mid : ℕ) → Between ss n offset lo hi → lo ≤ mid → mid < hi → start_at ss mid ≤ offset → Between ss n offset (mid + 1) hi
-  between-right lo hi mid b h k e = record {
+  pub between_right : (lo hi mid : ℕ) → Between ss n offset lo hi → lo ≤ mid → mid < hi → start_at ss mid ≤ offset → Between ss n offset (mid + 1) hi
+  between_right lo hi mid b h k e = record {
     order = omega arith;
     within = b.within;
     under = λ j w. omega (arith, rise.rises j mid (omega arith) (omega (arith, b.within)));
@@ -54,21 +54,21 @@ module _ (ss : List Segment) (n offset : ℕ) (rise : Sorted ss n) where
   count = length-take-le n ss rise.fits
 
   module _ (k : ℕ) (b : Between ss n offset k k) (bound : offset ≢ none) where
-    late : (j : ℕ) → k ≤ j → j < length (take n ss) → offset < (get_or (take n ss) j zeroSegment).old_start
-    late j w v = let u : j < n = omega (arith, count) in rw (get_or-take n ss j zeroSegment u) (b.above j w u)
+    late : (j : ℕ) → k ≤ j → j < length (take n ss) → offset < (get_or (take n ss) j zero_segment).old_start
+    late j w v = let u : j < n = omega (arith, count) in rw (get_or-take n ss j zero_segment u) (b.above j w u)
 
     -- No segment starts at or before the offset.
-    pub found_none : k ≡ 0 → offset ≡ mapOffset (take n ss) offset
-    unfolding mapOffset
+    pub found_none : k ≡ 0 → offset ≡ map_offset (take n ss) offset
+    unfolding map_offset
     found_none z =
-        rw (ne_eqb offset none bound, mapOffset)
-        (sym (decided-skip (take n ss) offset offset zeroSegment (λ j v. late j (omega arith) v)))
+        rw (ne_eqb offset none bound, map_offset)
+        (sym (decided_skip (take n ss) offset offset zero_segment (λ j v. late j (omega arith) v)))
 
     -- The last of those that do decides.
-    pub found-last : k ≢ 0 → image (get_or ss (k - 1) zeroSegment) offset ≡ mapOffset (take n ss) offset
-    unfolding mapOffset
-    found-last z =
+    pub found_last : k ≢ 0 → image (get_or ss (k - 1) zero_segment) offset ≡ map_offset (take n ss) offset
+    unfolding map_offset
+    found_last z =
         let w : k - 1 < n = omega (arith, b.within, z) in
-        let e : get_or (take n ss) (k - 1) zeroSegment ≡ get_or ss (k - 1) zeroSegment = get_or-take n ss (k - 1) zeroSegment w in
-        rw (ne_eqb offset none bound, mapOffset, ← e)
-        (sym (decided-last (take n ss) offset offset (k - 1) zeroSegment (rw count w) (rw e (b.under (k - 1) (omega arith))) (λ j v u. late j (omega arith) u)))
+        let e : get_or (take n ss) (k - 1) zero_segment ≡ get_or ss (k - 1) zero_segment = get_or-take n ss (k - 1) zero_segment w in
+        rw (ne_eqb offset none bound, map_offset, ← e)
+        (sym (decided_last (take n ss) offset offset (k - 1) zero_segment (rw count w) (rw e (b.under (k - 1) (omega arith))) (λ j v u. late j (omega arith) u)))

@@ -3,20 +3,20 @@
 ghost use Rattle.std.specs.Prelude.{◌≡◌, ◌≢◌, List, [], ℕ, ◌+◌, ◌*◌, ◌≤◌, ◌<◌, length, get_or, take, set};
 ghost use Rattle.seqs.specs.Over.{over};
 ghost use Rattle.words.specs.Words.{word_at};
-ghost use Rattle.lookup.specs.steps.Index.{indexSize, mostKeys, Indexed};
+ghost use Rattle.lookup.specs.steps.Index.{index_size, most_keys, Indexed};
 ghost use Rattle.relax.specs.declared.LayoutEvent.{LayoutEvent};
-ghost use Rattle.relax.specs.Events.{eventAt, eventSize};
+ghost use Rattle.relax.specs.Events.{event_at, event_size};
 ghost use Rattle.buffer.specs.State.{none};
-ghost use Rattle.buffer.specs.Tables.{mostEntries, mostCode};
+ghost use Rattle.buffer.specs.Tables.{most_entries, most_code};
 ghost use Rattle.recording.specs.View.{entries};
 ghost use Rattle.fresh.specs.Forms.{width};
 ghost use Rattle.fresh.specs.Rounds.{any, join};
-ghost use Rattle.fresh.specs.Segments.{segment, image, mapOffset};
+ghost use Rattle.fresh.specs.Segments.{segment, image, map_offset};
 ghost use Rattle.fresh.specs.Segments as fresh;
-ghost use Rattle.fresh.specs.steps.Runs.{behindOf, ahead_of};
-ghost use Rattle.pool.specs.steps.Pool.{poolStart, poolEvent, PoolFits, offsetBound};
-ghost use Rattle.layout.specs.steps.Targets.{inReach, end_in, Stands, Shown, Finds, Aims, Aiming, SamePast, Placed, withTarget, withEnd, Ended, endBefore, Adds, isMissedAt, missed};
-ghost use Rattle.layout.specs.steps.Layout.{zeroSegment, start_at, Rising, Sorted, Between, Follows, Recorded, allEvents, endFrom, finishedLength, Laid, Known, Labelled, Relaxed};
+ghost use Rattle.fresh.specs.steps.Runs.{behind_of, ahead_of};
+ghost use Rattle.pool.specs.steps.Pool.{pool_start, pool_event, PoolFits, offset_bound};
+ghost use Rattle.layout.specs.steps.Targets.{in_reach, end_in, Stands, Shown, Finds, Aims, Aiming, SamePast, Placed, with_target, with_end, Ended, end_before, Adds, is_missed_at, missed};
+ghost use Rattle.layout.specs.steps.Layout.{zero_segment, start_at, Rising, Sorted, Between, Follows, Recorded, all_events, end_from, finished_length, Laid, Known, Labelled, Relaxed};
 
 use relax::{LayoutEvent, Segment};
 
@@ -30,7 +30,7 @@ pub struct Summary {
 // Segment `i` of the table.
 pub fn segment_at(segments: &[Segment], i: usize) -> Segment
     requires { i < length segments.now }
-    ensures { result ≡ get_or segments.now i zeroSegment }
+    ensures { result ≡ get_or segments.now i zero_segment }
 {
     segments[i]
 }
@@ -46,7 +46,7 @@ pub fn put_segment(segments: &mut [Segment], i: usize, segment: Segment)
 // Fills an index of the recorded starts of the first `n` segments.
 fn fill_index(index: &mut [u32], shift: u32, segments: &[Segment], n: usize)
     requires fact_1 { Sorted segments.now n }
-    requires fact_2 { (indexSize ≤ length index.old) × (shift < 32) × (n ≤ mostKeys) }
+    requires fact_2 { (index_size ≤ length index.old) × (shift < 32) × (n ≤ most_keys) }
     ensures { Indexed index.new (start_at segments.now) n shift }
 {
     let mut next: usize = 0;
@@ -62,7 +62,7 @@ fn fill_index(index: &mut [u32], shift: u32, segments: &[Segment], n: usize)
 // The same where there is an index: a slice that is too short for one is left as it is.
 fn index_segments(index: &mut [u32], shift: u32, segments: &[Segment], n: usize)
     requires fact_1 { Sorted segments.now n }
-    requires fact_2 { (shift < 32) × (n ≤ mostKeys) }
+    requires fact_2 { (shift < 32) × (n ≤ most_keys) }
     ensures { Indexed index.new (start_at segments.now) n shift }
 {
     if index.len() < lookup::SIZE {
@@ -94,7 +94,7 @@ fn find(segments: &[Segment], n: usize, index: &[u32], shift: u32, offset: u32) 
 
 // Where a segment takes an offset at or past its start.
 fn place(segment: Segment, offset: u32) -> u32
-    requires { (segment.old_start ≤ offset) × (offset ≤ offsetBound) × (segment.new_start ≤ offsetBound) × (segment.new_end ≤ offsetBound) }
+    requires { (segment.old_start ≤ offset) × (offset ≤ offset_bound) × (segment.new_start ≤ offset_bound) × (segment.new_end ≤ offset_bound) }
     ensures { result ≡ image segment offset }
 {
     if offset < segment.old_end {
@@ -107,8 +107,8 @@ fn place(segment: Segment, offset: u32) -> u32
 pub fn map(segments: &[Segment], n: usize, index: &[u32], shift: u32, offset: u32) -> u32
     requires fact_1 { Rising segments.now n }
     requires fact_2 { Indexed index.now (start_at segments.now) n shift }
-    requires fact_3 { (offset ≢ none → offset ≤ offsetBound) }
-    ensures { result ≡ mapOffset (take n segments.now) offset }
+    requires fact_3 { (offset ≢ none → offset ≤ offset_bound) }
+    ensures { result ≡ map_offset (take n segments.now) offset }
 {
     if offset == buffer::NONE {
         return offset;
@@ -162,9 +162,9 @@ pub fn next_segment(event: LayoutEvent, long: bool, old: u32, new: u32) -> Segme
 
 // Fills the segments of the first `n` events; the last of them, all zeros where there is none.
 fn layout_events(segments: &mut [Segment], events: &[u8], long: &[bool], n: usize) -> Segment
-    requires fact_1 { Recorded events.now n mostCode }
-    requires fact_2 { (n ≤ mostEntries) × (n ≤ length segments.old) × (n ≤ length long.now) }
-    ensures { Laid segments.old segments.new (entries (eventAt events.now) n) long.now result.old_end result.new_end }
+    requires fact_1 { Recorded events.now n most_code }
+    requires fact_2 { (n ≤ most_entries) × (n ≤ length segments.old) × (n ≤ length long.now) }
+    ensures { Laid segments.old segments.new (entries (event_at events.now) n) long.now result.old_end result.new_end }
 {
     let mut last = Segment {
         old_start: 0,
@@ -193,9 +193,9 @@ fn layout_pool(
     new: u32,
 ) -> u32
     requires fact_1 { PoolFits constants.now asked.now m }
-    requires fact_2 { (n ≤ mostEntries) × (n + m ≤ length segments.old) × (old ≤ offsetBound) × (new ≤ offsetBound) }
-    ensures segments_after { segments.new ≡ over segments.old n (fresh.segments old new (entries (poolEvent old constants.now asked.now) m) []) }
-    ensures value { result ≡ endFrom old new (entries (poolEvent old constants.now asked.now) m) [] (poolStart old constants.now asked.now m) }
+    requires fact_2 { (n ≤ most_entries) × (n + m ≤ length segments.old) × (old ≤ offset_bound) × (new ≤ offset_bound) }
+    ensures segments_after { segments.new ≡ over segments.old n (fresh.segments old new (entries (pool_event old constants.now asked.now) m) []) }
+    ensures value { result ≡ end_from old new (entries (pool_event old constants.now asked.now) m) [] (pool_start old constants.now asked.now m) }
 {
     let mut from = old;
     let mut to = new;
@@ -235,9 +235,9 @@ pub fn layout(
 ) -> u32
     requires fact_1 { Recorded events.now n code }
     requires fact_2 { PoolFits constants.now asked.now m }
-    requires fact_3 { (n + m ≤ mostEntries) × (n + m ≤ length segments.old) × (n ≤ length long.now) }
-    ensures segments_after { segments.new ≡ over segments.old 0 (fresh.segments 0 0 (allEvents events.now n code constants.now asked.now m) long.now) }
-    ensures value { result ≡ finishedLength (allEvents events.now n code constants.now asked.now m) long.now (poolStart code constants.now asked.now m) }
+    requires fact_3 { (n + m ≤ most_entries) × (n + m ≤ length segments.old) × (n ≤ length long.now) }
+    ensures segments_after { segments.new ≡ over segments.old 0 (fresh.segments 0 0 (all_events events.now n code constants.now asked.now m) long.now) }
+    ensures value { result ≡ finished_length (all_events events.now n code constants.now asked.now m) long.now (pool_start code constants.now asked.now m) }
 {
     let last = layout_events(segments, events, long, n);
     let new = last.new_end + (code - last.old_end);
@@ -246,7 +246,7 @@ pub fn layout(
 
 // How far behind the end of its short form an event reaches.
 fn behind_of(event: LayoutEvent) -> u32
-    ensures { result ≡ behindOf event }
+    ensures { result ≡ behind_of event }
 {
     match event {
         LayoutEvent::Jump(_) => 128,
@@ -280,7 +280,7 @@ fn ahead_of(event: LayoutEvent) -> u32
 
 // Whether a label lies so near to the end of an event's short form.
 fn in_reach(event: LayoutEvent, end: u32, label: u32) -> bool
-    ensures { result ≡ inReach event end label }
+    ensures { result ≡ in_reach event end label }
 {
     if end as u64 <= label as u64 + behind_of(event) as u64 {
         label as u64 <= end as u64 + ahead_of(event) as u64
@@ -320,7 +320,7 @@ fn locate(
 ) -> Target
     requires fact_1 { ((es : List LayoutEvent) × Shown es segments.now events.now n all) }
     requires fact_2 { Indexed index.now (start_at segments.now) all shift }
-    requires fact_3 { (offset ≢ none → offset ≤ offsetBound) }
+    requires fact_3 { (offset ≢ none → offset ≤ offset_bound) }
     ensures { (es : List LayoutEvent) → Shown es segments.now events.now n all → Finds es offset result.passed result.beyond }
 {
     if offset == buffer::NONE {
@@ -367,9 +367,9 @@ fn target_of(
 ) -> Target
     requires fact_1 { ((es : List LayoutEvent) × Shown es segments.now events.now n all) }
     requires fact_2 { Indexed index.now (start_at segments.now) all shift }
-    requires fact_3 { Known (eventAt events.now i) labels.now }
+    requires fact_3 { Known (event_at events.now i) labels.now }
     requires fact_4 { i < n }
-    ensures { (es : List LayoutEvent) → Shown es segments.now events.now n all → Aims es (word_at labels.now) (eventAt events.now i) result.passed result.beyond }
+    ensures { (es : List LayoutEvent) → Shown es segments.now events.now n all → Aims es (word_at labels.now) (event_at events.now i) result.passed result.beyond }
 {
     let event = relax::event_at(events, i);
     match event {
@@ -391,7 +391,7 @@ fn target_of(
 // Writes the target of event `i` into its row, and nothing else of it.
 fn put_target(segments: &mut [Segment], i: usize, target: Target)
     requires { i < length segments.old }
-    ensures { segments.new ≡ set segments.old i (withTarget (get_or segments.old i zeroSegment) target.passed target.beyond) }
+    ensures { segments.new ≡ set segments.old i (with_target (get_or segments.old i zero_segment) target.passed target.beyond) }
 {
     let row = segment_at(segments, i);
     put_segment(
@@ -434,7 +434,7 @@ fn find_targets(
 // Writes the new end of event `i` into its row, and nothing else of it.
 fn put_end(segments: &mut [Segment], i: usize, end: u32)
     requires { i < length segments.old }
-    ensures { segments.new ≡ set segments.old i (withEnd (get_or segments.old i zeroSegment) end) }
+    ensures { segments.new ≡ set segments.old i (with_end (get_or segments.old i zero_segment) end) }
 {
     let row = segment_at(segments, i);
     put_segment(
@@ -451,9 +451,9 @@ fn put_end(segments: &mut [Segment], i: usize, end: u32)
 
 // Writes the new ends of the first `n` events under a choice into their rows; the segment of the last of them, all zeros where there is none.
 fn end_events(segments: &mut [Segment], events: &[u8], long: &[bool], n: usize) -> Segment
-    requires fact_1 { Recorded events.now n mostCode }
-    requires fact_2 { (n ≤ mostEntries) × (n ≤ length segments.old) × (n ≤ length long.now) }
-    ensures { Ended segments.old segments.new (entries (eventAt events.now) n) long.now n result.old_end result.new_end }
+    requires fact_1 { Recorded events.now n most_code }
+    requires fact_2 { (n ≤ most_entries) × (n ≤ length segments.old) × (n ≤ length long.now) }
+    ensures { Ended segments.old segments.new (entries (event_at events.now) n) long.now n result.old_end result.new_end }
 {
     let mut last = Segment {
         old_start: 0,
@@ -484,8 +484,8 @@ fn place_ends(
 )
     requires fact_1 { Recorded events.now n code }
     requires fact_2 { PoolFits constants.now asked.now m }
-    requires fact_3 { (n + m ≤ mostEntries) × (n + m ≤ length segments.old) × (n ≤ length long.now) }
-    ensures { Placed segments.old segments.new (allEvents events.now n code constants.now asked.now m) n long.now }
+    requires fact_3 { (n + m ≤ most_entries) × (n + m ≤ length segments.old) × (n ≤ length long.now) }
+    ensures { Placed segments.old segments.new (all_events events.now n code constants.now asked.now m) n long.now }
 {
     let last = end_events(segments, events, long, n);
     let new = last.new_end + (code - last.old_end);
@@ -495,7 +495,7 @@ fn place_ends(
 // The new end of the first `k` events.
 fn end_before(segments: &[Segment], k: usize) -> u32
     requires { k ≤ length segments.now }
-    ensures { result ≡ endBefore segments.now k }
+    ensures { result ≡ end_before segments.now k }
 {
     if k == 0 {
         return 0;
@@ -506,9 +506,9 @@ fn end_before(segments: &[Segment], k: usize) -> u32
 
 // Whether event `i`, long or not, is a short jump or branch that does not reach its label.
 fn is_missed(segments: &[Segment], events: &[u8], long: bool, i: usize) -> bool
-    requires fact_1 { (i < length segments.now) × (i * eventSize + eventSize ≤ length events.now) }
-    requires fact_2 { Adds segments.now (get_or segments.now i zeroSegment) }
-    ensures { result ≡ isMissedAt segments.now events.now long i }
+    requires fact_1 { (i < length segments.now) × (i * event_size + event_size ≤ length events.now) }
+    requires fact_2 { Adds segments.now (get_or segments.now i zero_segment) }
+    ensures { result ≡ is_missed_at segments.now events.now long i }
 {
     if long {
         return false;
@@ -524,8 +524,8 @@ fn is_missed(segments: &[Segment], events: &[u8], long: bool, i: usize) -> bool
 
 // A round's scan: every short jump or branch of the first `n` events that does not reach becomes long. Whether there was one.
 fn lengthen(segments: &[Segment], events: &[u8], long: &mut [bool], n: usize) -> bool
-    requires fact_1 { (n ≤ length segments.now) × (n ≤ length long.old) × (n * eventSize ≤ length events.now) }
-    requires fact_2 { ((i : ℕ) → i < n → Adds segments.now (get_or segments.now i zeroSegment)) }
+    requires fact_1 { (n ≤ length segments.now) × (n ≤ length long.old) × (n * event_size ≤ length events.now) }
+    requires fact_2 { ((i : ℕ) → i < n → Adds segments.now (get_or segments.now i zero_segment)) }
     ensures long_after { long.new ≡ over long.old 0 (join long.old (missed segments.now events.now long.old n)) }
     ensures value { result ≡ any (missed segments.now events.now long.old n) }
 {
@@ -560,8 +560,8 @@ pub fn relax_jumps(
     requires fact_1 { Recorded events.now n code }
     requires fact_2 { PoolFits constants.now asked.now m }
     requires fact_3 { Labelled events.now labels.now n }
-    requires fact_4 { (n + m ≤ mostEntries) × (n + m ≤ length segments.old) × (length long.old ≡ n + m) × (shift < 32) }
-    ensures relaxed { Relaxed (allEvents events.now n code constants.now asked.now m) (word_at labels.now) long.old (poolStart code constants.now asked.now m) segments.old segments.new long.new result.layouts result.len }
+    requires fact_4 { (n + m ≤ most_entries) × (n + m ≤ length segments.old) × (length long.old ≡ n + m) × (shift < 32) }
+    ensures relaxed { Relaxed (all_events events.now n code constants.now asked.now m) (word_at labels.now) long.old (pool_start code constants.now asked.now m) segments.old segments.new long.new result.layouts result.len }
     ensures indexed { Indexed index.new (start_at segments.new) (n + m) shift }
 {
     layout(segments, events, constants, asked, long, n, m, code);

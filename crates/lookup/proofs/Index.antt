@@ -7,23 +7,23 @@ use native.Mathlib.Omega.{arith}
 use lib.ListN.{length, get_or, set, length-set}
 use lib.Seq.{get_or-set_same, get_or-set_other}
 use lib.Pow.{shr_mono, shr_lt}
-use Rattle.seqs.proofs.Numbers.{lt-or-ge, eq-or-ne}
-use Rattle.lookup.specs.steps.Index.{parts, indexSize, part, Rises, Before, Indexed, Filled, Marked, Narrowed, Around}
+use Rattle.seqs.proofs.Numbers.{lt_or_ge, eq_or_ne}
+use Rattle.lookup.specs.steps.Index.{parts, index_size, part, Rises, Before, Indexed, Filled, Marked, Narrowed, Around}
 
 -- What lies further on lies in no earlier part.
-part-rises : (size shift : ℕ) {x y : ℕ} → x ≤ y → part size shift x ≤ part size shift y
+part_rises : (size shift : ℕ) {x y : ℕ} → x ≤ y → part size shift x ≤ part size shift y
 unfolding part
-part-rises size shift {x} {y} h = omega (arith, shr_mono shift h)
+part_rises size shift {x} {y} h = omega (arith, shr_mono shift h)
 
 part_small : (size shift x : ℕ) → part size shift x ≤ parts size
 unfolding part
 part_small size shift x = omega arith
 
-part-tells : (size shift : ℕ) {x y : ℕ} → part size shift x < part size shift y → x < y
-part-tells size shift {x} {y} h = ⊎_elim (λ l. l) (λ (back : y ≤ x). absurd (omega (arith, part-rises size shift back))) (lt-or-ge x y)
+part_tells : (size shift : ℕ) {x y : ℕ} → part size shift x < part size shift y → x < y
+part_tells size shift {x} {y} h = ⊎_elim (λ l. l) (λ (back : y ≤ x). absurd (omega (arith, part_rises size shift back))) (lt_or_ge x y)
 
 -- An index that nothing is marked in.
-pub filled_none : (index : List ℕ) (key : ℕ → ℕ) (n shift : ℕ) → shift < 32 → indexSize ≤ length index → Filled index key n shift 0 0
+pub filled_none : (index : List ℕ) (key : ℕ → ℕ) (n shift : ℕ) → shift < 32 → index_size ≤ length index → Filled index key n shift 0 0
 filled_none index key n shift b e = record {
   few_bits = b;
   size = e;
@@ -34,9 +34,9 @@ filled_none index key n shift b e = record {
 
 module _ {key : ℕ → ℕ} {n shift : ℕ} {index after : List ℕ} {i next to r : ℕ} where
   -- The entries that are written as offset i is marked count the i offsets before it: these lie in parts before `next`, and those from i on in none before `to`.
-  marked-counts : Filled index key n shift i next → Marked index after next to i r → i ≤ n
+  marked_counts : Filled index key n shift i next → Marked index after next to i r → i ≤ n
       → ((j : ℕ) → i ≤ j → j < n → to ≤ part (length index) shift (key j) + 1) → (p : ℕ) → p < r → Before key n (length index) shift p (get_or after p 0)
-  marked-counts f m few late p l =
+  marked_counts f m few late p l =
       ⊎_elim
       (λ (old : p < next). rw (m.kept p old) (f.counts p old))
       (λ (new : next ≤ p).
@@ -46,36 +46,36 @@ module _ {key : ℕ → ℕ} {n shift : ℕ} {index after : List ℕ} {i next to
         below = λ j h. omega (arith, f.passed j h);
         above = λ j h k. omega (arith, late j h k, m.reached);
       }))
-      (lt-or-ge p next)
+      (lt_or_ge p next)
 
 -- One offset more is marked.
-pub filled-one : {index after : List ℕ} {key : ℕ → ℕ} {n shift i next r : ℕ} → Rises key n → Filled index key n shift i next → i < n
+pub filled_one : {index after : List ℕ} {key : ℕ → ℕ} {n shift i next r : ℕ} → Rises key n → Filled index key n shift i next → i < n
     → Marked index after next (part (length index) shift (key i) + 1) i r → Filled after key n shift (i + 1) r
-filled-one {index} {after} {key} {n} {shift} {i} {next} {r} o f l m =
+filled_one {index} {after} {key} {n} {shift} {i} {next} {r} o f l m =
     record {
       few_bits = f.few_bits;
       size = omega (arith, m.size, f.size);
       most = omega (arith, part_small (length index) shift (key i), m.reached, m.size, f.most, f.size);
-      counts = rw m.size (marked-counts f m (omega arith) (λ j h k. omega (arith, part-rises (length index) shift (o.rises i j h k))));
-      passed = rw m.size (λ j h. omega (arith, part-rises (length index) shift (o.rises j i (omega arith) l), m.reached));
+      counts = rw m.size (marked_counts f m (omega arith) (λ j h k. omega (arith, part_rises (length index) shift (o.rises i j h k))));
+      passed = rw m.size (λ j h. omega (arith, part_rises (length index) shift (o.rises j i (omega arith) l), m.reached));
     }
 
 -- After the last offset the rest of the entries count them all.
-pub filled-all : {index after : List ℕ} {key : ℕ → ℕ} {n shift next r : ℕ} → Filled index key n shift n next → Marked index after next (length index) n r
+pub filled_all : {index after : List ℕ} {key : ℕ → ℕ} {n shift next r : ℕ} → Filled index key n shift n next → Marked index after next (length index) n r
     → Indexed after key n shift
-filled-all f m =
+filled_all f m =
     record {
       few_bits = f.few_bits;
-      counts = rw m.size (λ s p l. marked-counts f m (omega arith) (λ j h k. absurd (omega arith)) p (omega (arith, m.reached)));
+      counts = rw m.size (λ s p l. marked_counts f m (omega arith) (λ j h k. absurd (omega arith)) p (omega (arith, m.reached)));
     }
 
 -- Without an index.
-pub indexed-none : (index : List ℕ) (key : ℕ → ℕ) (n shift : ℕ) → shift < 32 → length index < indexSize → Indexed index key n shift
-indexed-none index key n shift b l = record { few_bits = b; counts = λ s. absurd (omega arith) }
+pub indexed_none : (index : List ℕ) (key : ℕ → ℕ) (n shift : ℕ) → shift < 32 → length index < index_size → Indexed index key n shift
+indexed_none index key n shift b l = record { few_bits = b; counts = λ s. absurd (omega arith) }
 
 -- An index serves all tables that have these offsets.
-pub indexed-same : {index : List ℕ} {key other : ℕ → ℕ} {n shift : ℕ} → Indexed index key n shift → ((j : ℕ) → j < n → key j ≡ other j) → Indexed index other n shift
-indexed-same {shift = shift} x same =
+pub indexed_same : {index : List ℕ} {key other : ℕ → ℕ} {n shift : ℕ} → Indexed index key n shift → ((j : ℕ) → j < n → key j ≡ other j) → Indexed index other n shift
+indexed_same {shift = shift} x same =
     record {
       few_bits = x.few_bits;
       counts = λ s p l.
@@ -88,8 +88,8 @@ indexed-same {shift = shift} x same =
     }
 
 module _ {index : List ℕ} {key : ℕ → ℕ} {n shift : ℕ} (offset : ℕ) {low high : ℕ} (x : Indexed index key n shift) (w : Narrowed index n (part (length index) shift offset) low high) where
-  around-all : length index < indexSize → Around key n offset low high
-  around-all s =
+  around_all : length index < index_size → Around key n offset low high
+  around_all s =
       let ends = w.all s in
       record {
         order = omega (arith, ends);
@@ -98,8 +98,8 @@ module _ {index : List ℕ} {key : ℕ → ℕ} {n shift : ℕ} (offset : ℕ) {
         above = λ j h k. absurd (omega (arith, ends));
       }
 
-  around-part : indexSize ≤ length index → Around key n offset low high
-  around-part s =
+  around_part : index_size ≤ length index → Around key n offset low high
+  around_part s =
       let size = length index in
       let here = part size shift offset in
       let small = part_small size shift offset in
@@ -110,22 +110,22 @@ module _ {index : List ℕ} {key : ℕ → ℕ} {n shift : ℕ} (offset : ℕ) {
             ⊎_elim
             (λ (back : high < low). absurd (omega (arith, first.below high back, last.above high (omega arith) (omega (arith, first.few)))))
             (λ l. l)
-            (lt-or-ge high low);
+            (lt_or_ge high low);
         within = last.few;
-        under = λ j l. part-tells size shift (first.below j l);
-        above = λ j h k. part-tells size shift (omega (arith, last.above j h k));
+        under = λ j l. part_tells size shift (first.below j l);
+        above = λ j h k. part_tells size shift (omega (arith, last.above j h k));
       }
 
   -- What `narrow` finds: a search for the offset has to look between these alone.
-  pub narrowed-around : Around key n offset low high
-  narrowed-around = ⊎_elim around-all around-part (lt-or-ge (length index) indexSize)
+  pub narrowed_around : Around key n offset low high
+  narrowed_around = ⊎_elim around_all around_part (lt_or_ge (length index) index_size)
 
 -- Filling entry by entry: before the first, one entry more, and at the end.
-pub marked-none : (index : List ℕ) (next v : ℕ) → Marked index index next next v next
-marked-none index next v = record { size = refl; reached = omega arith; kept = λ p l. refl; marks = λ p h l. absurd (omega arith) }
+pub marked_none : (index : List ℕ) (next v : ℕ) → Marked index index next next v next
+marked_none index next v = record { size = refl; reached = omega arith; kept = λ p l. refl; marks = λ p h l. absurd (omega arith) }
 
-pub marked-one : {before index : List ℕ} {next p v : ℕ} → Marked before index next p v p → p < length index → Marked before (set index p v) next (p + 1) v (p + 1)
-marked-one {before} {index} {next} {p} {v} m l =
+pub marked_one : {before index : List ℕ} {next p v : ℕ} → Marked before index next p v p → p < length index → Marked before (set index p v) next (p + 1) v (p + 1)
+marked_one {before} {index} {next} {p} {v} m l =
     record {
       size = length-set index p v ∙ m.size;
       reached = omega (arith, m.reached);
@@ -134,16 +134,16 @@ marked-one {before} {index} {next} {p} {v} m l =
           ⊎_elim
           (λ (same : q ≡ p). rw same (get_or-set_same index p v 0 l))
           (λ other. get_or-set_other index p q v 0 other ∙ m.marks q h (omega arith))
-          (eq-or-ne q p);
+          (eq_or_ne q p);
     }
 
-pub marked-end : {before index : List ℕ} {next p to v : ℕ} → Marked before index next p v p → to ≤ p → p ≤ max next to → Marked before index next to v p
-marked-end m h k = record { size = m.size; reached = omega (arith, m.reached); kept = m.kept; marks = m.marks }
+pub marked_end : {before index : List ℕ} {next p to v : ℕ} → Marked before index next p v p → to ≤ p → p ≤ max next to → Marked before index next to v p
+marked_end m h k = record { size = m.size; reached = omega (arith, m.reached); kept = m.kept; marks = m.marks }
 
 -- Shifted by 22 bits every offset lies in the parts that are told apart.
-pub shift-grows : (end shift told : ℕ) → end < 2 ^ 32 → shift ≤ 22 → 1024 ≤ told → told ≤ end / 2 ^ shift → shift < 22
-shift-grows end shift told l h some far =
+pub shift_grows : (end shift told : ℕ) → end < 2 ^ 32 → shift ≤ 22 → 1024 ≤ told → told ≤ end / 2 ^ shift → shift < 22
+shift_grows end shift told l h some far =
     ⊎_elim
     (λ (most : shift ≡ 22). let near : end / 2 ^ 22 < 2 ^ 10 = shr_lt 10 22 l in absurd (omega (arith, rw most at far)))
     (λ other. omega arith)
-    (eq-or-ne shift 22)
+    (eq_or_ne shift 22)

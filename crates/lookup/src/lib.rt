@@ -2,7 +2,7 @@
 // bits: a part is what lies between two multiples of 2 ^ shift, and the index has for each part how many offsets lie before it. It takes one pass to fill.
 // The offsets stand in tables of several forms, so that a user's own loop hands them to `mark`, in order, and then closes the index.
 ghost use Rattle.std.specs.Prelude.{◌≡◌, true, ◌+◌, ◌/◌, ◌^◌, ◌≤◌, ◌<◌, length, get_or};
-ghost use Rattle.lookup.specs.steps.Index.{parts, indexSize, largeSize, mostKeys, part, Marked, Narrowed};
+ghost use Rattle.lookup.specs.steps.Index.{parts, index_size, large_size, most_keys, part, Marked, Narrowed};
 
 // An index has an entry for each part that is told apart, one for what lies past them, and one for the end. It is at least so long; a shorter slice is none.
 pub const SIZE: usize = 1026;
@@ -27,7 +27,7 @@ pub struct Span {
 
 // Whether an index of so many offsets pays for so many searches.
 pub fn pays(keys: usize, searches: usize) -> bool
-    ensures { result ≡ true → keys ≤ mostKeys }
+    ensures { result ≡ true → keys ≤ most_keys }
 {
     if keys < FEW {
         return false;
@@ -40,7 +40,7 @@ pub fn pays(keys: usize, searches: usize) -> bool
 
 // How long an index of so many offsets is best, of those that have room in a large one.
 pub fn size_for(keys: usize) -> usize
-    ensures { (indexSize ≤ result) × (result ≤ largeSize) }
+    ensures { (index_size ≤ result) × (result ≤ large_size) }
 {
     if keys < MANY {
         return SIZE;
@@ -50,7 +50,7 @@ pub fn size_for(keys: usize) -> usize
 
 // The parts that an index of a length tells apart; those of the shortest where it is none.
 fn parts_of(size: usize) -> usize
-    ensures { (indexSize ≤ size → result ≡ parts size) × (1024 ≤ result) }
+    ensures { (index_size ≤ size → result ≡ parts size) × (1024 ≤ result) }
 {
     if size < SIZE {
         return SIZE - 2;
@@ -61,7 +61,7 @@ fn parts_of(size: usize) -> usize
 // The least shift by which offsets up to `end` lie in the parts that an index of a length tells apart.
 pub fn shift_for(end: u32, size: usize) -> u32
     ensures fact_1 { result < 32 }
-    ensures fact_2 { (indexSize ≤ size → end / 2 ^ result < parts size) }
+    ensures fact_2 { (index_size ≤ size → end / 2 ^ result < parts size) }
 {
     let told = parts_of(size);
     let mut shift: u32 = 0;
@@ -73,7 +73,7 @@ pub fn shift_for(end: u32, size: usize) -> u32
 
 // The part that an offset lies in, for an index of a length.
 fn part_of(offset: u32, shift: u32, size: usize) -> usize
-    requires { (shift < 32) × (indexSize ≤ size) }
+    requires { (shift < 32) × (index_size ≤ size) }
     ensures { (result ≡ part size shift offset) × (result ≤ parts size) }
 {
     let past = size - 2;
@@ -99,7 +99,7 @@ fn fill(index: &mut [u32], next: usize, to: usize, value: u32) -> usize
 
 // Marks offset number `i`, the offsets before it being marked: the entries from `next` up to its own part count those. The first entry that is left.
 pub fn mark(index: &mut [u32], shift: u32, next: usize, i: usize, offset: u32) -> usize
-    requires { (indexSize ≤ length index.old) × (shift < 32) × (i ≤ mostKeys) }
+    requires { (index_size ≤ length index.old) × (shift < 32) × (i ≤ most_keys) }
     ensures { Marked index.old index.new next (part (length index.old) shift offset + 1) i result }
 {
     let own = part_of(offset, shift, index.len());
@@ -108,7 +108,7 @@ pub fn mark(index: &mut [u32], shift: u32, next: usize, i: usize, offset: u32) -
 
 // After the last of `n` offsets is marked: the entries that are left count them all.
 pub fn close(index: &mut [u32], next: usize, n: usize) -> usize
-    requires { n ≤ mostKeys }
+    requires { n ≤ most_keys }
     ensures { Marked index.old index.new next (length index.old) n result }
 {
     let size = index.len();

@@ -3,9 +3,9 @@
 ghost use Rattle.std.specs.Prelude.{◌≡◌, ◌&&◌, ◌+◌, ◌*◌, ◌≤◌, ◌<◌, eqb, length};
 ghost use Rattle.seqs.specs.Counting.{one};
 ghost use Rattle.words.specs.Words.{word_at};
-ghost use Rattle.relax.specs.Events.{eventWords, eventSize, namesLabel};
-ghost use Rattle.naming.specs.Naming.{jumpNames, naming, jumpsNaming};
-ghost use Rattle.naming.specs.steps.Open.{isOpenAt, opens_at, openEntries, openJumps};
+ghost use Rattle.relax.specs.Events.{event_words, event_size, names_label};
+ghost use Rattle.naming.specs.Naming.{jump_names, naming, jumps_naming};
+ghost use Rattle.naming.specs.steps.Open.{is_open_at, opens_at, open_entries, open_jumps};
 
 // The offset of a label that is not bound.
 pub const UNBOUND: u32 = 0xffffffff;
@@ -37,8 +37,8 @@ pub fn naming(table: &[u8], n: usize, stride: usize, at: usize, value: u32) -> u
 
 // 1 where event `i` is a jump to the label.
 fn jump_names(events: &[u8], label: u32, i: usize) -> u32
-    requires { i * eventSize + eventSize ≤ length events.now }
-    ensures { result ≡ one (jumpNames events.now label i) }
+    requires { i * event_size + event_size ≤ length events.now }
+    ensures { result ≡ one (jump_names events.now label i) }
 {
     if relax::names_label(words::word_at(events, i * relax::EVENT_WORDS)) {
         let named = words::word_at(events, i * relax::EVENT_WORDS + 3);
@@ -49,8 +49,8 @@ fn jump_names(events: &[u8], label: u32, i: usize) -> u32
 
 // How many of the first `n` events are jumps to the label.
 pub fn jumps_naming(events: &[u8], n: usize, label: u32) -> u32
-    requires { (n * eventSize ≤ length events.now) × (n < 4294967296) }
-    ensures { result ≡ jumpsNaming events.now n label }
+    requires { (n * event_size ≤ length events.now) × (n < 4294967296) }
+    ensures { result ≡ jumps_naming events.now n label }
 {
     let mut found: u32 = 0;
     let mut i: usize = 0;
@@ -64,7 +64,7 @@ pub fn jumps_naming(events: &[u8], n: usize, label: u32) -> u32
 // Whether the label is none of the first `known`, or not bound.
 fn is_open(labels: &[u8], known: usize, label: u32) -> bool
     requires { known * 4 ≤ length labels.now }
-    ensures { result ≡ isOpenAt labels.now known label }
+    ensures { result ≡ is_open_at labels.now known label }
 {
     if known <= label as usize {
         return true;
@@ -97,7 +97,7 @@ pub fn open_entries(
     known: usize,
 ) -> u32
     requires { (n * stride * 4 ≤ length table.now) × (at < stride) × (n < 4294967296) × (known * 4 ≤ length labels.now) }
-    ensures { result ≡ openEntries table.now n stride at base labels.now known }
+    ensures { result ≡ open_entries table.now n stride at base labels.now known }
 {
     let mut found: u32 = 0;
     let mut i: usize = 0;
@@ -111,8 +111,8 @@ pub fn open_entries(
 
 // 1 where event `i` is a jump to an open label.
 fn jump_opens(events: &[u8], labels: &[u8], known: usize, i: usize) -> u32
-    requires { (i * eventSize + eventSize ≤ length events.now) × (known * 4 ≤ length labels.now) }
-    ensures { result ≡ one (namesLabel (word_at events.now (i * eventWords)) && isOpenAt labels.now known (word_at events.now (i * eventWords + 3))) }
+    requires { (i * event_size + event_size ≤ length events.now) × (known * 4 ≤ length labels.now) }
+    ensures { result ≡ one (names_label (word_at events.now (i * event_words)) && is_open_at labels.now known (word_at events.now (i * event_words + 3))) }
 {
     if relax::names_label(words::word_at(events, i * relax::EVENT_WORDS)) {
         let label = words::word_at(events, i * relax::EVENT_WORDS + 3);
@@ -125,8 +125,8 @@ fn jump_opens(events: &[u8], labels: &[u8], known: usize, i: usize) -> u32
 
 // How many of the first `n` events are jumps to an open label.
 pub fn open_jumps(events: &[u8], n: usize, labels: &[u8], known: usize) -> u32
-    requires { (n * eventSize ≤ length events.now) × (n < 4294967296) × (known * 4 ≤ length labels.now) }
-    ensures { result ≡ openJumps events.now n labels.now known }
+    requires { (n * event_size ≤ length events.now) × (n < 4294967296) × (known * 4 ≤ length labels.now) }
+    ensures { result ≡ open_jumps events.now n labels.now known }
 {
     let mut found: u32 = 0;
     let mut i: usize = 0;

@@ -3,13 +3,13 @@
 ghost use Rattle.std.specs.Prelude.{◌≡◌, ◌+◌, ◌*◌, ◌≤◌, max, length};
 ghost use Rattle.seqs.specs.Over.{over};
 ghost use Rattle.words.specs.Words.{word_at};
-ghost use Rattle.buffer.specs.Tables.{constantSize, askedSize};
-ghost use Rattle.fresh.specs.Pooled.{constantAlignment};
-ghost use Rattle.pool.specs.steps.Pool.{size_at, label_at, poolStart, poolBytes, poolBound, poolUnbound, poolWritten, isAnyBound, PoolFits, PoolLabels, PoolRoom, poolAlignment, mostPooled, offsetBound};
+ghost use Rattle.buffer.specs.Tables.{constant_size, asked_size};
+ghost use Rattle.fresh.specs.Pooled.{constant_alignment};
+ghost use Rattle.pool.specs.steps.Pool.{size_at, label_at, pool_start, pool_bytes, pool_bound, pool_unbound, pool_written, is_any_bound, PoolFits, PoolLabels, PoolRoom, pool_alignment, most_pooled, offset_bound};
 
 // What a constant of `size` bytes is aligned on.
 pub fn constant_alignment(size: u32) -> u32
-    ensures { result ≡ constantAlignment size }
+    ensures { result ≡ constant_alignment size }
 {
     if size <= 8 {
         return 8;
@@ -21,7 +21,7 @@ pub fn constant_alignment(size: u32) -> u32
 }
 
 pub fn size_at(constants: &[u8], asked: &[u8], j: usize) -> u32
-    requires { (j * askedSize + askedSize ≤ length asked.now) × (word_at asked.now j * constantSize + constantSize ≤ length constants.now) }
+    requires { (j * asked_size + asked_size ≤ length asked.now) × (word_at asked.now j * constant_size + constant_size ≤ length constants.now) }
     ensures { result ≡ size_at constants.now asked.now j }
 {
     let n = words::word_at(asked, j) as usize;
@@ -29,7 +29,7 @@ pub fn size_at(constants: &[u8], asked: &[u8], j: usize) -> u32
 }
 
 pub fn label_at(constants: &[u8], asked: &[u8], j: usize) -> u32
-    requires { (j * askedSize + askedSize ≤ length asked.now) × (word_at asked.now j * constantSize + constantSize ≤ length constants.now) }
+    requires { (j * asked_size + asked_size ≤ length asked.now) × (word_at asked.now j * constant_size + constant_size ≤ length constants.now) }
     ensures { result ≡ label_at constants.now asked.now j }
 {
     let n = words::word_at(asked, j) as usize;
@@ -39,8 +39,8 @@ pub fn label_at(constants: &[u8], asked: &[u8], j: usize) -> u32
 // Where the pool ends, if it starts at `from`.
 pub fn pool_end(from: u32, constants: &[u8], asked: &[u8], n: usize) -> u32
     requires fact_1 { PoolFits constants.now asked.now n }
-    requires fact_2 { from ≤ offsetBound }
-    ensures { (result ≡ poolStart from constants.now asked.now n) × (result ≤ from + n * mostPooled) }
+    requires fact_2 { from ≤ offset_bound }
+    ensures { (result ≡ pool_start from constants.now asked.now n) × (result ≤ from + n * most_pooled) }
 {
     let mut at = from;
     let mut j: usize = 0;
@@ -61,7 +61,7 @@ fn greater(a: u32, b: u32) -> u32
 // What the code is to be loaded on a multiple of: the greater of 32 and the largest alignment among the constants.
 pub fn code_alignment(constants: &[u8], asked: &[u8], n: usize) -> u32
     requires { PoolFits constants.now asked.now n }
-    ensures { result ≡ poolAlignment constants.now asked.now n }
+    ensures { result ≡ pool_alignment constants.now asked.now n }
 {
     let mut alignment: u32 = 32;
     let mut j: usize = 0;
@@ -77,7 +77,7 @@ pub fn code_alignment(constants: &[u8], asked: &[u8], n: usize) -> u32
 pub fn is_any_bound(labels: &[u8], constants: &[u8], asked: &[u8], n: usize) -> bool
     requires fact_1 { PoolFits constants.now asked.now n }
     requires fact_2 { PoolLabels labels.now constants.now asked.now n }
-    ensures { result ≡ isAnyBound labels.now constants.now asked.now n }
+    ensures { result ≡ is_any_bound labels.now constants.now asked.now n }
 {
     let mut j: usize = 0;
     while j < n {
@@ -94,8 +94,8 @@ pub fn is_any_bound(labels: &[u8], constants: &[u8], asked: &[u8], n: usize) -> 
 pub fn bind(from: u32, labels: &mut [u8], constants: &[u8], asked: &[u8], n: usize)
     requires fact_1 { PoolFits constants.now asked.now n }
     requires fact_2 { PoolLabels labels.old constants.now asked.now n }
-    requires fact_3 { from ≤ offsetBound }
-    ensures { labels.new ≡ poolBound from labels.old constants.now asked.now n }
+    requires fact_3 { from ≤ offset_bound }
+    ensures { labels.new ≡ pool_bound from labels.old constants.now asked.now n }
 {
     let mut at = from;
     let mut j: usize = 0;
@@ -113,7 +113,7 @@ pub fn bind(from: u32, labels: &mut [u8], constants: &[u8], asked: &[u8], n: usi
 pub fn unbind(labels: &mut [u8], constants: &[u8], asked: &[u8], n: usize)
     requires fact_1 { PoolFits constants.now asked.now n }
     requires fact_2 { PoolLabels labels.old constants.now asked.now n }
-    ensures { labels.new ≡ poolUnbound labels.old constants.now asked.now n }
+    ensures { labels.new ≡ pool_unbound labels.old constants.now asked.now n }
 {
     let mut j: usize = 0;
     while j < n {
@@ -126,9 +126,9 @@ pub fn unbind(labels: &mut [u8], constants: &[u8], asked: &[u8], n: usize)
 // Writes the pool's padding, and zeros where the constants will stand.
 pub fn emit(output: &mut [u8], arch: u32, from: u32, constants: &[u8], asked: &[u8], n: usize)
     requires fact_1 { PoolFits constants.now asked.now n }
-    requires fact_2 { from ≤ offsetBound }
-    requires fact_3 { poolStart from constants.now asked.now n ≤ length output.old }
-    ensures { output.new ≡ over output.old from (poolBytes arch from constants.now asked.now n) }
+    requires fact_2 { from ≤ offset_bound }
+    requires fact_3 { pool_start from constants.now asked.now n ≤ length output.old }
+    ensures { output.new ≡ over output.old from (pool_bytes arch from constants.now asked.now n) }
 {
     let mut at = from;
     let mut j: usize = 0;
@@ -148,7 +148,7 @@ pub fn write(output: &mut [u8], labels: &[u8], constants: &[u8], asked: &[u8], n
     requires fact_1 { PoolFits constants.now asked.now n }
     requires fact_2 { PoolLabels labels.now constants.now asked.now n }
     requires fact_3 { PoolRoom output.old labels.now constants.now asked.now n }
-    ensures { output.new ≡ poolWritten output.old labels.now constants.now asked.now n }
+    ensures { output.new ≡ pool_written output.old labels.now constants.now asked.now n }
 {
     let mut j: usize = 0;
     while j < n {

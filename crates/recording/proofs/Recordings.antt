@@ -12,61 +12,61 @@ use Rattle.recording.specs.Calls.{
   Recording,
   Call,
   bytes,
-  newLabel,
+  new_label,
   bind,
   align,
-  use-label,
+  use_label_lem,
   ref,
   jump,
   constant,
-  constant-label,
+  constant_label_lem,
   relocation,
   after,
-  afterAll,
+  after_all,
   begun,
 }
 use Rattle.recording.specs.Sequences.{Leads, here, calls, grows}
 use Rattle.recording.specs.Sound.{Sound}
-use Rattle.recording.proofs.LongerTables.{keeps-growth}
+use Rattle.recording.proofs.LongerTables.{keeps_growth}
 use Rattle.recording.proofs.Steps.{
   either,
-  keeps-bytes,
-  keeps-newLabel,
-  keeps-bind,
-  keeps-align,
-  keeps-use,
-  keeps-ref,
-  keeps-jump,
-  keeps-constant,
-  keeps-constant-label,
-  keeps-reloc,
+  keeps_bytes,
+  keeps_new_label,
+  keeps_bind,
+  keeps_align,
+  keeps_use,
+  keeps_ref,
+  keeps_jump,
+  keeps_constant,
+  keeps_constant_label,
+  keeps_reloc,
 }
 
-pub keeps-sound : (c : Call) (r : Recording) → Sound r → Sound (after c r)
-keeps-sound (bytes l) r s = keeps-bytes r l s
-keeps-sound newLabel r s = keeps-newLabel r s
-keeps-sound (bind l) r s = keeps-bind r l s
-keeps-sound (align m most) r s = keeps-align r m most s
-keeps-sound (use-label o l c) r s = keeps-use r o l c s
-keeps-sound (ref o l c d) r s = keeps-ref r o l c d s
-keeps-sound (jump p n l c) r s = keeps-jump r p n l c s
-keeps-sound (constant l) r s = keeps-constant r l s
-keeps-sound (constant-label n) r s = keeps-constant-label r n s
-keeps-sound (relocation o k t d) r s = keeps-reloc r o k t d s
+pub keeps_sound : (c : Call) (r : Recording) → Sound r → Sound (after c r)
+keeps_sound (bytes l) r s = keeps_bytes r l s
+keeps_sound new_label r s = keeps_new_label r s
+keeps_sound (bind l) r s = keeps_bind r l s
+keeps_sound (align m most) r s = keeps_align r m most s
+keeps_sound (use_label_lem o l c) r s = keeps_use r o l c s
+keeps_sound (ref o l c d) r s = keeps_ref r o l c d s
+keeps_sound (jump p n l c) r s = keeps_jump r p n l c s
+keeps_sound (constant l) r s = keeps_constant r l s
+keeps_sound (constant_label_lem n) r s = keeps_constant_label r n s
+keeps_sound (relocation o k t d) r s = keeps_reloc r o k t d s
 
-pub calls-sound : (cs : List Call) (r : Recording) → Sound r → Sound (afterAll cs r)
-calls-sound [] r s = s
-calls-sound (c ∷ cs) r s = calls-sound cs (after c r) (keeps-sound c r s)
+pub calls_sound : (cs : List Call) (r : Recording) → Sound r → Sound (after_all cs r)
+calls_sound [] r s = s
+calls_sound (c ∷ cs) r s = calls_sound cs (after c r) (keeps_sound c r s)
 
 -- What calls and growth make of a sound recording is sound.
-pub leads-sound : (r s : Recording) → Leads r s → Sound r → Sound s
-leads-sound r s here sound = sound
-leads-sound r s (calls c t before) sound = keeps-sound c t (leads-sound r t before sound)
-leads-sound r s (grows t u before growth) sound = keeps-growth t u growth (leads-sound r t before sound)
+pub leads_sound : (r s : Recording) → Leads r s → Sound r → Sound s
+leads_sound r s here sound = sound
+leads_sound r s (calls c t before) sound = keeps_sound c t (leads_sound r t before sound)
+leads_sound r s (grows t u before growth) sound = keeps_growth t u growth (leads_sound r t before sound)
 
 module _ (code labels events uses refs constants asked relocs : List ℕ) where
-  abbrev with-tables : CodeBuffer → Recording
-  with-tables b =
+  abbrev with_tables : CodeBuffer → Recording
+  with_tables b =
       record {
         buffer = b;
         code = code;
@@ -80,7 +80,7 @@ module _ (code labels events uses refs constants asked relocs : List ℕ) where
       }
 
   -- where nothing is counted, nothing is unsound
-  empty-sound : (arch symbols : ℕ) → Sound (with-tables (record {
+  empty_sound : (arch symbols : ℕ) → Sound (with_tables (record {
     arch = arch;
     symbols = symbols;
     finished = 0;
@@ -95,7 +95,7 @@ module _ (code labels events uses refs constants asked relocs : List ℕ) where
     relocs = 0;
     unresolved = 0;
   }))
-  empty-sound arch symbols =
+  empty_sound arch symbols =
       record {
         code = record { room = omega arith; limit = omega arith };
         labels = record { room = omega arith; limit = omega arith; entry = λ i l. absurd (not-suc-le-zero l) };
@@ -113,13 +113,13 @@ module _ (code labels events uses refs constants asked relocs : List ℕ) where
         relocs = record { room = omega arith; entry = λ i l. absurd (not-suc-le-zero l) };
       }
 
-  pub begun-sound : (arch symbols : ℕ) → Sound (begun arch symbols code labels events uses refs constants asked relocs)
+  pub begun_sound : (arch symbols : ℕ) → Sound (begun arch symbols code labels events uses refs constants asked relocs)
   unfolding started
-  begun-sound arch symbols = either _ (λ (a : Recorded). Sound (with-tables a.buffer)) _ _ (empty-sound arch symbols) (empty-sound 0 0)
+  begun_sound arch symbols = either _ (λ (a : Recorded). Sound (with_tables a.buffer)) _ _ (empty_sound arch symbols) (empty_sound 0 0)
 
 -- From start on, every sequence of calls and growth leaves a recording whose entries are all such as finish accepts: number 1 is never answered for an
 -- entry.
-pub recordings-are-sound : (arch symbols : ℕ) (code labels events uses refs constants asked relocs : List ℕ) (r : Recording)
+pub recordings_are_sound : (arch symbols : ℕ) (code labels events uses refs constants asked relocs : List ℕ) (r : Recording)
     → Leads (begun arch symbols code labels events uses refs constants asked relocs) r → Sound r
-recordings-are-sound arch symbols code labels events uses refs constants asked relocs r made =
-    leads-sound _ r made (begun-sound code labels events uses refs constants asked relocs arch symbols)
+recordings_are_sound arch symbols code labels events uses refs constants asked relocs r made =
+    leads_sound _ r made (begun_sound code labels events uses refs constants asked relocs arch symbols)

@@ -1,7 +1,7 @@
 -- A recording as a whole, its counts and its tables, and a sequence of calls on it.
 use Rattle.std.specs.Prelude.{List, [], ◌∷◌, ℕ, ◌<◌}
 use Rattle.buffer.specs.declared.CodeBuffer.{CodeBuffer}
-use Rattle.buffer.specs.Calls.{started, putBytes, getLabel, bindLabel, alignTo, useLabel, recordRef, recordJump, addConstant, constantLabel, addReloc}
+use Rattle.buffer.specs.Calls.{started, put_bytes, get_label, bind_label, align_to, use_label, record_ref, record_jump, add_constant, constant_label, add_reloc}
 
 pub record Recording : Type 0 where
   pub buffer : CodeBuffer
@@ -25,84 +25,84 @@ pub record Word64 : Type 0 where
 
 pub data Call : Type 0 where
   bytes : List ℕ → Call
-  newLabel : Call
+  new_label : Call
   bind : Word → Call
   -- multiple, most
   align : Word → Word → Call
   -- offset, label, code
-  use-label : Word → Word → Word → Call
+  use_label_lem : Word → Word → Word → Call
   -- offset, label, code, addend
   ref : Word → Word → Word → Word → Call
   -- start, length, label, condition
   jump : Word → Word → Word → Word → Call
   constant : List ℕ → Call
-  constant-label : Word → Call
+  constant_label_lem : Word → Call
   -- offset, kind, target, addend
   relocation : Word → Word → Word → Word64 → Call
 
-abbrev pub withBuffer : Recording → CodeBuffer → Recording
-withBuffer r b = record { buffer = b; code = r.code; labels = r.labels; events = r.events; uses = r.uses; refs = r.refs; constants = r.constants; asked = r.asked; relocs = r.relocs }
+abbrev pub with_buffer : Recording → CodeBuffer → Recording
+with_buffer r b = record { buffer = b; code = r.code; labels = r.labels; events = r.events; uses = r.uses; refs = r.refs; constants = r.constants; asked = r.asked; relocs = r.relocs }
 
-abbrev pub withCodeTable : Recording → CodeBuffer → List ℕ → Recording
-withCodeTable r b t = record { buffer = b; code = t; labels = r.labels; events = r.events; uses = r.uses; refs = r.refs; constants = r.constants; asked = r.asked; relocs = r.relocs }
+abbrev pub with_code_table : Recording → CodeBuffer → List ℕ → Recording
+with_code_table r b t = record { buffer = b; code = t; labels = r.labels; events = r.events; uses = r.uses; refs = r.refs; constants = r.constants; asked = r.asked; relocs = r.relocs }
 
-abbrev pub withLabelTable : Recording → CodeBuffer → List ℕ → Recording
-withLabelTable r b t = record { buffer = b; code = r.code; labels = t; events = r.events; uses = r.uses; refs = r.refs; constants = r.constants; asked = r.asked; relocs = r.relocs }
+abbrev pub with_label_table : Recording → CodeBuffer → List ℕ → Recording
+with_label_table r b t = record { buffer = b; code = r.code; labels = t; events = r.events; uses = r.uses; refs = r.refs; constants = r.constants; asked = r.asked; relocs = r.relocs }
 
-abbrev pub withEventTable : Recording → CodeBuffer → List ℕ → Recording
-withEventTable r b t = record { buffer = b; code = r.code; labels = r.labels; events = t; uses = r.uses; refs = r.refs; constants = r.constants; asked = r.asked; relocs = r.relocs }
+abbrev pub with_event_table : Recording → CodeBuffer → List ℕ → Recording
+with_event_table r b t = record { buffer = b; code = r.code; labels = r.labels; events = t; uses = r.uses; refs = r.refs; constants = r.constants; asked = r.asked; relocs = r.relocs }
 
-abbrev pub withUseTable : Recording → CodeBuffer → List ℕ → Recording
-withUseTable r b t = record { buffer = b; code = r.code; labels = r.labels; events = r.events; uses = t; refs = r.refs; constants = r.constants; asked = r.asked; relocs = r.relocs }
+abbrev pub with_use_table : Recording → CodeBuffer → List ℕ → Recording
+with_use_table r b t = record { buffer = b; code = r.code; labels = r.labels; events = r.events; uses = t; refs = r.refs; constants = r.constants; asked = r.asked; relocs = r.relocs }
 
-abbrev pub withRefTable : Recording → CodeBuffer → List ℕ → Recording
-withRefTable r b t = record { buffer = b; code = r.code; labels = r.labels; events = r.events; uses = r.uses; refs = t; constants = r.constants; asked = r.asked; relocs = r.relocs }
+abbrev pub with_ref_table : Recording → CodeBuffer → List ℕ → Recording
+with_ref_table r b t = record { buffer = b; code = r.code; labels = r.labels; events = r.events; uses = r.uses; refs = t; constants = r.constants; asked = r.asked; relocs = r.relocs }
 
-abbrev pub withConstantTable : Recording → CodeBuffer → List ℕ → Recording
-withConstantTable r b t = record { buffer = b; code = r.code; labels = r.labels; events = r.events; uses = r.uses; refs = r.refs; constants = t; asked = r.asked; relocs = r.relocs }
+abbrev pub with_constant_table : Recording → CodeBuffer → List ℕ → Recording
+with_constant_table r b t = record { buffer = b; code = r.code; labels = r.labels; events = r.events; uses = r.uses; refs = r.refs; constants = t; asked = r.asked; relocs = r.relocs }
 
-abbrev pub withAskedTable : Recording → List ℕ → Recording
-withAskedTable r t = record { buffer = r.buffer; code = r.code; labels = r.labels; events = r.events; uses = r.uses; refs = r.refs; constants = r.constants; asked = t; relocs = r.relocs }
+abbrev pub with_asked_table : Recording → List ℕ → Recording
+with_asked_table r t = record { buffer = r.buffer; code = r.code; labels = r.labels; events = r.events; uses = r.uses; refs = r.refs; constants = r.constants; asked = t; relocs = r.relocs }
 
-abbrev pub withRelocTable : Recording → CodeBuffer → List ℕ → Recording
-withRelocTable r b t = record { buffer = b; code = r.code; labels = r.labels; events = r.events; uses = r.uses; refs = r.refs; constants = r.constants; asked = r.asked; relocs = t }
+abbrev pub with_reloc_table : Recording → CodeBuffer → List ℕ → Recording
+with_reloc_table r b t = record { buffer = b; code = r.code; labels = r.labels; events = r.events; uses = r.uses; refs = r.refs; constants = r.constants; asked = r.asked; relocs = t }
 
 -- the recording after one call, as the call's contract has it
 abbrev pub after : Call → Recording → Recording
-after (bytes l) r = let a = putBytes r.buffer r.code l in withCodeTable r a.0.buffer a.1
-after newLabel r = let a = getLabel r.buffer r.labels in withLabelTable r a.0.buffer a.1
+after (bytes l) r = let a = put_bytes r.buffer r.code l in with_code_table r a.0.buffer a.1
+after new_label r = let a = get_label r.buffer r.labels in with_label_table r a.0.buffer a.1
 after (bind l) r =
-    let a = bindLabel r.buffer r.labels r.events r.uses r.refs r.relocs l.value in withLabelTable r a.0.buffer a.1
+    let a = bind_label r.buffer r.labels r.events r.uses r.refs r.relocs l.value in with_label_table r a.0.buffer a.1
 after (align m k) r =
-    let a = alignTo r.buffer r.code r.events m.value k.value in
-    withEventTable (withCodeTable r a.0.buffer a.1.0) a.0.buffer a.1.1
-after (use-label o l c) r = let a = useLabel r.buffer r.labels r.uses o.value l.value c.value in withUseTable r a.0.buffer a.1
-after (ref o l c d) r = let a = recordRef r.buffer r.labels r.refs o.value l.value c.value d.value in withRefTable r a.0.buffer a.1
+    let a = align_to r.buffer r.code r.events m.value k.value in
+    with_event_table (with_code_table r a.0.buffer a.1.0) a.0.buffer a.1.1
+after (use_label_lem o l c) r = let a = use_label r.buffer r.labels r.uses o.value l.value c.value in with_use_table r a.0.buffer a.1
+after (ref o l c d) r = let a = record_ref r.buffer r.labels r.refs o.value l.value c.value d.value in with_ref_table r a.0.buffer a.1
 after (jump s n l c) r =
-    let a = recordJump r.buffer r.labels r.events s.value n.value l.value c.value in withEventTable r a.0.buffer a.1
-after (constant l) r = let a = addConstant r.buffer r.constants l in withConstantTable r a.0.buffer a.1
-after (constant-label n) r =
-    let a = constantLabel r.buffer r.constants r.asked r.labels n.value in
-    withLabelTable (withAskedTable (withConstantTable r a.0.buffer a.1.0) a.1.1.0) a.0.buffer a.1.1.1
-after (relocation o k t d) r = let a = addReloc r.buffer r.labels r.relocs o.value k.value t.value d.value in withRelocTable r a.0.buffer a.1
+    let a = record_jump r.buffer r.labels r.events s.value n.value l.value c.value in with_event_table r a.0.buffer a.1
+after (constant l) r = let a = add_constant r.buffer r.constants l in with_constant_table r a.0.buffer a.1
+after (constant_label_lem n) r =
+    let a = constant_label r.buffer r.constants r.asked r.labels n.value in
+    with_label_table (with_asked_table (with_constant_table r a.0.buffer a.1.0) a.1.1.0) a.0.buffer a.1.1.1
+after (relocation o k t d) r = let a = add_reloc r.buffer r.labels r.relocs o.value k.value t.value d.value in with_reloc_table r a.0.buffer a.1
 
 -- the number that the call answers, 0 where it is not turned down
 abbrev pub answered : Call → Recording → ℕ
-answered (bytes l) r = (putBytes r.buffer r.code l).0.refusal
-answered newLabel r = (getLabel r.buffer r.labels).0.refusal
-answered (bind l) r = (bindLabel r.buffer r.labels r.events r.uses r.refs r.relocs l.value).0.refusal
-answered (align m k) r = (alignTo r.buffer r.code r.events m.value k.value).0.refusal
-answered (use-label o l c) r = (useLabel r.buffer r.labels r.uses o.value l.value c.value).0.refusal
-answered (ref o l c d) r = (recordRef r.buffer r.labels r.refs o.value l.value c.value d.value).0.refusal
-answered (jump s n l c) r = (recordJump r.buffer r.labels r.events s.value n.value l.value c.value).0.refusal
-answered (constant l) r = (addConstant r.buffer r.constants l).0.refusal
-answered (constant-label n) r = (constantLabel r.buffer r.constants r.asked r.labels n.value).0.refusal
-answered (relocation o k t d) r = (addReloc r.buffer r.labels r.relocs o.value k.value t.value d.value).0.refusal
+answered (bytes l) r = (put_bytes r.buffer r.code l).0.refusal
+answered new_label r = (get_label r.buffer r.labels).0.refusal
+answered (bind l) r = (bind_label r.buffer r.labels r.events r.uses r.refs r.relocs l.value).0.refusal
+answered (align m k) r = (align_to r.buffer r.code r.events m.value k.value).0.refusal
+answered (use_label_lem o l c) r = (use_label r.buffer r.labels r.uses o.value l.value c.value).0.refusal
+answered (ref o l c d) r = (record_ref r.buffer r.labels r.refs o.value l.value c.value d.value).0.refusal
+answered (jump s n l c) r = (record_jump r.buffer r.labels r.events s.value n.value l.value c.value).0.refusal
+answered (constant l) r = (add_constant r.buffer r.constants l).0.refusal
+answered (constant_label_lem n) r = (constant_label r.buffer r.constants r.asked r.labels n.value).0.refusal
+answered (relocation o k t d) r = (add_reloc r.buffer r.labels r.relocs o.value k.value t.value d.value).0.refusal
 
 -- and after a sequence of them
-abbrev pub afterAll : List Call → Recording → Recording
-afterAll [] r = r
-afterAll (c ∷ cs) r = afterAll cs (after c r)
+abbrev pub after_all : List Call → Recording → Recording
+after_all [] r = r
+after_all (c ∷ cs) r = after_all cs (after c r)
 
 -- a new recording, with tables of any contents
 abbrev pub begun : ℕ → ℕ → List ℕ → List ℕ → List ℕ → List ℕ → List ℕ → List ℕ → List ℕ → List ℕ → Recording

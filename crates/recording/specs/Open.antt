@@ -5,41 +5,41 @@ use Rattle.seqs.specs.Counting.{count}
 use Rattle.seqs.specs.Every.{every}
 use Rattle.relax.specs.declared.LayoutEvent.{LayoutEvent}
 use Rattle.relax.specs.declared.LayoutEvent.TheVariants.{Jump, Align, Far}
-use Rattle.buffer.specs.State.{none, labelTarget}
+use Rattle.buffer.specs.State.{none, label_target}
 use Rattle.recording.specs.View.{Use, Ref, Relocation, View}
 
 -- Whether the label that an entry names has a property: of a use and of a ref; of an event that is a jump or a branch; of a relocation whose target is a label's, from
 -- 2^31 on.
-abbrev pub useNames : (ℕ → Bool) → Use → Bool
-useNames f u = f u.label
+abbrev pub use_names : (ℕ → Bool) → Use → Bool
+use_names f u = f u.label
 
-abbrev pub refNames : (ℕ → Bool) → Ref → Bool
-refNames f r = f r.label
+abbrev pub ref_names : (ℕ → Bool) → Ref → Bool
+ref_names f r = f r.label
 
-abbrev pub jumpNames : (ℕ → Bool) → LayoutEvent → Bool
-jumpNames f (Jump j) = f j.label
-jumpNames f (Align a) = false
-jumpNames f (Far b) = f b.label
+abbrev pub jump_names : (ℕ → Bool) → LayoutEvent → Bool
+jump_names f (Jump j) = f j.label
+jump_names f (Align a) = false
+jump_names f (Far b) = f b.label
 
 abbrev pub target_names : (ℕ → Bool) → Relocation → Bool
-target_names f l = leb labelTarget l.target && f (l.target - labelTarget)
+target_names f l = leb label_target l.target && f (l.target - label_target)
 
 -- how many entries name a label that has it
 unfoldable pub naming : (ℕ → Bool) → View → ℕ
-naming f v = count (useNames f) v.uses + count (refNames f) v.refs + count (target_names f) v.relocs + count (jumpNames f) v.events
+naming f v = count (use_names f) v.uses + count (ref_names f) v.refs + count (target_names f) v.relocs + count (jump_names f) v.events
 
 -- a label that is not bound, or unknown
-abbrev pub isOpen : List ℕ → ℕ → Bool
-isOpen labels label = eqb (get_or labels label none) none
+abbrev pub is_open : List ℕ → ℕ → Bool
+is_open labels label = eqb (get_or labels label none) none
 
 -- the count over the tables
-abbrev pub openOf : View → ℕ
-openOf v = naming (isOpen v.labels) v
+abbrev pub open_of : View → ℕ
+open_of v = naming (is_open v.labels) v
 
 -- the label of a constant that was asked for
-abbrev pub isPooled : View → ℕ → Bool
-isPooled v label = not (every (λ (n : ℕ). not (eqb (get_or v.constants n (record { bytes = []; label = none })).label label)) v.asked)
+abbrev pub is_pooled : View → ℕ → Bool
+is_pooled v label = not (every (λ (n : ℕ). not (eqb (get_or v.constants n (record { bytes = []; label = none })).label label)) v.asked)
 
 -- "the entries which their labels settle", the pooled constants'
-abbrev pub settledBy : View → ℕ
-settledBy v = naming (isPooled v) v
+abbrev pub settled_by : View → ℕ
+settled_by v = naming (is_pooled v) v

@@ -1,6 +1,6 @@
 // `LayoutEvent`: the jumps and alignments of a recording, and the table of bytes that they stand in. After asmkit's core/relax.rs (see NOTICE).
 ghost use Rattle.std.specs.Prelude.{◌≡◌, ◌+◌, ◌*◌, ◌≤◌, length};
-ghost use Rattle.relax.specs.Events.{conditionOf, namesLabel, longLen, eventAt, setEvent, start_of, end_of, eventSize};
+ghost use Rattle.relax.specs.Events.{condition_of, names_label, long_len, event_at, set_event, start_of, end_of, event_size};
 
 // When a jump is taken.
 #[derive(Drop)]
@@ -30,7 +30,7 @@ pub const MOST_JUMP: u32 = 15;
 impl RelaxableJump {
     // The bytes of its long form: `E9 rel32` or `0F 8x rel32`.
     pub fn long_len(self) -> u32
-        ensures { result ≡ longLen self.cc }
+        ensures { result ≡ long_len self.cc }
     {
         let cc = self.cc;
         match cc {
@@ -87,7 +87,7 @@ pub struct Segment {
 pub const NO_CONDITION: u32 = 16;
 
 fn condition_of(n: u32) -> Condition
-    ensures { result ≡ conditionOf n }
+    ensures { result ≡ condition_of n }
 {
     if n == NO_CONDITION {
         return Condition::Always;
@@ -108,7 +108,7 @@ pub const BRANCH: u32 = 3;
 
 // Whether an entry of this kind names a label.
 pub fn names_label(kind: u32) -> bool
-    ensures { result ≡ namesLabel kind }
+    ensures { result ≡ names_label kind }
 {
     if kind == JUMP {
         return true;
@@ -119,8 +119,8 @@ pub fn names_label(kind: u32) -> bool
 // Event `i` of the table. An entry is kind (`JUMP`, `BRANCH`, else an alignment), start, length, label or multiple, condition, code or the most bytes of
 // padding.
 pub fn event_at(events: &[u8], i: usize) -> LayoutEvent
-    requires { i * eventSize + eventSize ≤ length events.now }
-    ensures { result ≡ eventAt events.now i }
+    requires { i * event_size + event_size ≤ length events.now }
+    ensures { result ≡ event_at events.now i }
 {
     let k = i * EVENT_WORDS;
     let kind = words::word_at(events, k);
@@ -155,8 +155,8 @@ pub fn event_at(events: &[u8], i: usize) -> LayoutEvent
 
 // Writes entry `i` of the table.
 pub fn put_event(events: &mut [u8], i: usize, kind: u32, start: u32, len: u32, what: u32, how: u32)
-    requires { i * eventSize + eventSize ≤ length events.old }
-    ensures { events.new ≡ setEvent events.old i kind start len what how }
+    requires { i * event_size + event_size ≤ length events.old }
+    ensures { events.new ≡ set_event events.old i kind start len what how }
 {
     let k = i * EVENT_WORDS;
     words::put_word(events, k, kind);

@@ -1,4 +1,4 @@
--- Laws of `howMany` and `count`.
+-- Laws of `how_many` and `count`.
 use mathlib.Core.Path.{◌≡◌, refl}
 use mathlib.Core.Bool.{Bool, true, false, not, ◌&&◌}
 use mathlib.Core.List.{List, [], ◌∷◌, ◌++◌}
@@ -8,43 +8,43 @@ use native.Mathlib.Omega.{arith}
 use borrow.Author.Tests.{ne_eqb}
 use lib.Dec.{eqb}
 use lib.ListN.{length}
-use Rattle.seqs.specs.Counting.{one, howMany, count}
+use Rattle.seqs.specs.Counting.{one, how_many, count}
 use Rattle.seqs.specs.Every.{every}
 use Rattle.seqs.specs.Pick.{pick}
 
-pub one-le : (t : Bool) → one t ≤ 1
+pub one_le : (t : Bool) → one t ≤ 1
 unfolding pick
-one-le true = omega arith
-one-le false = omega arith
+one_le true = omega arith
+one_le false = omega arith
 
-pub none-counted : (f : ℕ → Bool) → howMany f 0 ≡ 0
-unfolding howMany
-none-counted f = refl
+pub none_counted : (f : ℕ → Bool) → how_many f 0 ≡ 0
+unfolding how_many
+none_counted f = refl
 
-pub one-counted : (f : ℕ → Bool) (i : ℕ) → howMany f (i + 1) ≡ howMany f i + one (f i)
-unfolding howMany
-one-counted f i = rw (add-one i)
+pub one_counted : (f : ℕ → Bool) (i : ℕ) → how_many f (i + 1) ≡ how_many f i + one (f i)
+unfolding how_many
+one_counted f i = rw (add-one i)
 
-pub howMany-le : (f : ℕ → Bool) (n : ℕ) → howMany f n ≤ n
-unfolding howMany
-howMany-le f zero = omega arith
-howMany-le f (suc n) = omega (arith, howMany-le f n, one-le (f n))
+pub how_many_le : (f : ℕ → Bool) (n : ℕ) → how_many f n ≤ n
+unfolding how_many
+how_many_le f zero = omega arith
+how_many_le f (suc n) = omega (arith, how_many_le f n, one_le (f n))
 
 module _ {A : Type 0} where
-  pub count-append : (f : A → Bool) (xs ys : List A) → count f (xs ++ ys) ≡ count f xs + count f ys
+  pub count_append : (f : A → Bool) (xs ys : List A) → count f (xs ++ ys) ≡ count f xs + count f ys
   unfolding count
-  count-append f [] ys = omega arith
-  count-append f (x ∷ xs) ys = rw (count-append f xs ys) (omega arith)
+  count_append f [] ys = omega arith
+  count_append f (x ∷ xs) ys = rw (count_append f xs ys) (omega arith)
 
   -- one entry more
-  pub count-more : (f : A → Bool) (xs : List A) (x : A) → count f (xs ++ (x ∷ [])) ≡ count f xs + one (f x)
+  pub count_more : (f : A → Bool) (xs : List A) (x : A) → count f (xs ++ (x ∷ [])) ≡ count f xs + one (f x)
   unfolding count
-  count-more f xs x = omega (arith, count-append f xs (x ∷ []))
+  count_more f xs x = omega (arith, count_append f xs (x ∷ []))
 
-  pub count-le : (f : A → Bool) (xs : List A) → count f xs ≤ length xs
+  pub count_le : (f : A → Bool) (xs : List A) → count f xs ≤ length xs
   unfolding count
-  count-le f [] = omega arith
-  count-le f (x ∷ xs) = omega (arith, count-le f xs, one-le (f x))
+  count_le f [] = omega arith
+  count_le f (x ∷ xs) = omega (arith, count_le f xs, one_le (f x))
 
   pub count_same : (f g : A → Bool) → ((x : A) → f x ≡ g x) → (xs : List A) → count f xs ≡ count g xs
   unfolding count
@@ -52,10 +52,10 @@ module _ {A : Type 0} where
   count_same f g same (x ∷ xs) = rw (same x, count_same f g same xs)
 
   -- a property that is one of two, never both
-  pub count-sum : (f g h : A → Bool) → ((x : A) → one (f x) ≡ one (g x) + one (h x)) → (xs : List A) → count f xs ≡ count g xs + count h xs
+  pub count_sum : (f g h : A → Bool) → ((x : A) → one (f x) ≡ one (g x) + one (h x)) → (xs : List A) → count f xs ≡ count g xs + count h xs
   unfolding count
-  count-sum f g h sums [] = refl
-  count-sum f g h sums (x ∷ xs) = omega (arith, sums x, count-sum f g h sums xs)
+  count_sum f g h sums [] = refl
+  count_sum f g h sums (x ∷ xs) = omega (arith, sums x, count_sum f g h sums xs)
 
   -- none has it just where every entry has it not
   pub count_none : (f : A → Bool) (xs : List A) → eqb (count f xs) 0 ≡ every (λ (x : A). not (f x)) xs

@@ -10,12 +10,12 @@ lt_by : (a b : ℕ) (t : Bool) → ltb a b ≡ t → (a < b) ⊎ (b ≤ a)
 lt_by a b true e = inl (ltb-true a b e)
 lt_by a b false e = inr (ltb-false a b e)
 
-pub lt-or-ge : (a b : ℕ) → (a < b) ⊎ (b ≤ a)
-lt-or-ge a b = lt_by a b (ltb a b) refl
+pub lt_or_ge : (a b : ℕ) → (a < b) ⊎ (b ≤ a)
+lt_or_ge a b = lt_by a b (ltb a b) refl
 
-eq-by : (a b : ℕ) (t : Bool) → eqb a b ≡ t → (a ≡ b) ⊎ (a ≢ b)
-eq-by a b true e = inl (eqb-true a b e)
-eq-by a b false e = inr (eqb-false a b e)
+eq_by : (a b : ℕ) (t : Bool) → eqb a b ≡ t → (a ≡ b) ⊎ (a ≢ b)
+eq_by a b true e = inl (eqb-true a b e)
+eq_by a b false e = inr (eqb-false a b e)
 
-pub eq-or-ne : (a b : ℕ) → (a ≡ b) ⊎ (a ≢ b)
-eq-or-ne a b = eq-by a b (eqb a b) refl
+pub eq_or_ne : (a b : ℕ) → (a ≡ b) ⊎ (a ≢ b)
+eq_or_ne a b = eq_by a b (eqb a b) refl

@@ -16,10 +16,10 @@ module _ {A : Type 0} where
   unfolding pick
   pick_no t x y e = rw e
 
-  pub pick-either : (P : A → Type 0) (t : Bool) (x y : A) → P x → P y → P (pick t x y)
+  pub pick_either : (P : A → Type 0) (t : Bool) (x y : A) → P x → P y → P (pick t x y)
   unfolding pick
-  pick-either P true x y a b = a
-  pick-either P false x y a b = b
+  pick_either P true x y a b = a
+  pick_either P false x y a b = b
 
   pub yes_lt : (a b : ℕ) (x y : A) → a < b → pick (ltb a b) x y ≡ x
   yes_lt a b x y h = pick_yes (ltb a b) x y (lt-ltb a b h)
@@ -33,26 +33,26 @@ module _ {A : Type 0} where
   pub no_le : (a b : ℕ) (x y : A) → b < a → pick (leb a b) x y ≡ y
   no_le a b x y h = pick_no (leb a b) x y (lt-leb a b h)
 
-  pub yes-eq : (a b : ℕ) (x y : A) → a ≡ b → pick (eqb a b) x y ≡ x
-  yes-eq a b x y h = pick_yes (eqb a b) x y (eq-eqb a b h)
+  pub yes_eq : (a b : ℕ) (x y : A) → a ≡ b → pick (eqb a b) x y ≡ x
+  yes_eq a b x y h = pick_yes (eqb a b) x y (eq-eqb a b h)
 
   pub no_eq : (a b : ℕ) (x y : A) → a ≢ b → pick (eqb a b) x y ≡ y
   no_eq a b x y h = pick_no (eqb a b) x y (ne_eqb a b h)
 
-  pub yes-ne : (a b : ℕ) (x y : A) → a ≢ b → pick (not (eqb a b)) x y ≡ x
-  yes-ne a b x y h = pick_yes (not (eqb a b)) x y (rw (ne_eqb a b h))
+  pub yes_ne : (a b : ℕ) (x y : A) → a ≢ b → pick (not (eqb a b)) x y ≡ x
+  yes_ne a b x y h = pick_yes (not (eqb a b)) x y (rw (ne_eqb a b h))
 
-  pub no-ne : (a b : ℕ) (x y : A) → a ≡ b → pick (not (eqb a b)) x y ≡ y
-  no-ne a b x y h = pick_no (not (eqb a b)) x y (rw (eq-eqb a b h))
+  pub no_ne : (a b : ℕ) (x y : A) → a ≡ b → pick (not (eqb a b)) x y ≡ y
+  no_ne a b x y h = pick_no (not (eqb a b)) x y (rw (eq-eqb a b h))
 
-  pub yes-not : (t : Bool) (x y : A) → t ≡ false → pick (not t) x y ≡ x
-  yes-not t x y h = pick_yes (not t) x y (rw h)
+  pub yes_not : (t : Bool) (x y : A) → t ≡ false → pick (not t) x y ≡ x
+  yes_not t x y h = pick_yes (not t) x y (rw h)
 
-  pub no-not : (t : Bool) (x y : A) → t ≡ true → pick (not t) x y ≡ y
-  no-not t x y h = pick_no (not t) x y (rw h)
+  pub no_not : (t : Bool) (x y : A) → t ≡ true → pick (not t) x y ≡ y
+  no_not t x y h = pick_no (not t) x y (rw h)
 
 -- a chain of tests is followed by these: each is put where its premise, the fact of a branch, is found
-pub ruleset picks = (yes_lt, no_lt, yes_le, no_le, yes-eq, no_eq, yes-ne, no-ne, pick_yes, pick_no)
+pub ruleset picks = (yes_lt, no_lt, yes_le, no_le, yes_eq, no_eq, yes_ne, no_ne, pick_yes, pick_no)
 
 -- a chain that answers 0 passed its first test
 pub passed : (t : Bool) (n rest : ℕ) → n ≢ 0 → pick t n rest ≡ 0 → (t ≡ false) × (rest ≡ 0)
@@ -70,9 +70,9 @@ neither n m e = by (eqb n 0) refl e
     by false q p = absurd (eqb-false n 0 q p)
 
 -- a test that answers a number where it is not 0
-pub zero-passed : (n rest : ℕ) → pick (not (eqb n 0)) n rest ≡ 0 → (n ≡ 0) × (rest ≡ 0)
+pub zero_passed : (n rest : ℕ) → pick (not (eqb n 0)) n rest ≡ 0 → (n ≡ 0) × (rest ≡ 0)
 unfolding pick
-zero-passed n rest e = by (eqb n 0) refl e
+zero_passed n rest e = by (eqb n 0) refl e
   where
     by : (t : Bool) → eqb n 0 ≡ t → pick (not t) n rest ≡ 0 → (n ≡ 0) × (rest ≡ 0)
     by true q p = (eqb-true n 0 q, p)

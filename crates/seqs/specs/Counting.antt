@@ -8,9 +8,9 @@ abbrev pub one : Bool → ℕ
 one t = pick t 1 0
 
 -- how many of 0, 1, .. n - 1 have it
-unfoldable pub howMany : (ℕ → Bool) → ℕ → ℕ
-howMany f zero = 0
-howMany f (suc n) = howMany f n + one (f n)
+unfoldable pub how_many : (ℕ → Bool) → ℕ → ℕ
+how_many f zero = 0
+how_many f (suc n) = how_many f n + one (f n)
 
 -- how many entries have it
 unfoldable pub count : {A : Type 0} → (A → Bool) → List A → ℕ

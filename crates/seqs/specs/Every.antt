@@ -1,4 +1,4 @@
--- A test that holds of many: of every entry of a list, of every number below a count. Of the entries of a table they agree: `every-entries`
+-- A test that holds of many: of every entry of a list, of every number below a count. Of the entries of a table they agree: `every_entries`
 -- (recording/proofs/Views).
 use Rattle.std.specs.Prelude.{Bool, true, ◌&&◌, List, [], ◌∷◌, ℕ, zero, suc}
 

@@ -7,77 +7,77 @@ use Prim.Native.Nat.{ℕ, suc, ◌+◌, ◌*◌, ◌-◌, ◌≤◌, ◌<◌}
 use native.Mathlib.Numerals.{add-one}
 use lib.ListN.{length, get_or, take, drop, drop_of_length-le}
 use lib.Seq.{drop-cons}
-use Rattle.seqs.proofs.Picking.{pick_yes, pick_no, yes-eq, no_eq, yes_lt, no_lt}
+use Rattle.seqs.proofs.Picking.{pick_yes, pick_no, yes_eq, no_eq, yes_lt, no_lt}
 use Rattle.words.specs.Words.{word_at}
 use Rattle.buffer.specs.Refusals.{standing}
 use Rattle.recording.specs.Calls.{Recording, Call, answered}
-use Rattle.checks.specs.Lent.{countsFit, withinLimits}
-use Rattle.sheet_form.specs.Form.{isWhole, kindsOf, argumentsOf, firstBroken, argumentSize}
-use Rattle.sheet.specs.Run.{call_of, calls_of, called, runCalls, runSheet}
-use Rattle.sheet_form.proofs.Forming.{next-arguments}
-use Rattle.sheet_form.proofs.Parts.{kinds-part, arguments-part}
+use Rattle.checks.specs.Lent.{counts_fit, within_limits}
+use Rattle.sheet_form.specs.Form.{is_whole, kinds_of, arguments_of, first_broken, argument_size}
+use Rattle.sheet.specs.Run.{call_of, calls_of, called, run_calls, run_sheet}
+use Rattle.sheet_form.proofs.Forming.{next_arguments}
+use Rattle.sheet_form.proofs.Parts.{kinds_part, arguments_part}
 
-module _ (kinds arguments : List ℕ) (i : ℕ) (r : Recording) (total : (ℕ × ℕ) × Recording) (so_far : runCalls (calls_of (drop i kinds) (drop (i * argumentSize) arguments)) i r ≡ total) where
+module _ (kinds arguments : List ℕ) (i : ℕ) (r : Recording) (total : (ℕ × ℕ) × Recording) (so_far : run_calls (calls_of (drop i kinds) (drop (i * argument_size) arguments)) i r ≡ total) where
   abbrev call : Call
-  call = call_of (get_or kinds i 0) (take argumentSize (drop (i * argumentSize) arguments))
+  call = call_of (get_or kinds i 0) (take argument_size (drop (i * argument_size) arguments))
 
   abbrev rest : List Call
-  rest = calls_of (drop (i + 1) kinds) (drop ((i + 1) * argumentSize) arguments)
+  rest = calls_of (drop (i + 1) kinds) (drop ((i + 1) * argument_size) arguments)
 
-  next-call : i < length kinds → calls_of (drop i kinds) (drop (i * argumentSize) arguments) ≡ call ∷ rest
+  next_call : i < length kinds → calls_of (drop i kinds) (drop (i * argument_size) arguments) ≡ call ∷ rest
   unfolding calls_of
-  next-call h =
-      ap (λ l. calls_of l (drop (i * argumentSize) arguments)) (drop-cons kinds i 0 h)
-      ∙ (ap (λ l. call ∷ calls_of (drop (suc i) kinds) l) (next-arguments kinds arguments i)
-      ∙ ap (λ (n : ℕ). call ∷ calls_of (drop n kinds) (drop ((i + 1) * argumentSize) arguments)) (sym (add-one i)))
+  next_call h =
+      ap (λ l. calls_of l (drop (i * argument_size) arguments)) (drop-cons kinds i 0 h)
+      ∙ (ap (λ l. call ∷ calls_of (drop (suc i) kinds) l) (next_arguments kinds arguments i)
+      ∙ ap (λ (n : ℕ). call ∷ calls_of (drop n kinds) (drop ((i + 1) * argument_size) arguments)) (sym (add-one i)))
 
   -- a call that is accepted goes on to the next
-  pub run-again : (refusal : ℕ) (r' : Recording) → i < length kinds → (refusal, r') ≡ called call r → refusal ≡ 0 → runCalls rest (i + 1) r' ≡ total
-  unfolding runCalls
-  run-again refusal r' h e zero-refusal =
+  pub run_again : (refusal : ℕ) (r' : Recording) → i < length kinds → (refusal, r') ≡ called call r → refusal ≡ 0 → run_calls rest (i + 1) r' ≡ total
+  unfolding run_calls
+  run_again refusal r' h e zero-refusal =
       let accepted : answered call r ≡ 0 = sym (ap (λ (a : ℕ × Recording). a.0) e) ∙ zero-refusal in
-      ap (λ (n : ℕ). runCalls rest n r') (add-one i)
-      ∙ (ap (λ (a : ℕ × Recording). runCalls rest (suc i) a.1) e
-      ∙ (sym (yes-eq _ 0 _ _ accepted) ∙ (ap (λ cs. runCalls cs i r) (sym (next-call h)) ∙ so_far)))
+      ap (λ (n : ℕ). run_calls rest n r') (add-one i)
+      ∙ (ap (λ (a : ℕ × Recording). run_calls rest (suc i) a.1) e
+      ∙ (sym (yes_eq _ 0 _ _ accepted) ∙ (ap (λ cs. run_calls cs i r) (sym (next_call h)) ∙ so_far)))
 
   -- one that is refused is the last
-  pub run-refused : (refusal : ℕ) (r' : Recording) → i < length kinds → (refusal, r') ≡ called call r → refusal ≢ 0 → ((refusal, i), r') ≡ total
-  unfolding runCalls
-  run-refused refusal r' h e refused =
+  pub run_refused : (refusal : ℕ) (r' : Recording) → i < length kinds → (refusal, r') ≡ called call r → refusal ≢ 0 → ((refusal, i), r') ≡ total
+  unfolding run_calls
+  run_refused refusal r' h e refused =
       ap (λ (a : ℕ × Recording). ((a.0, i), a.1)) e
-      ∙ (sym (no_eq _ 0 _ _ (λ z. refused (ap (λ (a : ℕ × Recording). a.0) e ∙ z))) ∙ (ap (λ cs. runCalls cs i r) (sym (next-call h)) ∙ so_far))
+      ∙ (sym (no_eq _ 0 _ _ (λ z. refused (ap (λ (a : ℕ × Recording). a.0) e ∙ z))) ∙ (ap (λ cs. run_calls cs i r) (sym (next_call h)) ∙ so_far))
 
   pub run_end : length kinds ≤ i → ((0, i), r) ≡ total
-  unfolding runCalls calls_of
+  unfolding run_calls calls_of
   run_end h = rw (drop_of_length-le kinds {i = i} h) at so_far
 
 -- the calls of a sheet's parts, as the program takes them, are its calls
-pub parts-run : (sheet : List ℕ) (n : ℕ) (r : Recording) → n ≡ word_at sheet 0
-    → runCalls (calls_of (take (4 + n - 4) (drop 4 sheet)) (take (length sheet - (4 + n)) (drop (4 + n) sheet))) 0 r ≡ runCalls (calls_of (kindsOf sheet) (argumentsOf sheet)) 0 r
-parts-run sheet n r e = rw (kinds-part sheet n e, arguments-part sheet n e)
+pub parts_run : (sheet : List ℕ) (n : ℕ) (r : Recording) → n ≡ word_at sheet 0
+    → run_calls (calls_of (take (4 + n - 4) (drop 4 sheet)) (take (length sheet - (4 + n)) (drop (4 + n) sheet))) 0 r ≡ run_calls (calls_of (kinds_of sheet) (arguments_of sheet)) 0 r
+parts_run sheet n r e = rw (kinds_part sheet n e, arguments_part sheet n e)
 
 -- a sheet whose length is wrong
 module _ (sheet : List ℕ) (r : Recording) where
-  pub sheet-cut : isWhole sheet ≡ false → ((1, 0), r) ≡ runSheet sheet r
-  unfolding runSheet
-  sheet-cut h = sym (pick_no _ _ _ h)
+  pub sheet_cut : is_whole sheet ≡ false → ((1, 0), r) ≡ run_sheet sheet r
+  unfolding run_sheet
+  sheet_cut h = sym (pick_no _ _ _ h)
 
-  module _ (whole : isWhole sheet ≡ true) where
+  module _ (whole : is_whole sheet ≡ true) where
     abbrev broken : ℕ
-    broken = firstBroken (kindsOf sheet) (argumentsOf sheet)
+    broken = first_broken (kinds_of sheet) (arguments_of sheet)
 
     -- one with a broken call
-    pub sheet-broken : (i : ℕ) → i ≡ broken → i < word_at sheet 0 → ((1, i), r) ≡ runSheet sheet r
-    unfolding runSheet
-    sheet-broken i e h = rw e (sym (pick_yes _ _ _ whole ∙ yes_lt _ _ _ _ (rw e at h)))
+    pub sheet_broken : (i : ℕ) → i ≡ broken → i < word_at sheet 0 → ((1, i), r) ≡ run_sheet sheet r
+    unfolding run_sheet
+    sheet_broken i e h = rw e (sym (pick_yes _ _ _ whole ∙ yes_lt _ _ _ _ (rw e at h)))
 
     module _ (i : ℕ) (same : i ≡ broken) (formed : word_at sheet 0 ≤ i) where
       -- one on a recording that answers every call alike
-      pub sheet-not-standing : (why : ℕ) → why ≡ standing r.buffer (countsFit r) (withinLimits r 0 0) → why ≢ 0 → ((why, 0), r) ≡ runSheet sheet r
-      unfolding runSheet
-      sheet-not-standing why e h =
+      pub sheet_not_standing : (why : ℕ) → why ≡ standing r.buffer (counts_fit r) (within_limits r 0 0) → why ≢ 0 → ((why, 0), r) ≡ run_sheet sheet r
+      unfolding run_sheet
+      sheet_not_standing why e h =
           rw e (sym (pick_yes _ _ _ whole ∙ (no_lt _ _ _ _ (rw same at formed) ∙ no_eq _ 0 _ _ (λ z. h (e ∙ z)))))
 
-      pub sheet-run : (why : ℕ) → why ≡ standing r.buffer (countsFit r) (withinLimits r 0 0) → why ≡ 0 → runCalls (calls_of (kindsOf sheet) (argumentsOf sheet)) 0 r ≡ runSheet sheet r
-      unfolding runSheet
-      sheet-run why e h = sym (pick_yes _ _ _ whole ∙ (no_lt _ _ _ _ (rw same at formed) ∙ yes-eq _ 0 _ _ (sym e ∙ h)))
+      pub sheet_run : (why : ℕ) → why ≡ standing r.buffer (counts_fit r) (within_limits r 0 0) → why ≡ 0 → run_calls (calls_of (kinds_of sheet) (arguments_of sheet)) 0 r ≡ run_sheet sheet r
+      unfolding run_sheet
+      sheet_run why e h = sym (pick_yes _ _ _ whole ∙ (no_lt _ _ _ _ (rw same at formed) ∙ yes_eq _ 0 _ _ (sym e ∙ h)))

@@ -3,9 +3,9 @@
 ghost use Rattle.std.specs.Prelude.{◌≡◌, ◌⊎◌, ◌≢◌, List, ◌||◌, ℕ, min, eqb, length};
 ghost use Rattle.words.specs.Words.{word_at};
 ghost use Rattle.buffer.specs.steps.Below.{Told};
-ghost use Rattle.checks.specs.Lent.{recordingOf};
+ghost use Rattle.checks.specs.Lent.{recording_of};
 ghost use Rattle.sheet.specs.Run.{call_of, called};
-ghost use Rattle.sheet_form.specs.Form.{bytesCall, newLabelCall, bindCall, alignCall, jumpCall, constantCall, constantLabelCall, argumentSize, mostBytes};
+ghost use Rattle.sheet_form.specs.Form.{bytes_call, new_label_call, bind_call, align_call, jump_call, constant_call, constant_label_call, argument_size, most_bytes};
 
 use buffer::{CodeBuffer, Made, Recorded};
 use sheet_form::{MOST_BYTES, kinds};
@@ -23,8 +23,8 @@ fn recorded(made: Made) -> Recorded
 
 // The count in front of bytes; at most those that an argument has room for.
 fn count_in(arguments: &[u8]) -> usize
-    requires { length arguments.now ≡ argumentSize }
-    ensures { result ≡ min (word_at arguments.now 0) mostBytes }
+    requires { length arguments.now ≡ argument_size }
+    ensures { result ≡ min (word_at arguments.now 0) most_bytes }
 {
     let n = words::word_at(arguments, 0);
     if MOST_BYTES < n {
@@ -41,8 +41,8 @@ fn call_code(
     code: &mut [u8],
     events: &mut [u8],
 ) -> Recorded
-    requires { (length arguments.now ≡ argumentSize) × ((kind ≡ bytesCall) ⊎ (kind ≡ alignCall)) }
-    ensures { (labels uses refs constants asked relocs : List ℕ) → (result.refusal, recordingOf result.buffer code.new labels events.new uses refs constants asked relocs) ≡ called (call_of kind arguments.now) (recordingOf b code.old labels events.old uses refs constants asked relocs) }
+    requires { (length arguments.now ≡ argument_size) × ((kind ≡ bytes_call) ⊎ (kind ≡ align_call)) }
+    ensures { (labels uses refs constants asked relocs : List ℕ) → (result.refusal, recording_of result.buffer code.new labels events.new uses refs constants asked relocs) ≡ called (call_of kind arguments.now) (recording_of b code.old labels events.old uses refs constants asked relocs) }
 {
     if kind == kinds::BYTES {
         let end = 4 + count_in(arguments);
@@ -65,8 +65,8 @@ fn call_labels(
     labels: &mut [u8],
     events: &mut [u8],
 ) -> Recorded
-    requires { (length arguments.now ≡ argumentSize) × ((kind ≡ newLabelCall) ⊎ (kind ≡ jumpCall)) × Told labels.old b.labels b.code nearest }
-    ensures { (code uses refs constants asked relocs : List ℕ) → (result.refusal, recordingOf result.buffer code labels.new events.new uses refs constants asked relocs) ≡ called (call_of kind arguments.now) (recordingOf b code labels.old events.old uses refs constants asked relocs) }
+    requires { (length arguments.now ≡ argument_size) × ((kind ≡ new_label_call) ⊎ (kind ≡ jump_call)) × Told labels.old b.labels b.code nearest }
+    ensures { (code uses refs constants asked relocs : List ℕ) → (result.refusal, recording_of result.buffer code labels.new events.new uses refs constants asked relocs) ≡ called (call_of kind arguments.now) (recording_of b code labels.old events.old uses refs constants asked relocs) }
 {
     if kind == kinds::NEW_LABEL {
         return recorded(b.get_label(labels));
@@ -92,8 +92,8 @@ fn call_bind(
     refs: &[u8],
     relocs: &[u8],
 ) -> Recorded
-    requires { length arguments.now ≡ argumentSize }
-    ensures { (code constants asked : List ℕ) → (result.refusal, recordingOf result.buffer code labels.new events.now uses.now refs.now constants asked relocs.now) ≡ called (call_of bindCall arguments.now) (recordingOf b code labels.old events.now uses.now refs.now constants asked relocs.now) }
+    requires { length arguments.now ≡ argument_size }
+    ensures { (code constants asked : List ℕ) → (result.refusal, recording_of result.buffer code labels.new events.now uses.now refs.now constants asked relocs.now) ≡ called (call_of bind_call arguments.now) (recording_of b code labels.old events.now uses.now refs.now constants asked relocs.now) }
 {
     let label = words::word_at(arguments, 0);
     b.try_bind_label(labels, events, uses, refs, relocs, label)
@@ -108,8 +108,8 @@ fn call_constants(
     constants: &mut [u8],
     asked: &mut [u8],
 ) -> Recorded
-    requires { (length arguments.now ≡ argumentSize) × ((kind ≡ constantCall) ⊎ (kind ≡ constantLabelCall)) }
-    ensures { (code events uses refs relocs : List ℕ) → (result.refusal, recordingOf result.buffer code labels.new events uses refs constants.new asked.new relocs) ≡ called (call_of kind arguments.now) (recordingOf b code labels.old events uses refs constants.old asked.old relocs) }
+    requires { (length arguments.now ≡ argument_size) × ((kind ≡ constant_call) ⊎ (kind ≡ constant_label_call)) }
+    ensures { (code events uses refs relocs : List ℕ) → (result.refusal, recording_of result.buffer code labels.new events uses refs constants.new asked.new relocs) ≡ called (call_of kind arguments.now) (recording_of b code labels.old events uses refs constants.old asked.old relocs) }
 {
     if kind == kinds::CONSTANT {
         let end = 4 + count_in(arguments);
@@ -128,8 +128,8 @@ fn call_fields(
     refs: &mut [u8],
     relocs: &mut [u8],
 ) -> Recorded
-    requires { (length arguments.now ≡ argumentSize) × ((kind ≢ bytesCall) × (kind ≢ newLabelCall) × (kind ≢ bindCall) × (kind ≢ alignCall) × (kind ≢ jumpCall) × (kind ≢ constantCall) × (kind ≢ constantLabelCall)) }
-    ensures { (code events constants asked : List ℕ) → (result.refusal, recordingOf result.buffer code labels.now events uses.new refs.new constants asked relocs.new) ≡ called (call_of kind arguments.now) (recordingOf b code labels.now events uses.old refs.old constants asked relocs.old) }
+    requires { (length arguments.now ≡ argument_size) × ((kind ≢ bytes_call) × (kind ≢ new_label_call) × (kind ≢ bind_call) × (kind ≢ align_call) × (kind ≢ jump_call) × (kind ≢ constant_call) × (kind ≢ constant_label_call)) }
+    ensures { (code events constants asked : List ℕ) → (result.refusal, recording_of result.buffer code labels.now events uses.new refs.new constants asked relocs.new) ≡ called (call_of kind arguments.now) (recording_of b code labels.now events uses.old refs.old constants asked relocs.old) }
 {
     let first = words::word_at(arguments, 0);
     let second = words::word_at(arguments, 1);
@@ -152,7 +152,7 @@ fn call_fields(
 }
 
 fn is_code(kind: u8) -> bool
-    ensures { result ≡ (eqb kind bytesCall || eqb kind alignCall) }
+    ensures { result ≡ (eqb kind bytes_call || eqb kind align_call) }
 {
     if kind == kinds::BYTES {
         return true;
@@ -161,7 +161,7 @@ fn is_code(kind: u8) -> bool
 }
 
 fn is_label(kind: u8) -> bool
-    ensures { result ≡ (eqb kind newLabelCall || eqb kind jumpCall) }
+    ensures { result ≡ (eqb kind new_label_call || eqb kind jump_call) }
 {
     if kind == kinds::NEW_LABEL {
         return true;
@@ -170,7 +170,7 @@ fn is_label(kind: u8) -> bool
 }
 
 fn is_constant(kind: u8) -> bool
-    ensures { result ≡ (eqb kind constantCall || eqb kind constantLabelCall) }
+    ensures { result ≡ (eqb kind constant_call || eqb kind constant_label_call) }
 {
     if kind == kinds::CONSTANT {
         return true;
@@ -193,8 +193,8 @@ pub(crate) fn call(
     asked: &mut [u8],
     relocs: &mut [u8],
 ) -> Recorded
-    requires { (length arguments.now ≡ argumentSize) × Told labels.old b.labels b.code nearest }
-    ensures { (result.refusal, recordingOf result.buffer code.new labels.new events.new uses.new refs.new constants.new asked.new relocs.new) ≡ called (call_of kind arguments.now) (recordingOf b code.old labels.old events.old uses.old refs.old constants.old asked.old relocs.old) }
+    requires { (length arguments.now ≡ argument_size) × Told labels.old b.labels b.code nearest }
+    ensures { (result.refusal, recording_of result.buffer code.new labels.new events.new uses.new refs.new constants.new asked.new relocs.new) ≡ called (call_of kind arguments.now) (recording_of b code.old labels.old events.old uses.old refs.old constants.old asked.old relocs.old) }
 {
     if is_code(kind) {
         return call_code(b, kind, arguments, code, events);

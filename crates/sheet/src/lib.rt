@@ -1,13 +1,13 @@
 // A sheet of calls: a count n (word), n kind bytes, then n arguments of four words. Its form is checked as a whole before any of its calls is made.
 ghost use Rattle.std.specs.Prelude.{◌≡◌, ◌*◌, ◌≤◌, ◌<◌, length, true};
 ghost use Rattle.seqs.specs.Pick.{pick};
-ghost use Rattle.buffer.specs.State.{withOpen};
-ghost use Rattle.buffer.specs.Tables.{labelSize};
-ghost use Rattle.buffer.specs.steps.Count.{NamersFit, openCount};
+ghost use Rattle.buffer.specs.State.{with_open};
+ghost use Rattle.buffer.specs.Tables.{label_size};
+ghost use Rattle.buffer.specs.steps.Count.{NamersFit, open_count};
 ghost use Rattle.recording.specs.steps.Righted.{Fitting};
-ghost use Rattle.checks.specs.Lent.{recordingOf};
-ghost use Rattle.sheet.specs.Run.{calls_of, runCalls, runSheet};
-ghost use Rattle.sheet_form.specs.Form.{argumentSize};
+ghost use Rattle.checks.specs.Lent.{recording_of};
+ghost use Rattle.sheet.specs.Run.{calls_of, run_calls, run_sheet};
+ghost use Rattle.sheet_form.specs.Form.{argument_size};
 ghost use Rattle.sheet.specs.steps.Meant.{meant, Going};
 
 use buffer::{CodeBuffer, NONE};
@@ -63,8 +63,8 @@ fn is_counted_after(
     relocs: &[u8],
 ) -> bool
     requires fact_1 { NamersFit b events.now uses.now refs.now relocs.now }
-    requires fact_2 { b.labels * labelSize ≤ length labels.now }
-    ensures { result ≡ true → b.unresolved ≡ openCount b labels.now events.now uses.now refs.now relocs.now }
+    requires fact_2 { b.labels * label_size ≤ length labels.now }
+    ensures { result ≡ true → b.unresolved ≡ open_count b labels.now events.now uses.now refs.now relocs.now }
 {
     if !has_many_binds(kinds) {
         return false;
@@ -74,7 +74,7 @@ fn is_counted_after(
 
 // The recording from which the next call goes on: where the number of open entries is not kept, it is 0, and a bind then looks at no table.
 fn going_on(mut b: CodeBuffer, kept: bool) -> CodeBuffer
-    ensures { result ≡ pick kept b (withOpen b 0) }
+    ensures { result ≡ pick kept b (with_open b 0) }
 {
     if kept {
         return b;
@@ -99,10 +99,10 @@ fn run(
     asked: &mut [u8],
     relocs: &mut [u8],
 ) -> Ran
-    requires fact_1 { (length arguments.now ≡ length kinds.now * argumentSize) × (length kinds.now < 4294967296) }
-    requires fact_2 { Going kept (recordingOf b code.old labels.old events.old uses.old refs.old constants.old asked.old relocs.old) }
-    ensures relocs_after { ((result.refusal, result.index), meant kept (recordingOf result.buffer code.new labels.new events.new uses.new refs.new constants.new asked.new relocs.new)) ≡ runCalls (calls_of kinds.now arguments.now) 0 (meant kept (recordingOf b code.old labels.old events.old uses.old refs.old constants.old asked.old relocs.old)) }
-    ensures fitting { Fitting (recordingOf result.buffer code.new labels.new events.new uses.new refs.new constants.new asked.new relocs.new) }
+    requires fact_1 { (length arguments.now ≡ length kinds.now * argument_size) × (length kinds.now < 4294967296) }
+    requires fact_2 { Going kept (recording_of b code.old labels.old events.old uses.old refs.old constants.old asked.old relocs.old) }
+    ensures relocs_after { ((result.refusal, result.index), meant kept (recording_of result.buffer code.new labels.new events.new uses.new refs.new constants.new asked.new relocs.new)) ≡ run_calls (calls_of kinds.now arguments.now) 0 (meant kept (recording_of b code.old labels.old events.old uses.old refs.old constants.old asked.old relocs.old)) }
+    ensures fitting { Fitting (recording_of result.buffer code.new labels.new events.new uses.new refs.new constants.new asked.new relocs.new) }
 {
     let mut last = b;
     let mut bound = Bound {
@@ -161,8 +161,8 @@ fn counted(
     relocs: &[u8],
 ) -> CodeBuffer
     requires fact_1 { NamersFit b events.now uses.now refs.now relocs.now }
-    requires fact_2 { b.labels * labelSize ≤ length labels.now }
-    ensures { result ≡ pick kept b (withOpen b (openCount b labels.now events.now uses.now refs.now relocs.now)) }
+    requires fact_2 { b.labels * label_size ≤ length labels.now }
+    ensures { result ≡ pick kept b (with_open b (open_count b labels.now events.now uses.now refs.now relocs.now)) }
 {
     if kept {
         return b;
@@ -185,7 +185,7 @@ pub fn run_sheet(
     asked: &mut [u8],
     relocs: &mut [u8],
 ) -> Ran
-    ensures { ((result.refusal, result.index), recordingOf result.buffer code.new labels.new events.new uses.new refs.new constants.new asked.new relocs.new) ≡ runSheet sheet.now (recordingOf b code.old labels.old events.old uses.old refs.old constants.old asked.old relocs.old) }
+    ensures { ((result.refusal, result.index), recording_of result.buffer code.new labels.new events.new uses.new refs.new constants.new asked.new relocs.new) ≡ run_sheet sheet.now (recording_of b code.old labels.old events.old uses.old refs.old constants.old asked.old relocs.old) }
 {
     if !form::is_whole(sheet) {
         return Ran {

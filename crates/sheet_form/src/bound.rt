@@ -2,8 +2,8 @@
 // looked for among all of them.
 ghost use Rattle.std.specs.Prelude.{◌≡◌, List, ℕ, ◌*◌, ◌≤◌, max, length};
 ghost use Rattle.buffer.specs.State.{none};
-ghost use Rattle.buffer.specs.Tables.{labelSize};
-ghost use Rattle.buffer.specs.steps.Below.{under, greatestBelow, Told};
+ghost use Rattle.buffer.specs.Tables.{label_size};
+ghost use Rattle.buffer.specs.steps.Below.{under, greatest_below, Told};
 ghost use Rattle.sheet_form.specs.steps.Bound.{Known, Follows};
 
 use crate::kinds;
@@ -37,8 +37,8 @@ fn offset_of(label: u32) -> u32
 
 // The greatest offset at which one of the first `n` labels is bound; 0 where none is.
 fn greatest_of(labels: &[u8], n: usize) -> u32
-    requires { n * labelSize ≤ length labels.now }
-    ensures { result ≡ greatestBelow labels.now n none }
+    requires { n * label_size ≤ length labels.now }
+    ensures { result ≡ greatest_below labels.now n none }
 {
     let mut most: u32 = 0;
     let mut i: usize = 0;

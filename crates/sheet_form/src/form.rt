@@ -3,13 +3,13 @@ ghost use Rattle.std.specs.Prelude.{◌≡◌, true, ℕ, ◌*◌, ◌≤◌, eq
 ghost use Rattle.seqs.specs.Every.{all};
 ghost use Rattle.seqs.specs.Pick.{pick};
 ghost use Rattle.words.specs.Words.{word_at};
-ghost use Rattle.sheet_form.specs.Form.{isWhole, isCounted, hasCode, in_range, usedBytes, used, isClear, isFormed, firstBroken, argumentSize};
+ghost use Rattle.sheet_form.specs.Form.{is_whole, is_counted, has_code, in_range, used_bytes, used, is_clear, is_formed, first_broken, argument_size};
 
 use crate::{ARGUMENT_SIZE, MOST_BYTES, kinds};
 
 // Whether the length is that of the calls that the sheet counts. The sum is one of 64 bits, so no count makes it wrap.
 pub fn is_whole(sheet: &[u8]) -> bool
-    ensures { result ≡ isWhole sheet.now }
+    ensures { result ≡ is_whole sheet.now }
 {
     if sheet.len() < 4 {
         return false;
@@ -32,7 +32,7 @@ fn clear_front(part: &[u8]) -> usize
 }
 
 fn is_clear(part: &[u8]) -> bool
-    ensures { result ≡ isClear part.now }
+    ensures { result ≡ is_clear part.now }
 {
     let mut i = clear_front(part);
     while i < part.len() {
@@ -46,7 +46,7 @@ fn is_clear(part: &[u8]) -> bool
 
 // Bytes and constants carry a count and as many bytes.
 fn is_counted(kind: u8) -> bool
-    ensures { result ≡ isCounted kind }
+    ensures { result ≡ is_counted kind }
 {
     if kind == kinds::BYTES {
         return true;
@@ -56,7 +56,7 @@ fn is_counted(kind: u8) -> bool
 
 // Uses and refs carry a code.
 fn has_code(kind: u8) -> bool
-    ensures { result ≡ hasCode kind }
+    ensures { result ≡ has_code kind }
 {
     if kind == kinds::USE {
         return true;
@@ -66,7 +66,7 @@ fn has_code(kind: u8) -> bool
 
 // Whether a byte count, a use's or ref's code and a relocation's kind are in their ranges.
 fn in_range(kind: u8, arguments: &[u8]) -> bool
-    requires { length arguments.now ≡ argumentSize }
+    requires { length arguments.now ≡ argument_size }
     ensures { result ≡ in_range kind arguments.now }
 {
     if is_counted(kind) {
@@ -85,7 +85,7 @@ fn in_range(kind: u8, arguments: &[u8]) -> bool
 const USED_BYTES: [usize; 11] = [0, 4, 0, 4, 8, 12, 16, 16, 4, 4, 16];
 
 fn used_bytes(kind: u8) -> usize
-    ensures { result ≡ get_or usedBytes kind 0 }
+    ensures { result ≡ get_or used_bytes kind 0 }
 {
     if kind < 11 {
         return USED_BYTES[kind as usize];
@@ -95,8 +95,8 @@ fn used_bytes(kind: u8) -> usize
 
 // The bytes that a count counts.
 fn counted(kind: u8, arguments: &[u8]) -> usize
-    requires { length arguments.now ≡ argumentSize }
-    ensures { result ≡ pick (isCounted kind) (word_at arguments.now 0) 0 }
+    requires { length arguments.now ≡ argument_size }
+    ensures { result ≡ pick (is_counted kind) (word_at arguments.now 0) 0 }
 {
     if is_counted(kind) {
         return words::word_at(arguments, 0) as usize;
@@ -106,8 +106,8 @@ fn counted(kind: u8, arguments: &[u8]) -> usize
 
 // Whether a call has its form.
 fn is_formed(kind: u8, arguments: &[u8]) -> bool
-    requires { length arguments.now ≡ argumentSize }
-    ensures { result ≡ isFormed kind arguments.now }
+    requires { length arguments.now ≡ argument_size }
+    ensures { result ≡ is_formed kind arguments.now }
 {
     if kind < kinds::BYTES {
         return false;
@@ -124,8 +124,8 @@ fn is_formed(kind: u8, arguments: &[u8]) -> bool
 
 // The index of the first call whose form is broken; the number of calls where none is.
 pub fn first_broken(kinds: &[u8], arguments: &[u8]) -> usize
-    requires { length arguments.now ≡ length kinds.now * argumentSize }
-    ensures { result ≡ firstBroken kinds.now arguments.now }
+    requires { length arguments.now ≡ length kinds.now * argument_size }
+    ensures { result ≡ first_broken kinds.now arguments.now }
 {
     let mut i: usize = 0;
     while i < kinds.len() {

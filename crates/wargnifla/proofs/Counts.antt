@@ -4,19 +4,19 @@ use mathlib.Core.List.{List}
 use Prim.Native.Nat.{ℕ, ◌≤◌, ◌<◌}
 use native.Mathlib.Omega.{arith}
 use lib.ListN.{length, get_or}
-use Rattle.words.specs.Words.{word_at, overWords}
-use Rattle.words.proofs.Entries.{words-over, word_read}
+use Rattle.words.specs.Words.{word_at, over_words}
+use Rattle.words.proofs.Entries.{words_over, word_read}
 use Rattle.buffer.specs.declared.CodeBuffer.{CodeBuffer}
-use Rattle.recording.specs.Calls.{Recording, withBuffer}
+use Rattle.recording.specs.Calls.{Recording, with_buffer}
 use Rattle.recording.proofs.Words.{Words}
-use Rattle.pool.proofs.Pool.{setWord-same}
-use Rattle.wargnifla.specs.Boundary.{countsSize, countsAt, countsOf, recordingIn, lentWith}
+use Rattle.pool.proofs.Pool.{set_word_same}
+use Rattle.wargnifla.specs.Boundary.{counts_size, counts_at, counts_of, recording_in, lent_with}
 
 -- Counts that are words are read as they were written.
-pub counts-read : (t : List ℕ) (b : CodeBuffer) → countsSize ≤ length t → Words b → countsAt (overWords t (countsOf b)) ≡ b
-counts-read t b room w =
-    let read : (i : ℕ) → i < 13 → get_or (countsOf b) i 0 < 4294967296 → word_at (overWords t (countsOf b)) i ≡ get_or (countsOf b) i 0 =
-    λ i h small. word_read t (countsOf b) i h room small in
+pub counts_read : (t : List ℕ) (b : CodeBuffer) → counts_size ≤ length t → Words b → counts_at (over_words t (counts_of b)) ≡ b
+counts_read t b room w =
+    let read : (i : ℕ) → i < 13 → get_or (counts_of b) i 0 < 4294967296 → word_at (over_words t (counts_of b)) i ≡ get_or (counts_of b) i 0 =
+    λ i h small. word_read t (counts_of b) i h room small in
     rw (
       read 0 (omega arith) w.arch,
       read 1 (omega arith) w.symbols,
@@ -34,24 +34,24 @@ counts-read t b room w =
     )
 
 -- Bytes with a recording in them hold that recording.
-pub recording-read : (counts : List ℕ) (r : Recording) → countsSize ≤ length counts → Words r.buffer → recordingIn (lentWith counts r) ≡ r
-recording-read counts r room w = ap (λ (b : CodeBuffer). withBuffer r b) (counts-read counts r.buffer room w)
+pub recording_read : (counts : List ℕ) (r : Recording) → counts_size ≤ length counts → Words r.buffer → recording_in (lent_with counts r) ≡ r
+recording_read counts r room w = ap (λ (b : CodeBuffer). with_buffer r b) (counts_read counts r.buffer room w)
 
-pub counts-stay : (counts : List ℕ) → ((n : ℕ) → get_or counts n 0 < 256) → overWords counts (countsOf (countsAt counts)) ≡ counts
-counts-stay counts small =
-    sym (words-over counts 0 (countsOf (countsAt counts)))
+pub counts_stay : (counts : List ℕ) → ((n : ℕ) → get_or counts n 0 < 256) → over_words counts (counts_of (counts_at counts)) ≡ counts
+counts_stay counts small =
+    sym (words_over counts 0 (counts_of (counts_at counts)))
     ∙ rw (
-      setWord-same counts 0 small,
-      setWord-same counts 1 small,
-      setWord-same counts 2 small,
-      setWord-same counts 3 small,
-      setWord-same counts 4 small,
-      setWord-same counts 5 small,
-      setWord-same counts 6 small,
-      setWord-same counts 7 small,
-      setWord-same counts 8 small,
-      setWord-same counts 9 small,
-      setWord-same counts 10 small,
-      setWord-same counts 11 small,
-      setWord-same counts 12 small,
+      set_word_same counts 0 small,
+      set_word_same counts 1 small,
+      set_word_same counts 2 small,
+      set_word_same counts 3 small,
+      set_word_same counts 4 small,
+      set_word_same counts 5 small,
+      set_word_same counts 6 small,
+      set_word_same counts 7 small,
+      set_word_same counts 8 small,
+      set_word_same counts 9 small,
+      set_word_same counts 10 small,
+      set_word_same counts 11 small,
+      set_word_same counts 12 small,
     )

@@ -3,7 +3,7 @@
 use Rattle.std.specs.Prelude.{Bool, List, [], ◌∷◌, ℕ, ltb, length}
 use Rattle.refusals.specs.Numbers as refusals
 use Rattle.seqs.specs.Pick.{pick}
-use Rattle.words.specs.Words.{word_at, overWords}
+use Rattle.words.specs.Words.{word_at, over_words}
 use Rattle.relax.specs.declared.Segment.{Segment}
 use Rattle.buffer.specs.declared.CodeBuffer.{CodeBuffer}
 use Rattle.buffer.specs.State.{none}
@@ -21,15 +21,15 @@ abbrev pub version : ℕ
 version = 8000
 
 -- the bytes of counts, thirteen words, and of a record, six
-abbrev pub countsSize : ℕ
-countsSize = 52
+abbrev pub counts_size : ℕ
+counts_size = 52
 
-abbrev pub recordSize : ℕ
-recordSize = 24
+abbrev pub record_size : ℕ
+record_size = 24
 
 -- the counts that are lent as bytes, and the words of counts
-abbrev pub countsAt : List ℕ → CodeBuffer
-countsAt counts =
+abbrev pub counts_at : List ℕ → CodeBuffer
+counts_at counts =
     record {
       arch = word_at counts 0;
       symbols = word_at counts 1;
@@ -46,16 +46,16 @@ countsAt counts =
       unresolved = word_at counts 12;
     }
 
-abbrev pub countsOf : CodeBuffer → List ℕ
-countsOf b =
+abbrev pub counts_of : CodeBuffer → List ℕ
+counts_of b =
     b.arch ∷ b.symbols ∷ b.finished ∷ b.refusal ∷ b.code ∷ b.labels ∷ b.events ∷ b.uses ∷ b.refs ∷ b.constants ∷ b.asked ∷ b.relocs ∷ b.unresolved ∷ []
 
 -- the words of what finish reports, and the report that is lent as bytes
-abbrev pub recordOf : CodeBufferFinalized → List ℕ
-recordOf f = f.arch ∷ f.len ∷ f.alignment ∷ f.layouts ∷ f.labels ∷ f.relocs ∷ []
+abbrev pub record_of : CodeBufferFinalized → List ℕ
+record_of f = f.arch ∷ f.len ∷ f.alignment ∷ f.layouts ∷ f.labels ∷ f.relocs ∷ []
 
-abbrev pub recordAt : List ℕ → CodeBufferFinalized
-recordAt finalized =
+abbrev pub record_at : List ℕ → CodeBufferFinalized
+record_at finalized =
     record {
       arch = word_at finalized 0;
       len = word_at finalized 1;
@@ -66,40 +66,40 @@ recordAt finalized =
     }
 
 -- fewer bytes than counts take
-abbrev pub tooShort : List ℕ → Bool
-tooShort counts = ltb (length counts) countsSize
+abbrev pub too_short : List ℕ → Bool
+too_short counts = ltb (length counts) counts_size
 
 -- the answer and the counts
 unfoldable pub start : ℕ → ℕ → List ℕ → ℕ × List ℕ
 start arch symbols counts =
     let a = calls.started arch symbols in
-    pick (tooShort counts) (refusals.malformed, counts) (a.refusal, overWords counts (countsOf a.buffer))
+    pick (too_short counts) (refusals.malformed, counts) (a.refusal, over_words counts (counts_of a.buffer))
 
 -- the answer, the counts and the code
-unfoldable pub putBytes : List ℕ → List ℕ → List ℕ → ℕ × (List ℕ × List ℕ)
-putBytes counts code bytes =
-    let a = calls.putBytes (countsAt counts) code bytes in
-    pick (tooShort counts) (refusals.malformed, (counts, code)) (a.0.refusal, (overWords counts (countsOf a.0.buffer), a.1))
+unfoldable pub put_bytes : List ℕ → List ℕ → List ℕ → ℕ × (List ℕ × List ℕ)
+put_bytes counts code bytes =
+    let a = calls.put_bytes (counts_at counts) code bytes in
+    pick (too_short counts) (refusals.malformed, (counts, code)) (a.0.refusal, (over_words counts (counts_of a.0.buffer), a.1))
 
 -- the answer, the counts, the code and the events
 unfoldable pub align : List ℕ → List ℕ → List ℕ → ℕ → ℕ → ℕ × (List ℕ × (List ℕ × List ℕ))
 align counts code events multiple most =
-    let a = calls.alignTo (countsAt counts) code events multiple most in
-    pick (tooShort counts) (refusals.malformed, (counts, (code, events))) (a.0.refusal, (overWords counts (countsOf a.0.buffer), a.1))
+    let a = calls.align_to (counts_at counts) code events multiple most in
+    pick (too_short counts) (refusals.malformed, (counts, (code, events))) (a.0.refusal, (over_words counts (counts_of a.0.buffer), a.1))
 
 -- the answer, the counts, the constants and the number
-unfoldable pub addConstant : List ℕ → List ℕ → List ℕ → ℕ × (List ℕ × (List ℕ × ℕ))
-addConstant counts constants bytes =
-    let a = calls.addConstant (countsAt counts) constants bytes in
-    pick (tooShort counts)
+unfoldable pub add_constant : List ℕ → List ℕ → List ℕ → ℕ × (List ℕ × (List ℕ × ℕ))
+add_constant counts constants bytes =
+    let a = calls.add_constant (counts_at counts) constants bytes in
+    pick (too_short counts)
     (refusals.malformed, (counts, (constants, none)))
-    (a.0.refusal, (overWords counts (countsOf a.0.buffer), (a.1, a.0.number)))
+    (a.0.refusal, (over_words counts (counts_of a.0.buffer), (a.1, a.0.number)))
 
 -- the answer, the counts and the relocations
-unfoldable pub addReloc : List ℕ → List ℕ → List ℕ → ℕ → ℕ → ℕ → ℕ → ℕ × (List ℕ × List ℕ)
-addReloc counts labels relocs offset kind target addend =
-    let a = calls.addReloc (countsAt counts) labels relocs offset kind target addend in
-    pick (tooShort counts) (refusals.malformed, (counts, relocs)) (a.0.refusal, (overWords counts (countsOf a.0.buffer), a.1))
+unfoldable pub add_reloc : List ℕ → List ℕ → List ℕ → ℕ → ℕ → ℕ → ℕ → ℕ × (List ℕ × List ℕ)
+add_reloc counts labels relocs offset kind target addend =
+    let a = calls.add_reloc (counts_at counts) labels relocs offset kind target addend in
+    pick (too_short counts) (refusals.malformed, (counts, relocs)) (a.0.refusal, (over_words counts (counts_of a.0.buffer), a.1))
 
 -- a recording that is lent: counts as bytes, and the tables
 pub record Lent : Type 0 where
@@ -127,10 +127,10 @@ lent_of counts code labels events uses refs constants asked relocs =
       relocs = relocs;
     }
 
-abbrev pub recordingIn : Lent → Recording
-recordingIn l =
+abbrev pub recording_in : Lent → Recording
+recording_in l =
     record {
-      buffer = countsAt l.counts;
+      buffer = counts_at l.counts;
       code = l.code;
       labels = l.labels;
       events = l.events;
@@ -142,10 +142,10 @@ recordingIn l =
     }
 
 -- the same bytes with a recording in them
-abbrev pub lentWith : List ℕ → Recording → Lent
-lentWith counts r =
+abbrev pub lent_with : List ℕ → Recording → Lent
+lent_with counts r =
     record {
-      counts = overWords counts (countsOf r.buffer);
+      counts = over_words counts (counts_of r.buffer);
       code = r.code;
       labels = r.labels;
       events = r.events;
@@ -157,35 +157,35 @@ lentWith counts r =
     }
 
 -- the answer, the index, and the recording as it is lent
-unfoldable pub runSheet : List ℕ → Lent → (ℕ × ℕ) × Lent
-runSheet sheet l =
-    let a = sheets.runSheet sheet (recordingIn l) in
-    pick (tooShort l.counts) ((refusals.malformed, 0), l) (a.0, lentWith l.counts a.1)
+unfoldable pub run_sheet : List ℕ → Lent → (ℕ × ℕ) × Lent
+run_sheet sheet l =
+    let a = sheets.run_sheet sheet (recording_in l) in
+    pick (too_short l.counts) ((refusals.malformed, 0), l) (a.0, lent_with l.counts a.1)
 
 -- the answer, the counts, the labels, relocations, segments and output, and the record; a refused finish gives a record of zeros
 unfoldable pub finish : Lent → List Segment → List ℕ → List ℕ → ℕ × (List ℕ × (finishing.Left × List ℕ))
 finish l segments output finalized =
-    let a = finishing.finish (recordingIn l) segments output in
+    let a = finishing.finish (recording_in l) segments output in
     let left : finishing.Left = (l.labels, (l.relocs, (segments, output))) in
-    pick (ltb (length finalized) recordSize)
+    pick (ltb (length finalized) record_size)
     (refusals.malformed, (l.counts, (left, finalized)))
-    (pick (tooShort l.counts)
-    (refusals.malformed, (l.counts, (left, overWords finalized (0 ∷ 0 ∷ 0 ∷ 0 ∷ 0 ∷ 0 ∷ []))))
-    (a.0.refusal, (overWords l.counts (countsOf a.0.buffer), (a.1, overWords finalized (recordOf a.0.code)))))
+    (pick (too_short l.counts)
+    (refusals.malformed, (l.counts, (left, over_words finalized (0 ∷ 0 ∷ 0 ∷ 0 ∷ 0 ∷ 0 ∷ []))))
+    (a.0.refusal, (over_words l.counts (counts_of a.0.buffer), (a.1, over_words finalized (record_of a.0.code)))))
 
 -- the answer and the output
-unfoldable pub writeRelas : List ℕ → List ℕ → List ℕ → ℕ → List ℕ → ℕ × List ℕ
-writeRelas finalized labels relocs section output =
-    pick (ltb (length finalized) recordSize) (refusals.malformed, output) (elf.writeRelas (recordAt finalized) labels relocs section output)
+unfoldable pub write_relas : List ℕ → List ℕ → List ℕ → ℕ → List ℕ → ℕ × List ℕ
+write_relas finalized labels relocs section output =
+    pick (ltb (length finalized) record_size) (refusals.malformed, output) (elf.write_relas (record_at finalized) labels relocs section output)
 
 -- the answer and the table: no counts and no record cross the boundary
-abbrev pub readRelas : List ℕ → List ℕ → ℕ × List ℕ
-readRelas relas table = elf.readRelas relas table
+abbrev pub read_relas : List ℕ → List ℕ → ℕ × List ℕ
+read_relas relas table = elf.read_relas relas table
 
 -- the answer, the code, labels and relocations of the whole, and its record
 unfoldable pub join : joining.Lent → List ℕ → List ℕ → List ℕ → List ℕ → ℕ × (joins.Left × List ℕ)
 join l output labels relocs finalized =
     let a = joins.join l output labels relocs in
-    pick (ltb (length finalized) recordSize)
+    pick (ltb (length finalized) record_size)
     (refusals.malformed, ((output, (labels, relocs)), finalized))
-    (a.0.refusal, (a.1, overWords finalized (recordOf a.0.code)))
+    (a.0.refusal, (a.1, over_words finalized (record_of a.0.code)))

@@ -4,9 +4,9 @@
 // lent only a record of zeros is written; bytes past them are not touched.
 ghost use Rattle.std.specs.Prelude.{◌≡◌, [], ◌∷◌, ◌+◌, ◌*◌, ◌≤◌, length};
 ghost use Rattle.seqs.specs.Over.{over};
-ghost use Rattle.words.specs.Words.{bytesOfAll, overWords};
+ghost use Rattle.words.specs.Words.{bytes_of_all, over_words};
 ghost use Rattle.join.specs.Pieces as joining;
-ghost use Rattle.wargnifla.specs.Boundary.{version, countsAt, countsOf, recordOf, recordAt, start, putBytes, align, addConstant, addReloc, lent_of, runSheet, finish, writeRelas, readRelas, join, countsSize, recordSize};
+ghost use Rattle.wargnifla.specs.Boundary.{version, counts_at, counts_of, record_of, record_at, start, put_bytes, align, add_constant, add_reloc, lent_of, run_sheet, finish, write_relas, read_relas, join, counts_size, record_size};
 
 use buffer::CodeBuffer;
 use finish::CodeBufferFinalized;
@@ -22,8 +22,8 @@ const RECORD_SIZE: usize = 24;
 
 // The counts that are lent.
 fn counts_at(counts: &[u8]) -> CodeBuffer
-    requires { countsSize ≤ length counts.now }
-    ensures { result ≡ countsAt counts.now }
+    requires { counts_size ≤ length counts.now }
+    ensures { result ≡ counts_at counts.now }
 {
     CodeBuffer {
         arch: words::word_at(counts, 0),
@@ -45,7 +45,7 @@ fn counts_at(counts: &[u8]) -> CodeBuffer
 // Four words from word `k` on.
 fn put_four(bytes: &mut [u8], k: usize, first: u32, second: u32, third: u32, fourth: u32)
     requires { k * 4 + 16 ≤ length bytes.old }
-    ensures { bytes.new ≡ over bytes.old (k * 4) (bytesOfAll (first ∷ second ∷ third ∷ fourth ∷ [])) }
+    ensures { bytes.new ≡ over bytes.old (k * 4) (bytes_of_all (first ∷ second ∷ third ∷ fourth ∷ [])) }
 {
     words::put_word(bytes, k, first);
     words::put_word(bytes, k + 1, second);
@@ -54,8 +54,8 @@ fn put_four(bytes: &mut [u8], k: usize, first: u32, second: u32, third: u32, fou
 }
 
 fn put_counts(counts: &mut [u8], b: CodeBuffer)
-    requires { countsSize ≤ length counts.old }
-    ensures { counts.new ≡ overWords counts.old (countsOf b) }
+    requires { counts_size ≤ length counts.old }
+    ensures { counts.new ≡ over_words counts.old (counts_of b) }
 {
     put_four(counts, 0, b.arch, b.symbols, b.finished, b.refusal);
     put_four(counts, 4, b.code, b.labels, b.events, b.uses);
@@ -64,8 +64,8 @@ fn put_counts(counts: &mut [u8], b: CodeBuffer)
 }
 
 fn put_record(finalized: &mut [u8], code: CodeBufferFinalized)
-    requires { recordSize ≤ length finalized.old }
-    ensures { finalized.new ≡ overWords finalized.old (recordOf code) }
+    requires { record_size ≤ length finalized.old }
+    ensures { finalized.new ≡ over_words finalized.old (record_of code) }
 {
     put_four(
         finalized,
@@ -81,8 +81,8 @@ fn put_record(finalized: &mut [u8], code: CodeBufferFinalized)
 
 // The record that is lent.
 fn record_at(finalized: &[u8]) -> CodeBufferFinalized
-    requires { recordSize ≤ length finalized.now }
-    ensures { result ≡ recordAt finalized.now }
+    requires { record_size ≤ length finalized.now }
+    ensures { result ≡ record_at finalized.now }
 {
     CodeBufferFinalized {
         arch: words::word_at(finalized, 0),
@@ -129,7 +129,7 @@ pub extern "C" fn wargnifla_start(arch: u32, symbols: u32, counts: &mut [u8]) ->
 // Appends bytes, any number of them.
 #[unsafe(no_mangle)]
 pub extern "C" fn wargnifla_put_bytes(counts: &mut [u8], code: &mut [u8], bytes: &[u8]) -> u32
-    ensures { (result, (counts.new, code.new)) ≡ putBytes counts.old code.old bytes.now }
+    ensures { (result, (counts.new, code.new)) ≡ put_bytes counts.old code.old bytes.now }
 {
     if counts.len() < COUNTS_SIZE {
         return refusals::MALFORMED;
@@ -168,7 +168,7 @@ pub extern "C" fn wargnifla_add_constant(
     bytes: &[u8],
     number: &mut u32,
 ) -> u32
-    ensures { (result, (counts.new, (constants.new, number.new))) ≡ addConstant counts.old constants.old bytes.now }
+    ensures { (result, (counts.new, (constants.new, number.new))) ≡ add_constant counts.old constants.old bytes.now }
 {
     if counts.len() < COUNTS_SIZE {
         *number = buffer::NONE;
@@ -192,7 +192,7 @@ pub extern "C" fn wargnifla_add_reloc(
     target: u32,
     addend: u64,
 ) -> u32
-    ensures { (result, (counts.new, relocs.new)) ≡ addReloc counts.old labels.now relocs.old offset kind target addend }
+    ensures { (result, (counts.new, relocs.new)) ≡ add_reloc counts.old labels.now relocs.old offset kind target addend }
 {
     if counts.len() < COUNTS_SIZE {
         return refusals::MALFORMED;
@@ -219,7 +219,7 @@ pub extern "C" fn wargnifla_run_sheet(
     asked: &mut [u8],
     relocs: &mut [u8],
 ) -> u32
-    ensures { ((result, index.new), lent_of counts.new code.new labels.new events.new uses.new refs.new constants.new asked.new relocs.new) ≡ runSheet sheet.now (lent_of counts.old code.old labels.old events.old uses.old refs.old constants.old asked.old relocs.old) }
+    ensures { ((result, index.new), lent_of counts.new code.new labels.new events.new uses.new refs.new constants.new asked.new relocs.new) ≡ run_sheet sheet.now (lent_of counts.old code.old labels.old events.old uses.old refs.old constants.old asked.old relocs.old) }
 {
     if counts.len() < COUNTS_SIZE {
         *index = 0;
@@ -297,7 +297,7 @@ pub extern "C" fn wargnifla_write_relas(
     section: u32,
     output: &mut [u8],
 ) -> u32
-    ensures { (result, output.new) ≡ writeRelas finalized.now labels.now relocs.now section output.old }
+    ensures { (result, output.new) ≡ write_relas finalized.now labels.now relocs.now section output.old }
 {
     if finalized.len() < RECORD_SIZE {
         return refusals::MALFORMED;
@@ -308,7 +308,7 @@ pub extern "C" fn wargnifla_write_relas(
 // Takes such entries back to offset, type, symbol and addend.
 #[unsafe(no_mangle)]
 pub extern "C" fn wargnifla_read_relas(relas: &[u8], table: &mut [u8]) -> u32
-    ensures { (result, table.new) ≡ readRelas relas.now table.old }
+    ensures { (result, table.new) ≡ read_relas relas.now table.old }
 {
     elf::read_relas(relas, table)
 }

@@ -15,14 +15,14 @@ word_at bytes k =
     + get_or bytes (k * 4 + 3) 0 * 16777216
 
 -- the bytes with v as word k
-unfoldable pub setWord : List ℕ → ℕ → ℕ → List ℕ
-setWord bytes k v = over bytes (k * 4) (bytes_of v)
+unfoldable pub set_word : List ℕ → ℕ → ℕ → List ℕ
+set_word bytes k v = over bytes (k * 4) (bytes_of v)
 
 -- words as bytes, one after the other
-abbrev pub bytesOfAll : List ℕ → List ℕ
-bytesOfAll [] = []
-bytesOfAll (w ∷ ws) = bytes_of w ++ bytesOfAll ws
+abbrev pub bytes_of_all : List ℕ → List ℕ
+bytes_of_all [] = []
+bytes_of_all (w ∷ ws) = bytes_of w ++ bytes_of_all ws
 
 -- a table with its first words anew
-abbrev pub overWords : List ℕ → List ℕ → List ℕ
-overWords table ws = over table 0 (bytesOfAll ws)
+abbrev pub over_words : List ℕ → List ℕ → List ℕ
+over_words table ws = over table 0 (bytes_of_all ws)

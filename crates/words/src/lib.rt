@@ -1,6 +1,6 @@
 // Little-endian 32-bit words in byte slices. Every table of a recording and every four-byte field is read and written through these two.
 ghost use Rattle.std.specs.Prelude.{◌≡◌, ◌+◌, ◌*◌, ◌≤◌, ◌<◌, length};
-ghost use Rattle.words.specs.Words.{word_at, setWord};
+ghost use Rattle.words.specs.Words.{word_at, set_word};
 
 fn wide(x: u8) -> u32
     ensures { (result ≡ x) × (result < 256) }
@@ -23,7 +23,7 @@ pub fn word_at(bytes: &[u8], k: usize) -> u32
 // Makes `v` word `k` of `bytes`.
 pub fn put_word(bytes: &mut [u8], k: usize, v: u32)
     requires { k * 4 + 4 ≤ length bytes.old }
-    ensures { bytes.new ≡ setWord bytes.old k v }
+    ensures { bytes.new ≡ set_word bytes.old k v }
 {
     let i = k * 4;
     bytes[i] = (v % 256) as u8;

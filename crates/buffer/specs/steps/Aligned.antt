@@ -1,26 +1,26 @@
--- An alignment in two steps: what it does to the tables, and what it does to the counts. `alignTo` (Calls) is the two together (`align-answered`).
+-- An alignment in two steps: what it does to the tables, and what it does to the counts. `align_to` (Calls) is the two together (`align_answered`).
 use Rattle.std.specs.Prelude.{List, ℕ, ◌+◌, ◌/◌, eqb, length}
 use Rattle.seqs.specs.Over.{over}
 use Rattle.seqs.specs.Pick.{pick}
-use Rattle.encoder.specs.Padding.{paddingWithin}
-use Rattle.relax.specs.Events.{eventSize}
+use Rattle.encoder.specs.Padding.{padding_within}
+use Rattle.relax.specs.Events.{event_size}
 use Rattle.buffer.specs.declared.CodeBuffer.{CodeBuffer}
 use Rattle.buffer.specs.declared.Recorded.{Recorded}
 use Rattle.buffer.specs.declared.Spent.{Spent}
-use Rattle.buffer.specs.State.{keepsEvents, with_code, withEvents, turnedDown, accepted}
-use Rattle.buffer.specs.Refusals.{whyAlign}
-use Rattle.buffer.specs.Calls.{padding, alignedEvents}
+use Rattle.buffer.specs.State.{keeps_events, with_code, with_events, turned_down, accepted}
+use Rattle.buffer.specs.Refusals.{why_align}
+use Rattle.buffer.specs.Calls.{padding, aligned_events}
 
-unfoldable pub alignedTables : CodeBuffer → List ℕ → List ℕ → ℕ → ℕ → Spent × (List ℕ × List ℕ)
-alignedTables b code events multiple most =
-    let why = whyAlign b (length code) (length events / eventSize) multiple most in
-    let n = paddingWithin b.code multiple most in
+unfoldable pub aligned_tables : CodeBuffer → List ℕ → List ℕ → ℕ → ℕ → Spent × (List ℕ × List ℕ)
+aligned_tables b code events multiple most =
+    let why = why_align b (length code) (length events / event_size) multiple most in
+    let n = padding_within b.code multiple most in
     pick (eqb why 0)
-    (record { refusal = 0; len = n }, (over code b.code (padding b.arch n), (alignedEvents b events multiple most).1))
+    (record { refusal = 0; len = n }, (over code b.code (padding b.arch n), (aligned_events b events multiple most).1))
     (record { refusal = why; len = 0 }, (code, events))
 
-unfoldable pub alignedCounts : CodeBuffer → Spent → Recorded
-alignedCounts b spent =
+unfoldable pub aligned_counts : CodeBuffer → Spent → Recorded
+aligned_counts b spent =
     pick (eqb spent.refusal 0)
-    (accepted (with_code (pick (keepsEvents b.arch) (withEvents b (b.events + 1)) b) (b.code + spent.len)))
-    (turnedDown b spent.refusal)
+    (accepted (with_code (pick (keeps_events b.arch) (with_events b (b.events + 1)) b) (b.code + spent.len)))
+    (turned_down b spent.refusal)

@@ -9,10 +9,10 @@ abbrev pub under : ℕ → ℕ → ℕ
 under at limit = pick (ltb at limit) at 0
 
 -- the greatest offset below the limit among the first n labels; 0 where there is none
-unfoldable pub greatestBelow : List ℕ → ℕ → ℕ → ℕ
-greatestBelow labels zero limit = 0
-greatestBelow labels (suc n) limit = max (under (word_at labels n) limit) (greatestBelow labels n limit)
+unfoldable pub greatest_below : List ℕ → ℕ → ℕ → ℕ
+greatest_below labels zero limit = 0
+greatest_below labels (suc n) limit = max (under (word_at labels n) limit) (greatest_below labels n limit)
 
 -- the number that is told is none, or that of the labels below the current offset
 pub record Told (labels : List ℕ) (n code nearest : ℕ) : Type 0 where
-  pub right : nearest ≢ none → nearest ≡ greatestBelow labels n code
+  pub right : nearest ≢ none → nearest ≡ greatest_below labels n code

@@ -1,8 +1,8 @@
 -- What the searches are handed, and what they find.
 use Rattle.std.specs.Prelude.{ℕ, ◌+◌, ◌*◌, ◌≤◌, ◌<◌, ◌≡◌, List, length}
 use Rattle.words.specs.Words.{word_at}
-use Rattle.buffer.specs.Tables.{labelSize, constantSize, askedSize}
-use Rattle.pool.specs.steps.Pool.{label_at, poolOffset}
+use Rattle.buffer.specs.Tables.{label_size, constant_size, asked_size}
+use Rattle.pool.specs.steps.Pool.{label_at, pool_offset}
 
 -- n pieces of code in order, each of which ends before the next starts
 pub record Ordered (start end : ℕ → ℕ) (n : ℕ) : Type 0 where
@@ -24,7 +24,7 @@ pub record Halved (start : ℕ → ℕ) (n to low high : ℕ) : Type 0 where
 
 -- the first n constants of the pool lie in the tables, and their labels are bound where they stand
 pub record Placed (labels constants asked : List ℕ) (code n : ℕ) : Type 0 where
-  pub room : n * askedSize ≤ length asked
-  pub listed : (j : ℕ) → j < n → word_at asked j * constantSize + constantSize ≤ length constants
-  pub known : (j : ℕ) → j < n → label_at constants asked j * labelSize + labelSize ≤ length labels
-  pub stands : (j : ℕ) → j < n → word_at labels (label_at constants asked j) ≡ poolOffset code constants asked j
+  pub room : n * asked_size ≤ length asked
+  pub listed : (j : ℕ) → j < n → word_at asked j * constant_size + constant_size ≤ length constants
+  pub known : (j : ℕ) → j < n → label_at constants asked j * label_size + label_size ≤ length labels
+  pub stands : (j : ℕ) → j < n → word_at labels (label_at constants asked j) ≡ pool_offset code constants asked j

@@ -1,6 +1,6 @@
 -- `read_relas` meets its contract: a refusal, or the entries.
 use Rattle.std.proofs.Common.{sym, ◌∙◌, arith, rules}
-use Rattle.elf.proofs.Answers.{read-refused, read_done, read-passed}
+use Rattle.elf.proofs.Answers.{read_refused, read_done, read_passed}
 use Rattle.elf.proofs.read_relas.Statement.{statement}
 use Rattle.elf.proofs.read_relas.Tie as tie
 
@@ -8,13 +8,13 @@ returns : tie.Need-returns
 returns c =
     let after-why-not-read : tie.After-why-not-read = search in
     let start : tie.Start = search in
-    read-refused start.args.relas.now start.args.table.now _ after-why-not-read.why-not-read.ensures c.if1.true
+    read_refused start.args.relas.now start.args.table.now _ after-why-not-read.why-not-read.ensures c.if1.true
 
 put-entries-requires : tie.Need-put-entries-requires
 put-entries-requires c κs =
     let else1 : tie.Else1 = search in
     let after-why-not-read : tie.After-why-not-read = search in
-    let r = read-passed _ _ (sym after-why-not-read.why-not-read.ensures ∙ else1.if1.left) in
+    let r = read_passed _ _ (sym after-why-not-read.why-not-read.ensures ∙ else1.if1.left) in
     (omega (arith, r.table), omega arith)
 
 returns-2 : tie.Need-returns-2

@@ -1,5 +1,5 @@
 -- `copy_run` meets its contract: a part of the code is copied into a part of the output.
-use Rattle.emit.proofs.Runs.{run-copied}
+use Rattle.emit.proofs.Runs.{run_copied}
 use Rattle.std.proofs.Common.{rules}
 use Rattle.emit.proofs.copy_run.Statement.{statement}
 use Rattle.emit.proofs.copy_run.Tie as tie
@@ -8,7 +8,7 @@ returns : tie.Need-returns
 returns c =
     let after-copy : tie.After-copy = search in
     let start : tie.Start = search in
-    search (run-copied, start.pre.0, start.pre.1, start.pre.2, after-copy.copy.ensures)
+    search (run_copied, start.pre.0, start.pre.1, start.pre.2, after-copy.copy.ensures)
 
 pub copy-run-spec : {M : Type 1} → statement M
 copy-run-spec =

@@ -2,28 +2,28 @@
 mod Tie
 use Rattle.std.proofs.Common.{◌≡◌, ◌-◌, ◌≤◌, length, take, sym, refl, ap, ◌∙◌, arith, rules}
 use Rattle.seqs.specs.Over.{over}
-use Rattle.seqs.proofs.Overwrites.{over-nil, length_over}
-use Rattle.relax.specs.Events.{eventAt}
+use Rattle.seqs.proofs.Overwrites.{over_nil, length_over}
+use Rattle.relax.specs.Events.{event_at}
 use Rattle.recording.specs.View.{entries}
-use Rattle.fresh.specs.steps.Runs.{after, runsTo}
-use Rattle.emit.proofs.Runs.{segments-size, order, starts, begins, ends, inside, arrived, turn, last-old, last-room, finished, event-within}
+use Rattle.fresh.specs.steps.Runs.{after, runs_to}
+use Rattle.emit.proofs.Runs.{segments_size, order, starts, begins, ends, inside, arrived, turn, last_old, last_room, finished, event_within}
 use Rattle.emit.proofs.emit_events.Statement.{statement}
 use Rattle.emit.proofs.emit_events.Proof.Tie as tie
 
 abbrev invariant-loop : tie.invariant-loop
-invariant-loop output₀ code events long segments n len arch old₀ new₀ i₀ output old new i = (i ≤ n) × (after i 0 0 (entries (eventAt events) n) long ≡ record { old = old; new = new }) × (length output ≡ length output₀) × (output ≡ over output₀ 0 (runsTo i arch 0 0 (take len code) (entries (eventAt events) n) long))
+invariant-loop output₀ code events long segments n len arch old₀ new₀ i₀ output old new i = (i ≤ n) × (after i 0 0 (entries (event_at events) n) long ≡ record { old = old; new = new }) × (length output ≡ length output₀) × (output ≡ over output₀ 0 (runs_to i arch 0 0 (take len code) (entries (event_at events) n) long))
 
 abbrev decreases-loop : tie.decreases-loop
 decreases-loop output₀ code events long segments n len arch old₀ new₀ i₀ output old new i = n - i
 
 loop-holds : tie.Need-loop-init invariant-loop decreases-loop
-unfolding after runsTo
-loop-holds c = (omega arith, refl, refl, sym (over-nil _ 0))
+unfolding after runs_to
+loop-holds c = (omega arith, refl, refl, sym (over_nil _ 0))
 
 segment-at-requires : tie.Need-segment-at-requires invariant-loop decreases-loop
 segment-at-requires c κs =
     let start : tie.Start invariant-loop decreases-loop = search in
-    omega (arith, segments-size start.pre)
+    omega (arith, segments_size start.pre)
 
 shared-slice-read-emit-segment : tie.Need-shared-slice-read-emit-segment invariant-loop decreases-loop
 shared-slice-read-emit-segment c =
@@ -42,7 +42,7 @@ emit-segment-requires c κs =
     let inside = inside start.pre _ _ _ at-loop.loop.inv.1 in-loop.loop-test.taken _ after-segment-at.segment-at.ensures in
     let starts = starts start.pre _ _ _ at-loop.loop.inv.1 in-loop.loop-test.taken _ after-segment-at.segment-at.ensures in
     let kept = at-loop.loop.inv.2 in (
-      (omega (arith, p.recorded), p.writes _ in-loop.loop-test.taken, omega (arith, event-within start.pre _ in-loop.loop-test.taken, p.coded)),
+      (omega (arith, p.recorded), p.writes _ in-loop.loop-test.taken, omega (arith, event_within start.pre _ in-loop.loop-test.taken, p.coded)),
       (
         (
           order start.pre _ _ _ at-loop.loop.inv.1 in-loop.loop-test.taken _ after-segment-at.segment-at.ensures,
@@ -86,7 +86,7 @@ copy-run-requires c κs =
     let l = at-loop.loop in
     let p = start.pre in
     let all : l.i ≡ start.args.n = omega arith in
-    (last-old p _ _ _ l.inv.1 all, p.coded, omega (arith, last-room p _ _ _ l.inv.1 all, l.inv.2))
+    (last_old p _ _ _ l.inv.1 all, p.coded, omega (arith, last_room p _ _ _ l.inv.1 all, l.inv.2))
 
 returns : tie.Need-returns invariant-loop decreases-loop
 returns c =

@@ -1,7 +1,7 @@
 -- `emit_segment` meets its contract: the event is written over what the run left.
 use Rattle.std.proofs.Common.{length, refl, ap, ◌∙◌, arith, rules}
 use Rattle.seqs.proofs.Overwrites.{length_over}
-use Rattle.relax.specs.Events.{eventAt, start_of, extentOf}
+use Rattle.relax.specs.Events.{event_at, start_of, extent_of}
 use Rattle.fresh.specs.Fill.{part}
 use Rattle.emit.proofs.emit_segment.Statement.{statement}
 use Rattle.emit.proofs.emit_segment.Tie as tie
@@ -27,10 +27,10 @@ returns c =
     let after-copy-run : tie.After-copy-run = search in
     let after-event-at : tie.After-event-at = search in
     let start : tie.Start = search in
-    let event = eventAt start.args.events.now start.args.i in
+    let event = event_at start.args.events.now start.args.i in
     let after-recorded-word : tie.After-recorded-word = search in
     let keeps = rw after-event-at.event-at.ensures at after-recorded-word.recorded-word.ensures in
-    let wrote = after-emit-event.emit-event.ensures (part start.args.code.now (start_of event) (extentOf event)) (rw after-event-at.event-at.ensures keeps) in
+    let wrote = after-emit-event.emit-event.ensures (part start.args.code.now (start_of event) (extent_of event)) (rw after-event-at.event-at.ensures keeps) in
     wrote ∙ rw (after-copy-run.copy_run.ensures, after-event-at.event-at.ensures) refl
 
 pub emit-segment-spec : {M : Type 1} → statement M

@@ -1,21 +1,21 @@
 -- `map_words` meets its contract: after i turns the first i of the words are mapped.
 mod Tie
 use Rattle.std.proofs.Common.{◌≡◌, ◌-◌, ◌≤◌, length, take, refl, ◌∙◌, arith, rules}
-use Rattle.words.proofs.Laws.{length-setWord}
-use Rattle.fresh.specs.Segments.{mapOffset}
-use Rattle.emit.specs.steps.Emit.{mappedWords}
-use Rattle.emit.proofs.Turns.{mapped_next, mapped-turn}
+use Rattle.words.proofs.Laws.{length_set_word}
+use Rattle.fresh.specs.Segments.{map_offset}
+use Rattle.emit.specs.steps.Emit.{mapped_words}
+use Rattle.emit.proofs.Turns.{mapped_next, mapped_turn}
 use Rattle.emit.proofs.map_words.Statement.{statement}
 use Rattle.emit.proofs.map_words.Proof.Tie as tie
 
 abbrev invariant-loop : tie.invariant-loop
-invariant-loop table₀ segments index shift stride count n i₀ table i = (i ≤ count) × (length table ≡ length table₀) × (table ≡ mappedWords (mapOffset (take n segments)) table₀ stride i)
+invariant-loop table₀ segments index shift stride count n i₀ table i = (i ≤ count) × (length table ≡ length table₀) × (table ≡ mapped_words (map_offset (take n segments)) table₀ stride i)
 
 abbrev decreases-loop : tie.decreases-loop
 decreases-loop table₀ segments index shift stride count n i₀ table i = count - i
 
 loop-holds : tie.Need-loop-init invariant-loop decreases-loop
-unfolding mappedWords
+unfolding mapped_words
 loop-holds c = (omega arith, refl, refl)
 
 mul-k : tie.Need-overflow-mul-k invariant-loop decreases-loop
@@ -50,7 +50,7 @@ loop-again c =
     let after-word-at : tie.After-word-at invariant-loop decreases-loop = search in
     let at-loop : tie.At-loop invariant-loop decreases-loop = search in
     let start : tie.Start invariant-loop decreases-loop = search in
-    (omega arith, rw after-put-word.put_word.ensures (length-setWord _ _ _ ∙ at-loop.loop.inv.1), mapped-turn (record { some = start.pre.1.1.some; mapped = at-loop.loop.inv.2 }) after-word-at.word-at.ensures after_map.map.ensures after-put-word.put_word.ensures)
+    (omega arith, rw after-put-word.put_word.ensures (length_set_word _ _ _ ∙ at-loop.loop.inv.1), mapped_turn (record { some = start.pre.1.1.some; mapped = at-loop.loop.inv.2 }) after-word-at.word-at.ensures after_map.map.ensures after-put-word.put_word.ensures)
 
 returns : tie.Need-returns invariant-loop decreases-loop
 returns c =

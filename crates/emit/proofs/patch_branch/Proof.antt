@@ -1,6 +1,6 @@
 -- `patch_branch` meets its contract: the field is that of the word, or of the B after it.
 use Rattle.std.proofs.Common.{refl, arith, rules}
-use Rattle.fresh.specs.Fill.{fillField}
+use Rattle.fresh.specs.Fill.{fill_field}
 use Rattle.emit.proofs.patch_branch.Statement.{statement}
 use Rattle.emit.proofs.patch_branch.Tie as tie
 
@@ -11,7 +11,7 @@ patch-field-requires c κs =
     rw long.if1.taken at start.pre.0
 
 returns : tie.Need-returns
-unfolding fillField
+unfolding fill_field
 returns c =
     let patched : tie.After-patch-field = search in
     let long : tie.Then1 = search in
@@ -25,7 +25,7 @@ patch-field-requires-2 c κs =
     rw kind.field-kind.ensures (rw short.if1.left at start.pre.0)
 
 returns-2 : tie.Need-returns-2
-unfolding fillField
+unfolding fill_field
 returns-2 c =
     let patched : tie.After-patch-field2 = search in
     let kind : tie.After-field-kind = search in

@@ -1,20 +1,20 @@
 -- `patch_displacement` meets its contract: the field is the jump's last bytes.
 use Rattle.std.proofs.Common.{arith, rules}
-use Rattle.fresh.specs.Fill.{fillField}
-use Rattle.fresh.proofs.Forms.{longLen-range}
+use Rattle.fresh.specs.Fill.{fill_field}
+use Rattle.fresh.proofs.Forms.{long_len_range}
 use Rattle.emit.proofs.patch_displacement.Statement.{statement}
 use Rattle.emit.proofs.patch_displacement.Tie as tie
 
 sub_at : tie.Need-overflow-sub-at
 sub_at c =
     let start : tie.Start = search in
-    omega (arith, c.long-len.ensures, longLen-range start.args.jump.cc)
+    omega (arith, c.long-len.ensures, long_len_range start.args.jump.cc)
 
 add_at : tie.Need-overflow-add-at
 add_at c =
     let sized : tie.After-long-len = search in
     let start : tie.Start = search in
-    omega (arith, sized.long-len.ensures, longLen-range start.args.jump.cc)
+    omega (arith, sized.long-len.ensures, long_len_range start.args.jump.cc)
 
 patch-field-requires : tie.Need-patch-field-requires
 patch-field-requires c κs =
@@ -24,7 +24,7 @@ patch-field-requires c κs =
     rw sized.long-len.ensures (rw long.if1.taken at start.pre.0)
 
 returns : tie.Need-returns
-unfolding fillField
+unfolding fill_field
 returns c =
     let patched : tie.After-patch-field = search in
     let sized : tie.After-long-len = search in
@@ -38,7 +38,7 @@ patch-field-requires-2 c κs =
     rw short.if1.left at start.pre.0
 
 returns-2 : tie.Need-returns-2
-unfolding fillField
+unfolding fill_field
 returns-2 c =
     let patched : tie.After-patch-field2 = search in
     let short : tie.Else1 = search in

@@ -1,20 +1,20 @@
 -- `patch_jumps` meets its contract: after i turns the displacements of the first i jumps are written.
 mod Tie
 use Rattle.std.proofs.Common.{◌≡◌, ◌-◌, ◌≤◌, length, refl, ◌∙◌, arith, rules}
-use Rattle.emit.specs.steps.Emit.{jumpsFilled}
-use Rattle.emit.proofs.Turns.{jumps-turn}
-use Rattle.fresh.proofs.Fill.{length-fillJump}
+use Rattle.emit.specs.steps.Emit.{jumps_filled}
+use Rattle.emit.proofs.Turns.{jumps_turn}
+use Rattle.fresh.proofs.Fill.{length_fill_jump}
 use Rattle.emit.proofs.patch_jumps.Statement.{statement}
 use Rattle.emit.proofs.patch_jumps.Proof.Tie as tie
 
 abbrev invariant-loop : tie.invariant-loop
-invariant-loop output₀ events labels long segments n i₀ output i = (i ≤ n) × (length output ≡ length output₀) × (output ≡ jumpsFilled output₀ events labels long segments i)
+invariant-loop output₀ events labels long segments n i₀ output i = (i ≤ n) × (length output ≡ length output₀) × (output ≡ jumps_filled output₀ events labels long segments i)
 
 abbrev decreases-loop : tie.decreases-loop
 decreases-loop output₀ events labels long segments n i₀ output i = n - i
 
 loop-holds : tie.Need-loop-init invariant-loop decreases-loop
-unfolding jumpsFilled
+unfolding jumps_filled
 loop-holds c = (omega arith, refl, refl)
 
 segment-at-requires : tie.Need-segment-at-requires invariant-loop decreases-loop
@@ -41,7 +41,7 @@ loop-again c =
     let after-segment-at : tie.After-segment-at invariant-loop decreases-loop = search in
     let at-loop : tie.At-loop invariant-loop decreases-loop = search in
     let filled = rw after-segment-at.segment-at.ensures at after-patch-jump.patch-jump.ensures in
-    (omega arith, rw filled (length-fillJump _ _ _ _ _ ∙ at-loop.loop.inv.1), search (jumps-turn, at-loop.loop.inv.2, filled))
+    (omega arith, rw filled (length_fill_jump _ _ _ _ _ ∙ at-loop.loop.inv.1), search (jumps_turn, at-loop.loop.inv.2, filled))
 
 returns : tie.Need-returns invariant-loop decreases-loop
 returns c =

@@ -1,6 +1,6 @@
 -- `patch_ref` meets its contract: a kind's field is filled, any other code is passed over.
 use Rattle.std.proofs.Common.{sym, ◌∙◌, rules}
-use Rattle.emit.proofs.Fields.{RefRead, filled, filled-unsupported, filled-unknown, within_of}
+use Rattle.emit.proofs.Fields.{RefRead, filled, filled_unsupported, filled_unknown, within_of}
 use Rattle.emit.proofs.patch_ref.Statement.{statement}
 use Rattle.emit.proofs.patch_ref.Tie as tie
 
@@ -43,14 +43,14 @@ returns-2 c =
     let after-word-at2 : tie.After-word-at2 = search in
     let start : tie.Start = search in
     let a = start.args in
-    filled-unsupported (read after-word-at2) a.at a.output.now c.enum_told.given.1
+    filled_unsupported (read after-word-at2) a.at a.output.now c.enum_told.given.1
 
 returns-3 : tie.Need-returns-3
 returns-3 c =
     let after-word-at2 : tie.After-word-at2 = search in
     let start : tie.Start = search in
     let a = start.args in
-    filled-unknown (read after-word-at2) a.at a.output.now c.enum-told2.given.1
+    filled_unknown (read after-word-at2) a.at a.output.now c.enum-told2.given.1
 
 pub patch-ref-spec : {M : Type 1} → statement M
 patch-ref-spec =

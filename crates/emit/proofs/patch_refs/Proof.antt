@@ -1,20 +1,20 @@
 -- `patch_refs` meets its contract: after i turns the first i refs are filled.
 mod Tie
 use Rattle.std.proofs.Common.{◌≡◌, ◌-◌, ◌≤◌, length, refl, ◌∙◌, arith, rules}
-use Rattle.fresh.proofs.Fill.{length-fillField}
-use Rattle.emit.specs.steps.Emit.{refsFilled}
-use Rattle.emit.proofs.Turns.{refs-turn}
+use Rattle.fresh.proofs.Fill.{length_fill_field}
+use Rattle.emit.specs.steps.Emit.{refs_filled}
+use Rattle.emit.proofs.Turns.{refs_turn}
 use Rattle.emit.proofs.patch_refs.Statement.{statement}
 use Rattle.emit.proofs.patch_refs.Proof.Tie as tie
 
 abbrev invariant-loop : tie.invariant-loop
-invariant-loop output₀ refs labels segments index shift count n i₀ output i = (i ≤ count) × (length output ≡ length output₀) × (output ≡ refsFilled output₀ refs labels segments n i)
+invariant-loop output₀ refs labels segments index shift count n i₀ output i = (i ≤ count) × (length output ≡ length output₀) × (output ≡ refs_filled output₀ refs labels segments n i)
 
 abbrev decreases-loop : tie.decreases-loop
 decreases-loop output₀ refs labels segments index shift count n i₀ output i = count - i
 
 loop-holds : tie.Need-loop-init invariant-loop decreases-loop
-unfolding refsFilled
+unfolding refs_filled
 loop-holds c = (omega arith, refl, refl)
 
 word-at-requires : tie.Need-word-at-requires invariant-loop decreases-loop
@@ -49,7 +49,7 @@ loop-again c =
     let after-word-at : tie.After-word-at invariant-loop decreases-loop = search in
     let at-loop : tie.At-loop invariant-loop decreases-loop = search in
     let filled = rw (after_map.map.ensures, after-word-at.word-at.ensures) at after-patch-ref.patch-ref.ensures in
-    (omega arith, rw filled (length-fillField _ _ _ _ _ ∙ at-loop.loop.inv.1), search (refs-turn, at-loop.loop.inv.2, filled))
+    (omega arith, rw filled (length_fill_field _ _ _ _ _ ∙ at-loop.loop.inv.1), search (refs_turn, at-loop.loop.inv.2, filled))
 
 returns : tie.Need-returns invariant-loop decreases-loop
 returns c =

@@ -1,6 +1,6 @@
 -- `patch_use` meets its contract: a kind's field is patched, any other code is passed over.
 use Rattle.std.proofs.Common.{sym, ◌∙◌, arith, rules}
-use Rattle.emit.proofs.Fields.{used, used-unsupported, used-unknown, within_of}
+use Rattle.emit.proofs.Fields.{used, used_unsupported, used_unknown, within_of}
 use Rattle.emit.proofs.patch_use.Statement.{statement}
 use Rattle.emit.proofs.patch_use.Tie as tie
 
@@ -48,13 +48,13 @@ returns-2 : tie.Need-returns-2
 returns-2 c =
     let after-from-code : tie.After-from-code = search in
     let after-word-at4 : tie.After-word-at4 = search in
-    used-unsupported _ _ _ _ (rw (← after-word-at4.word-at4.ensures) (sym after-from-code.from-code.ensures ∙ c.enum_told.given.1))
+    used_unsupported _ _ _ _ (rw (← after-word-at4.word-at4.ensures) (sym after-from-code.from-code.ensures ∙ c.enum_told.given.1))
 
 returns-3 : tie.Need-returns-3
 returns-3 c =
     let after-from-code : tie.After-from-code = search in
     let after-word-at4 : tie.After-word-at4 = search in
-    used-unknown _ _ _ _ (rw (← after-word-at4.word-at4.ensures) (sym after-from-code.from-code.ensures ∙ c.enum-told2.given.1))
+    used_unknown _ _ _ _ (rw (← after-word-at4.word-at4.ensures) (sym after-from-code.from-code.ensures ∙ c.enum-told2.given.1))
 
 pub patch-use-spec : {M : Type 1} → statement M
 patch-use-spec =

@@ -1,19 +1,19 @@
 -- `patch_uses` meets its contract: after i turns the first i uses are patched.
 use Rattle.std.proofs.Common.{◌≡◌, ◌-◌, ◌≤◌, length, refl, ◌∙◌, arith, rules}
-use Rattle.fresh.proofs.Fill.{length-fillUse}
-use Rattle.emit.specs.steps.Emit.{usesFilled}
-use Rattle.emit.proofs.Turns.{uses-turn}
+use Rattle.fresh.proofs.Fill.{length_fill_use}
+use Rattle.emit.specs.steps.Emit.{uses_filled}
+use Rattle.emit.proofs.Turns.{uses_turn}
 use Rattle.emit.proofs.patch_uses.Statement.{statement}
 use Rattle.emit.proofs.patch_uses.Tie as tie
 
 abbrev invariant-loop : tie.invariant-loop
-invariant-loop output₀ uses labels count i₀ output i = (i ≤ count) × (length output ≡ length output₀) × (output ≡ usesFilled output₀ uses labels i)
+invariant-loop output₀ uses labels count i₀ output i = (i ≤ count) × (length output ≡ length output₀) × (output ≡ uses_filled output₀ uses labels i)
 
 abbrev decreases-loop : tie.decreases-loop
 decreases-loop output₀ uses labels count i₀ output i = count - i
 
 loop-holds : tie.Need-loop-init invariant-loop decreases-loop
-unfolding usesFilled
+unfolding uses_filled
 loop-holds c = (omega arith, refl, refl)
 
 patch-use-requires : tie.Need-patch-use-requires invariant-loop decreases-loop
@@ -27,7 +27,7 @@ loop-again : tie.Need-loop-preserved invariant-loop decreases-loop
 loop-again c =
     let after-patch-use : tie.After-patch-use invariant-loop decreases-loop = search in
     let at-loop : tie.At-loop invariant-loop decreases-loop = search in
-    (omega arith, rw after-patch-use.patch-use.ensures (length-fillUse _ _ _ _ ∙ at-loop.loop.inv.1), search (uses-turn, at-loop.loop.inv.2, after-patch-use.patch-use.ensures))
+    (omega arith, rw after-patch-use.patch-use.ensures (length_fill_use _ _ _ _ ∙ at-loop.loop.inv.1), search (uses_turn, at-loop.loop.inv.2, after-patch-use.patch-use.ensures))
 
 returns : tie.Need-returns invariant-loop decreases-loop
 returns c =

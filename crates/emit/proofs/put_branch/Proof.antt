@@ -1,8 +1,8 @@
 -- `put_branch` meets its contract: one word, or two.
 use Rattle.std.proofs.Common.{◌≡◌, length, sym, refl, ap, ◌∙◌, arith, rules}
-use Rattle.words.proofs.Laws.{length-setWord}
-use Rattle.emit.specs.steps.Emit.{branchForm}
-use Rattle.emit.proofs.Jumps.{one_word, two-words}
+use Rattle.words.proofs.Laws.{length_set_word}
+use Rattle.emit.specs.steps.Emit.{branch_form}
+use Rattle.emit.proofs.Jumps.{one_word, two_words}
 use Rattle.emit.proofs.put_branch.Statement.{statement}
 use Rattle.emit.proofs.put_branch.Tie as tie
 
@@ -25,7 +25,7 @@ put-word-requires-2 : tie.Need-put-word-requires-2
 put-word-requires-2 c κs =
     let long : tie.Then1 = search in
     let first : tie.After-put-word = search in
-    omega (arith, long-room long, ap length first.put_word.ensures ∙ length-setWord _ _ _)
+    omega (arith, long-room long, ap length first.put_word.ensures ∙ length_set_word _ _ _)
 
 returns : tie.Need-returns
 returns c =
@@ -36,7 +36,7 @@ returns c =
     let start : tie.Start = search in
     second.put-word2.ensures
     ∙ rw (first.put_word.ensures, word.skipping.ensures, long.if1.taken)
-    (two-words start.args.part.now _ _ (long-room long))
+    (two_words start.args.part.now _ _ (long-room long))
 
 put-word-requires-3 : tie.Need-put-word-requires-3
 put-word-requires-3 c κs =

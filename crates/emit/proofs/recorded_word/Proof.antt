@@ -1,7 +1,7 @@
 -- `recorded_word` meets its contract, by cases of the event.
 use Rattle.std.proofs.Common.{◌≡◌, ℕ, ◌+◌, ◌-◌, ◌≤◌, length, drop, sym, refl, ap, ◌∙◌, arith, length-drop, length-take, length-take-le, rules}
 use Rattle.relax.specs.Events.{end_of}
-use Rattle.emit.proofs.Jumps.{keeps-jump, keeps-align, keeps-far, far-writes, far-end}
+use Rattle.emit.proofs.Jumps.{keeps_jump, keeps_align, keeps_far, far_writes, far_end}
 use Rattle.emit.proofs.recorded_word.Statement.{statement}
 use Rattle.emit.proofs.recorded_word.Tie as tie
 
@@ -12,7 +12,7 @@ four n = omega arith
 room : (c : tie.After-event) → let start : tie.Start = search in c.event.given.0.0.start + 4 ≤ length start.args.code.now
 room c =
     let start : tie.Start = search in
-    far-end _ c.event.given.0.0 _ c.event.given.1 start.pre.0 start.pre.1
+    far_end _ c.event.given.0.0 _ c.event.given.1 start.pre.0 start.pre.1
 
 part-word-at-end : tie.Need-slice-bounds-word-at-end
 part-word-at-end c =
@@ -29,12 +29,12 @@ word-at-requires c κs =
 returns : tie.Need-returns
 returns c =
     let told : tie.After-enum-told = search in
-    keeps-jump _ _ _ _ told.enum_told.given.1
+    keeps_jump _ _ _ _ told.enum_told.given.1
 
 returns-2 : tie.Need-returns-2
 returns-2 c =
     let told : tie.After-enum-told2 = search in
-    keeps-align _ _ _ _ told.enum-told2.given.1
+    keeps_align _ _ _ _ told.enum-told2.given.1
 
 returns-3 : tie.Need-returns-3
 returns-3 c =
@@ -42,7 +42,7 @@ returns-3 c =
     let read : tie.After-word-at = search in
     let start : tie.Start = search in
     let n = met.event.given.0.0.start in
-    keeps-far _ met.event.given.0.0 _ start.args.code.now met.event.given.1 start.pre.0 (rw (four n) at read.word-at.ensures)
+    keeps_far _ met.event.given.0.0 _ start.args.code.now met.event.given.1 start.pre.0 (rw (four n) at read.word-at.ensures)
 
 pub recorded-word-spec : {M : Type 1} → statement M
 recorded-word-spec =

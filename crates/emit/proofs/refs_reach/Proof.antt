@@ -1,13 +1,13 @@
 -- `refs_reach` meets its contract: every ref passed reaches.
 mod Tie
 use Rattle.std.proofs.Common.{◌-◌, arith, rules}
-use Rattle.seqs.proofs.Scans.{AllPassed, pass-one, pass-fails, scans}
-use Rattle.emit.specs.steps.Emit.{refReaches, refsReach}
+use Rattle.seqs.proofs.Scans.{AllPassed, pass_one, pass_fails, scans}
+use Rattle.emit.specs.steps.Emit.{ref_reaches, refs_reach}
 use Rattle.emit.proofs.refs_reach.Statement.{statement}
 use Rattle.emit.proofs.refs_reach.Proof.Tie as tie
 
 abbrev invariant-loop : tie.invariant-loop
-invariant-loop refs labels segments index shift count n i₀ i = AllPassed (refReaches refs labels segments n) count i
+invariant-loop refs labels segments index shift count n i₀ i = AllPassed (ref_reaches refs labels segments n) count i
 
 abbrev decreases-loop : tie.decreases-loop
 decreases-loop refs labels segments index shift count n i₀ i = count - i
@@ -47,7 +47,7 @@ ref-reaches-requires c κs =
     (start.pre.1.1.each _ in-loop.loop-test.taken).entry
 
 returns : tie.Need-returns invariant-loop decreases-loop
-unfolding refsReach
+unfolding refs_reach
 returns c =
     let after-ref-reaches : tie.After-ref-reaches invariant-loop decreases-loop = search in
     let after-map2 : tie.After-map2 invariant-loop decreases-loop = search in
@@ -56,7 +56,7 @@ returns c =
     let after-word-at : tie.After-word-at invariant-loop decreases-loop = search in
     let at-loop : tie.At-loop invariant-loop decreases-loop = search in
     let said = rw (after-map2.map2.ensures, after-ref-label.ref-label.ensures, after_map.map.ensures, after-word-at.word-at.ensures) at after-ref-reaches.ref_reaches.ensures in
-    pass-fails at-loop.loop.inv (omega arith) said c.if1.true
+    pass_fails at-loop.loop.inv (omega arith) said c.if1.true
 
 loop-again : tie.Need-loop-preserved invariant-loop decreases-loop
 loop-again c =
@@ -67,10 +67,10 @@ loop-again c =
     let after-word-at : tie.After-word-at invariant-loop decreases-loop = search in
     let at-loop : tie.At-loop invariant-loop decreases-loop = search in
     let said = rw (after-map2.map2.ensures, after-ref-label.ref-label.ensures, after_map.map.ensures, after-word-at.word-at.ensures) at after-ref-reaches.ref_reaches.ensures in
-    pass-one at-loop.loop.inv (omega arith) said c.if1.false
+    pass_one at-loop.loop.inv (omega arith) said c.if1.false
 
 pub refs-reach-spec : {M : Type 1} → statement M
-unfolding refsReach
+unfolding refs_reach
 refs-reach-spec =
     tie.close
     (tie.spec

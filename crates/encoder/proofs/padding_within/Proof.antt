@@ -1,6 +1,6 @@
 -- `padding_within` meets its contract: what is needed, or nothing.
 use Rattle.std.proofs.Common.{sym, ◌∙◌, arith, rules}
-use Rattle.encoder.proofs.Padding.{within-needed, within_none}
+use Rattle.encoder.proofs.Padding.{within_needed, within_none}
 use Rattle.encoder.proofs.padding_within.Statement.{statement}
 use Rattle.encoder.proofs.padding_within.Tie as tie
 
@@ -10,7 +10,7 @@ returns c =
     let start : tie.Start = search in
     let a = start.args in
     measured.padding-len.ensures
-    ∙ sym (within-needed a.offset a.align-to a.most (omega (arith, measured.padding-len.ensures)))
+    ∙ sym (within_needed a.offset a.align-to a.most (omega (arith, measured.padding-len.ensures)))
 
 returns-2 : tie.Need-returns-2
 returns-2 c =

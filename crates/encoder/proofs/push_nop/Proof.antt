@@ -1,9 +1,9 @@
 -- `push_nop` meets its contract: the row starts with the form, and the copy fills `pad`.
 use Rattle.std.proofs.Common.{◌≤◌, length, sym, ap, ◌∙◌, arith, length-take-le, rules}
 use Rattle.seqs.specs.Over.{over}
-use Rattle.seqs.proofs.Overwrites.{over-all}
+use Rattle.seqs.proofs.Overwrites.{over_all}
 use Rattle.encoder.specs.Nops.{form}
-use Rattle.encoder.proofs.Forms.{form-length}
+use Rattle.encoder.proofs.Forms.{form_length}
 use Rattle.encoder.proofs.push_nop.Statement.{statement}
 use Rattle.encoder.proofs.push_nop.Tie as tie
 
@@ -14,7 +14,7 @@ returns c =
     let pad = start.args.pad.now in
     let n = length pad in
     after-copy.copy.ensures
-    ∙ (ap (over pad 0) start.pre.2 ∙ over-all pad (form n) (form-length n start.pre.0))
+    ∙ (ap (over pad 0) start.pre.2 ∙ over_all pad (form n) (form_length n start.pre.0))
 
 pub push-nop-spec : {M : Type 1} → statement M
 push-nop-spec =

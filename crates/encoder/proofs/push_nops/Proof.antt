@@ -2,10 +2,10 @@
 use Rattle.std.proofs.Common.{◌≡◌, ℕ, ◌+◌, ◌-◌, ◌≤◌, List, [], length, get_or, take, drop, sym, refl, ap, ◌∙◌, arith, length-drop, length-take, rules}
 use native.Mathlib.Nat.{sub-zero}
 use Rattle.seqs.specs.Over.{over}
-use Rattle.seqs.proofs.Overwrites.{over-all, over-nil, length_over}
+use Rattle.seqs.proofs.Overwrites.{over_all, over_nil, length_over}
 use Rattle.encoder.specs.Nops.{form, nops}
-use Rattle.encoder.proofs.Forms.{rows, row-length, row-form}
-use Rattle.encoder.proofs.Nops.{nops-zero, nops-below-9, nops-length, over-form, over-form-to, over-longest-first}
+use Rattle.encoder.proofs.Forms.{rows, row_length, row_form}
+use Rattle.encoder.proofs.Nops.{nops_zero, nops_below_9, nops_length, over_form, over_form_to, over_longest_first}
 use Rattle.encoder.proofs.push_nops.Statement.{statement}
 use Rattle.encoder.proofs.push_nops.Tie as tie
 
@@ -19,14 +19,14 @@ loop-holds : tie.Need-loop-init invariant-loop decreases-loop
 loop-holds c =
     let start : tie.Start invariant-loop decreases-loop = search in
     let pad = start.args.pad.now in
-    (omega arith, refl, rw (sub-zero (length pad)) (over-all pad (nops (length pad)) (nops-length (length pad))), refl, refl)
+    (omega arith, refl, rw (sub-zero (length pad)) (over_all pad (nops (length pad)) (nops_length (length pad))), refl, refl)
 
 -- a row for a part of the slice
 fits : (pad row : List ℕ) (i e n : ℕ) → e - i ≡ n → n ≤ 9 → e ≤ length pad → row ≡ get_or rows (n - 1) []
     → (length (take (e - i) (drop i pad)) ≤ 9) × (length row ≡ 9) × (take (length (take (e - i) (drop i pad))) row ≡ form (length (take (e - i) (drop i pad))))
 fits pad row i e n q h k r =
     let l : length (take (e - i) (drop i pad)) ≡ n = simp (length-take, length-drop) (omega arith) in
-    (omega arith, rw r (row-length n h), rw (l, r) (row-form n h))
+    (omega arith, rw r (row_length n h), rw (l, r) (row_form n h))
 
 push-nop-requires : tie.Need-push-nop-requires invariant-loop decreases-loop
 push-nop-requires c κs =
@@ -40,8 +40,8 @@ loop-again c =
     let at-loop : tie.At-loop invariant-loop decreases-loop = search in
     let pad = at-loop.loop.pad in
     let i = at-loop.loop.i in
-    let e = over-form pad _ i 9 (omega arith) (omega arith) after-push-nop.push-nop.ensures in
-    (omega arith, rw (e, length_over pad i (form 9)) (omega arith), rw e (over-longest-first pad i 9 _ (omega arith) (omega arith) (omega arith) ∙ at-loop.loop.inv.2), at-loop.loop.inv.3, at-loop.loop.inv.4)
+    let e = over_form pad _ i 9 (omega arith) (omega arith) after-push-nop.push-nop.ensures in
+    (omega arith, rw (e, length_over pad i (form 9)) (omega arith), rw e (over_longest_first pad i 9 _ (omega arith) (omega arith) (omega arith) ∙ at-loop.loop.inv.2), at-loop.loop.inv.3, at-loop.loop.inv.4)
 
 push-nop-requires-2 : tie.Need-push-nop-requires-2 invariant-loop decreases-loop
 push-nop-requires-2 c κs =
@@ -55,7 +55,7 @@ slice-aggregate-push-nop-2 : tie.Need-slice-aggregate-push-nop-2 invariant-loop 
 slice-aggregate-push-nop-2 c =
     let at-loop : tie.At-loop invariant-loop decreases-loop = search in
     let start : tie.Start invariant-loop decreases-loop = search in
-    sym (row-length (length start.args.pad.now - at-loop.loop.i) (omega arith))
+    sym (row_length (length start.args.pad.now - at-loop.loop.i) (omega arith))
 
 same_length : tie.Need-same-length invariant-loop decreases-loop
 same_length c =
@@ -65,7 +65,7 @@ same_length c =
     let pad = at-loop.loop.pad in
     let i = at-loop.loop.i in
     let len = length start.args.pad.now in
-    ap (λ (l : List ℕ). length l) (over-form-to pad _ i len (omega arith) (omega arith) (omega arith) written.push-nop2.ensures)
+    ap (λ (l : List ℕ). length l) (over_form_to pad _ i len (omega arith) (omega arith) (omega arith) written.push-nop2.ensures)
     ∙ (length_over pad i (form (len - i)) ∙ at-loop.loop.inv.1)
 
 returns : tie.Need-returns invariant-loop decreases-loop
@@ -76,8 +76,8 @@ returns c =
     let pad = at-loop.loop.pad in
     let i = at-loop.loop.i in
     let len = length start.args.pad.now in
-    over-form-to pad _ i len (omega arith) (omega arith) (omega arith) written.push-nop2.ensures
-    ∙ (ap (over pad i) (sym (nops-below-9 (len - i) (omega arith))) ∙ at-loop.loop.inv.2)
+    over_form_to pad _ i len (omega arith) (omega arith) (omega arith) written.push-nop2.ensures
+    ∙ (ap (over pad i) (sym (nops_below_9 (len - i) (omega arith))) ∙ at-loop.loop.inv.2)
 
 returns-2 : tie.Need-returns-2 invariant-loop decreases-loop
 returns-2 c =
@@ -86,7 +86,7 @@ returns-2 c =
     let pad = at-loop'.loop.pad in
     let i = at-loop'.loop.i in
     let z : length start.args.pad.now - i ≡ 0 = omega arith in
-    sym (over-nil pad i) ∙ (rw (z, nops-zero) at at-loop'.loop.inv.2)
+    sym (over_nil pad i) ∙ (rw (z, nops_zero) at at-loop'.loop.inv.2)
 
 pub push-nops-spec : {M : Type 1} → statement M
 push-nops-spec =

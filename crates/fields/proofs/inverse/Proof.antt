@@ -1,7 +1,7 @@
 -- `inverse` meets its contract.
 use Rattle.std.proofs.Common.{◌≡◌, ℕ, ◌-◌, ◌/◌, ◌%◌, ap, ◌∙◌, arith, rules}
-use Rattle.seqs.proofs.Picking.{yes-eq, no_eq}
-use Rattle.fields.specs.Bits.{insertBits}
+use Rattle.seqs.proofs.Picking.{yes_eq, no_eq}
+use Rattle.fields.specs.Bits.{insert_bits}
 use Rattle.fields.specs.Branches.{inverse}
 use Rattle.fields.proofs.inverse.Statement.{statement}
 use Rattle.fields.proofs.inverse.Tie as tie
@@ -13,7 +13,7 @@ returns : tie.Need-returns
 unfolding inverse
 returns c =
     let then1 : tie.Then1 = search in
-    rw (yes-eq _ 84 _ _ then1.if1.taken, same_low) c.insert-bits.ensures
+    rw (yes_eq _ 84 _ _ then1.if1.taken, same_low) c.insert-bits.ensures
 
 returns-2 : tie.Need-returns-2
 unfolding inverse

@@ -1,13 +1,13 @@
 -- `is_branch` meets its contract: each return is where the tests end.
 use Rattle.std.proofs.Common.{◌≡◌, ℕ, ◌/◌, ◌%◌, arith, rules, eq-eqb, ne_eqb}
-use Rattle.seqs.proofs.Picking.{yes-eq, no_eq}
+use Rattle.seqs.proofs.Picking.{yes_eq, no_eq}
 use Rattle.fields.specs.Branches.{is_branch}
 use Rattle.fields.proofs.is_branch.Statement.{statement}
 use Rattle.fields.proofs.is_branch.Tie as tie
 
 returns : tie.Need-returns
 unfolding is_branch
-returns c = rw (yes-eq _ 9 _ _ c.if1.true)
+returns c = rw (yes_eq _ 9 _ _ c.if1.true)
 
 returns-2 : tie.Need-returns-2
 unfolding is_branch

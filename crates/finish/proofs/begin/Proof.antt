@@ -2,11 +2,11 @@
 use mathlib.Core.Path.{sym, ◌∙◌}
 use native.Mathlib.Omega.{arith}
 use borrow.Author.Rules.{rules}
-use Rattle.seqs.proofs.Booleans.{true-is-not-false}
-use Rattle.checks.specs.Lent.{recordingOf}
-use Rattle.finish.proofs.SoundRecording.{pool-fits, pool-labels}
-use Rattle.finish.proofs.FitOrRefused.{asked-few, sound, passed-unfit}
-use Rattle.finish.proofs.WholeFinish.{placeable, finish-unfit, finish-concluded}
+use Rattle.seqs.proofs.Booleans.{true_is_not_false}
+use Rattle.checks.specs.Lent.{recording_of}
+use Rattle.finish.proofs.SoundRecording.{pool_fits, pool_labels}
+use Rattle.finish.proofs.FitOrRefused.{asked_few, sound, passed_unfit}
+use Rattle.finish.proofs.WholeFinish.{placeable, finish_unfit, finish_concluded}
 use Rattle.finish.proofs.begin.Statement.{statement}
 use Rattle.finish.proofs.begin.Tie as tie
 
@@ -19,9 +19,9 @@ returns c =
     let after-why-unfit : tie.After-why-unfit = search in
     let start' = start-from-after-why-unfit after-why-unfit in
     let a = start'.args in
-    let r = recordingOf a.b a.code.now a.labels.now a.events.now a.uses.now a.refs.now a.constants.now a.asked.now a.relocs.now in (
-      λ e ss l. finish-unfit r ss a.output.now _ _ (rw l after-why-unfit.why-unfit.ensures) then1.if1.taken c.unfinished.ensures,
-      λ e. absurd (true-is-not-false (sym e)),
+    let r = recording_of a.b a.code.now a.labels.now a.events.now a.uses.now a.refs.now a.constants.now a.asked.now a.relocs.now in (
+      λ e ss l. finish_unfit r ss a.output.now _ _ (rw l after-why-unfit.why-unfit.ensures) then1.if1.taken c.unfinished.ensures,
+      λ e. absurd (true_is_not_false (sym e)),
     )
 
 bind-requires : tie.Need-bind-requires
@@ -30,12 +30,12 @@ bind-requires c κs =
     let after-why-unfit : tie.After-why-unfit = search in
     let start' = start-from-after-why-unfit after-why-unfit in
     let a = start'.args in
-    let r = recordingOf a.b a.code.now a.labels.now a.events.now a.uses.now a.refs.now a.constants.now a.asked.now a.relocs.now in
+    let r = recording_of a.b a.code.now a.labels.now a.events.now a.uses.now a.refs.now a.constants.now a.asked.now a.relocs.now in
     let unfit = sym after-why-unfit.why-unfit.ensures ∙ else1.if1.left in
-    let pass = passed-unfit r _ _ unfit in
+    let pass = passed_unfit r _ _ unfit in
     let s = sound r _ _ pass.stood pass.fit in
-    let few = asked-few r _ _ pass.stood in
-    (pool-fits r s few, (pool-labels r s few, omega (arith, s.code.limit)))
+    let few = asked_few r _ _ pass.stood in
+    (pool_fits r s few, (pool_labels r s few, omega (arith, s.code.limit)))
 
 start-requires : tie.Need-start-requires
 start-requires c κs =
@@ -44,9 +44,9 @@ start-requires c κs =
     let after-why-unfit : tie.After-why-unfit = search in
     let start' = start-from-after-why-unfit after-why-unfit in
     let a = start'.args in
-    let r = recordingOf a.b a.code.now a.labels.now a.events.now a.uses.now a.refs.now a.constants.now a.asked.now a.relocs.now in
+    let r = recording_of a.b a.code.now a.labels.now a.events.now a.uses.now a.refs.now a.constants.now a.asked.now a.relocs.now in
     let unfit = sym after-why-unfit.why-unfit.ensures ∙ else1.if1.left in
-    let pass = passed-unfit r _ _ unfit in
+    let pass = passed_unfit r _ _ unfit in
     rw after-bind.bind.ensures (placeable r _ a.output.now pass)
 
 abbrev after-slice-known-from-after-why-unfit : tie.After-why-unfit → tie.After-slice-known
@@ -62,18 +62,18 @@ returns-2 c =
     let after-slice-known = after-slice-known-from-after-why-unfit after-why-unfit in
     let start' : tie.Start = search in
     let a = start'.args in
-    let r = recordingOf a.b a.code.now a.labels.now a.events.now a.uses.now a.refs.now a.constants.now a.asked.now a.relocs.now in
+    let r = recording_of a.b a.code.now a.labels.now a.events.now a.uses.now a.refs.now a.constants.now a.asked.now a.relocs.now in
     let unfit = sym after-why-unfit.why-unfit.ensures ∙ else1.if1.left in
-    let pass = passed-unfit r _ _ unfit in
+    let pass = passed_unfit r _ _ unfit in
     let starts = rw after-bind.bind.ensures at (after-start.start.ensures.1 then2.if2.taken) in (
-      λ e. absurd (true-is-not-false e),
+      λ e. absurd (true_is_not_false e),
       λ e.
           rw after-bind.bind.ensures
           (record {
             kept = starts.kept;
             relaxable = starts.relaxable;
             laid = starts.laid;
-            concludes = λ ss l placed x is f back end. finish-concluded r _ a.output.now pass (λ i. (after-slice-known.slice-known.given i).fits) unfit ss l placed x (starts.placed ss (placed, x) is) f back end;
+            concludes = λ ss l placed x is f back end. finish_concluded r _ a.output.now pass (λ i. (after-slice-known.slice-known.given i).fits) unfit ss l placed x (starts.placed ss (placed, x) is) f back end;
           }),
     )
 
@@ -84,12 +84,12 @@ conclude-requires c κs =
     let after-why-unfit : tie.After-why-unfit = search in
     let start' = start-from-after-why-unfit after-why-unfit in
     let a = start'.args in
-    let r = recordingOf a.b a.code.now a.labels.now a.events.now a.uses.now a.refs.now a.constants.now a.asked.now a.relocs.now in
+    let r = recording_of a.b a.code.now a.labels.now a.events.now a.uses.now a.refs.now a.constants.now a.asked.now a.relocs.now in
     let unfit = sym after-why-unfit.why-unfit.ensures ∙ else1.if1.left in
-    let pass = passed-unfit r _ _ unfit in
+    let pass = passed_unfit r _ _ unfit in
     let s = sound r _ _ pass.stood pass.fit in
-    let few = asked-few r _ _ pass.stood in
-    (pool-fits r s few, record { known = λ j h. omega (arith, (pool-labels r s few).known j h, after-bind.bind.kept.1.0) })
+    let few = asked_few r _ _ pass.stood in
+    (pool_fits r s few, record { known = λ j h. omega (arith, (pool_labels r s few).known j h, after-bind.bind.kept.1.0) })
 
 returns-3 : tie.Need-returns-3
 returns-3 c =
@@ -102,14 +102,14 @@ returns-3 c =
     let after-slice-known = after-slice-known-from-after-why-unfit after-why-unfit in
     let start' : tie.Start = search in
     let a = start'.args in
-    let r = recordingOf a.b a.code.now a.labels.now a.events.now a.uses.now a.refs.now a.constants.now a.asked.now a.relocs.now in
+    let r = recording_of a.b a.code.now a.labels.now a.events.now a.uses.now a.refs.now a.constants.now a.asked.now a.relocs.now in
     let unfit = sym after-why-unfit.why-unfit.ensures ∙ else1.if1.left in
-    let pass = passed-unfit r _ _ unfit in (
+    let pass = passed_unfit r _ _ unfit in (
       λ e ss l.
-          finish-concluded r _ a.output.now pass (λ i. (after-slice-known.slice-known.given i).fits) unfit ss l _ _
+          finish_concluded r _ a.output.now pass (λ i. (after-slice-known.slice-known.given i).fits) unfit ss l _ _
           (rw after-bind.bind.ensures at (after-start.start.ensures.0 else2.if2.left ss l)) _ _
           (rw after-bind.bind.ensures at after-conclude.conclude.ensures),
-      λ e. absurd (true-is-not-false (sym e)),
+      λ e. absurd (true_is_not_false (sym e)),
     )
 
 pub begin-spec : {M : Type 1} → statement M

@@ -1,7 +1,7 @@
 -- `conclude` meets its contract, by whether the recording was placed.
 use mathlib.Core.Path.{sym}
 use borrow.Author.Rules.{rules}
-use Rattle.seqs.proofs.Picking.{yes-eq, no_eq}
+use Rattle.seqs.proofs.Picking.{yes_eq, no_eq}
 use Rattle.finish.specs.steps.Ready.{concluded}
 use Rattle.finish.proofs.conclude.Statement.{statement}
 use Rattle.finish.proofs.conclude.Tie as tie
@@ -18,7 +18,7 @@ unfolding concluded
 returns-2 c =
     let after-code-alignment : tie.After-code-alignment = search in
     let else1 : tie.Else1 = search in
-    rw (c.finished-with.ensures, after-code-alignment.code-alignment.ensures) (sym (yes-eq _ 0 _ _ else1.if1.left))
+    rw (c.finished-with.ensures, after-code-alignment.code-alignment.ensures) (sym (yes_eq _ 0 _ _ else1.if1.left))
 
 pub conclude-spec : {M : Type 1} → statement M
 conclude-spec =

@@ -8,24 +8,24 @@ use Rattle.buffer.specs.Refusals.{standing}
 use Rattle.recording.specs.Calls.{Recording}
 use Rattle.recording.specs.Sound.{Sound}
 use Rattle.recording.specs.View.{view}
-use Rattle.recording.specs.Open.{openOf}
-use Rattle.recording.proofs.Naming.{open-count}
-use Rattle.checks.specs.Entries.{entriesFit}
-use Rattle.checks.specs.Lent.{recordingOf, countsFit, withinLimits}
-use Rattle.finish.proofs.SoundRecording.{pool-fits, pool-labels}
+use Rattle.recording.specs.Open.{open_of}
+use Rattle.recording.proofs.Naming.{open_count_lem}
+use Rattle.checks.specs.Entries.{entries_fit}
+use Rattle.checks.specs.Lent.{recording_of, counts_fit, within_limits}
+use Rattle.finish.proofs.SoundRecording.{pool_fits, pool_labels}
 use Rattle.finish.proofs.FitOrRefused.{
   counts,
   namers,
   code_fits,
-  asked-few,
+  asked_few,
   sound,
-  entries-read,
-  unfit-standing,
-  unfit-entries,
-  unfit-open,
-  unfit-bound,
-  unfit-long,
-  unfit-none,
+  entries_read,
+  unfit_standing,
+  unfit_entries,
+  unfit_open,
+  unfit_bound,
+  unfit_long,
+  unfit_none,
 }
 use Rattle.finish.proofs.why_unfit.Statement.{statement}
 use Rattle.finish.proofs.why_unfit.Tie as tie
@@ -36,13 +36,13 @@ entered c = search
 abbrev lent : tie.After-why-not-standing → Recording
 lent c =
     let a = (entered c).args in
-    recordingOf a.b a.code.now a.labels.now a.events.now a.uses.now a.refs.now a.constants.now a.asked.now a.relocs.now
+    recording_of a.b a.code.now a.labels.now a.events.now a.uses.now a.refs.now a.constants.now a.asked.now a.relocs.now
 
 -- once 1 to 4 are past
 abbrev asked : tie.Else1 → tie.After-why-not-standing
 asked c = search
 
-stood : (c : tie.Else1) → let r = lent (asked c) in let a = (entered (asked c)).args in standing r.buffer (countsFit r) (withinLimits r a.segments a.output) ≡ 0
+stood : (c : tie.Else1) → let r = lent (asked c) in let a = (entered (asked c)).args in standing r.buffer (counts_fit r) (within_limits r a.segments a.output) ≡ 0
 stood c = sym (asked c).why-not-standing.ensures ∙ c.if1.false
 
 -- once the entries fit
@@ -52,10 +52,10 @@ standing-past c = search
 abbrev recording : tie.Else2 → Recording
 recording c = lent (asked (standing-past c))
 
-fit : (c : tie.Else2) → entriesFit (recording c) ≡ true
+fit : (c : tie.Else2) → entries_fit (recording c) ≡ true
 fit c =
     let judged : tie.After-entries-fit = search in
-    entries-read (recording c) _ true judged.entries_fit.ensures (not-false _ c.if2.false)
+    entries_read (recording c) _ true judged.entries_fit.ensures (not-false _ c.if2.false)
 
 is-sound : (c : tie.Else2) → Sound (recording c)
 is-sound c = sound (recording c) _ _ (stood (standing-past c)) (fit c)
@@ -64,15 +64,15 @@ is-sound c = sound (recording c) _ _ (stood (standing-past c)) (fit c)
 abbrev entries-past : tie.Else3 → tie.Else2
 entries-past c = search
 
-right : (c : tie.Else3) → (recording (entries-past c)).buffer.unresolved ≡ openOf (view (recording (entries-past c)))
+right : (c : tie.Else3) → (recording (entries-past c)).buffer.unresolved ≡ open_of (view (recording (entries-past c)))
 right c =
     let counted : tie.After-count-open = search in
-    sym c.if3.false ∙ counted.count-open.ensures ∙ sym (open-count (recording (entries-past c)))
+    sym c.if3.false ∙ counted.count-open.ensures ∙ sym (open_count_lem (recording (entries-past c)))
 
 returns : tie.Need-returns
 returns c =
     let w : tie.After-why-not-standing = search in
-    unfit-standing (lent w) _ _ _ w.why-not-standing.ensures c.if1.true
+    unfit_standing (lent w) _ _ _ w.why-not-standing.ensures c.if1.true
 
 entries-fit-requires : tie.Need-entries-fit-requires
 entries-fit-requires c κs =
@@ -84,7 +84,7 @@ returns-2 c =
     let judged : tie.After-entries-fit = search in
     let e : tie.Else1 = search in
     let r = lent (asked e) in
-    unfit-entries r _ _ (stood e) (entries-read r _ false judged.entries_fit.ensures (not-true _ c.if2.true))
+    unfit_entries r _ _ (stood e) (entries_read r _ false judged.entries_fit.ensures (not-true _ c.if2.true))
 
 count-open-requires : tie.Need-count-open-requires
 count-open-requires c κs =
@@ -96,28 +96,28 @@ returns-3 : tie.Need-returns-3
 returns-3 c =
     let counted : tie.After-count-open = search in
     let e : tie.Else2 = search in
-    unfit-open (recording e) _ _ (stood (standing-past e)) (fit e) (rw counted.count-open.ensures at c.if3.true)
+    unfit_open (recording e) _ _ (stood (standing-past e)) (fit e) (rw counted.count-open.ensures at c.if3.true)
 
 is-any-bound-requires : tie.Need-is-any-bound-requires
 is-any-bound-requires c κs =
     let e : tie.Else3 = search in
     let p = entries-past e in
-    let few = asked-few (recording p) _ _ (stood (standing-past p)) in
-    (pool-fits (recording p) (is-sound p) few, pool-labels (recording p) (is-sound p) few)
+    let few = asked_few (recording p) _ _ (stood (standing-past p)) in
+    (pool_fits (recording p) (is-sound p) few, pool_labels (recording p) (is-sound p) few)
 
 returns-4 : tie.Need-returns-4
 returns-4 c =
     let any : tie.After-is-any-bound = search in
     let e : tie.Else3 = search in
     let p = entries-past e in
-    unfit-bound (recording p) _ _ (stood (standing-past p)) (fit p) (right e) (sym any.is-any-bound.ensures ∙ c.if4.true)
+    unfit_bound (recording p) _ _ (stood (standing-past p)) (fit p) (right e) (sym any.is-any-bound.ensures ∙ c.if4.true)
 
 pool-end-requires : tie.Need-pool-end-requires
 pool-end-requires c κs =
     let e : tie.Else3 = search in
     let p = entries-past e in
     let s = stood (standing-past p) in
-    (pool-fits (recording p) (is-sound p) (asked-few (recording p) _ _ s), omega (arith, (code_fits (recording p) _ _ s).limit))
+    (pool_fits (recording p) (is-sound p) (asked_few (recording p) _ _ s), omega (arith, (code_fits (recording p) _ _ s).limit))
 
 returns-5 : tie.Need-returns-5
 returns-5 c =
@@ -126,7 +126,7 @@ returns-5 c =
     let any : tie.After-is-any-bound = search in
     let e : tie.Else3 = search in
     let p = entries-past e in
-    unfit-long (recording p) _ _ (stood (standing-past p)) (fit p) (right e) (sym any.is-any-bound.ensures ∙ free.if4.left) (omega (arith, c.if5.true, ends.pool-end.ensures.0))
+    unfit_long (recording p) _ _ (stood (standing-past p)) (fit p) (right e) (sym any.is-any-bound.ensures ∙ free.if4.left) (omega (arith, c.if5.true, ends.pool-end.ensures.0))
 
 returns-6 : tie.Need-returns-6
 returns-6 c =
@@ -135,7 +135,7 @@ returns-6 c =
     let any : tie.After-is-any-bound = search in
     let e : tie.Else3 = search in
     let p = entries-past e in
-    unfit-none (recording p) _ _ (stood (standing-past p)) (fit p) (right e) (sym any.is-any-bound.ensures ∙ free.if4.left) (omega (arith, c.if5.false, ends.pool-end.ensures.0))
+    unfit_none (recording p) _ _ (stood (standing-past p)) (fit p) (right e) (sym any.is-any-bound.ensures ∙ free.if4.left) (omega (arith, c.if5.false, ends.pool-end.ensures.0))
 
 pub why-unfit-spec : {M : Type 1} → statement M
 why-unfit-spec =

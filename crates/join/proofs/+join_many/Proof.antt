@@ -2,8 +2,8 @@
 use Rattle.std.proofs.Common.{ℕ, ◌<◌, rules}
 use borrow.Fn.Kinds.{In}
 use borrow.Fn.PlainCycle.{Measures, is, falls, and}
-use Rattle.join.specs.steps.Tables.{manySymbols}
-use Rattle.join.proofs.Tables.{settled-clear}
+use Rattle.join.specs.steps.Tables.{many_symbols}
+use Rattle.join.proofs.Tables.{settled_clear}
 use Rattle.join.proofs.join_many.Reads as reads
 use Rattle.join.proofs.join_many.Kinds as kinds
 use Rattle.join.proofs.+join_many.Lts-join_many as lts
@@ -43,7 +43,7 @@ pub +join-many-spec : {M : Type 1} → statement M
     (λ c. absurd (dead t search))
     (λ c. absurd (dead t search))
     (λ c. search rules)
-    (λ c κs. settled-clear manySymbols _ _ _)
+    (λ c κs. settled_clear many_symbols _ _ _)
     (λ c. search rules)
     (λ c. search rules)
     (λ c. search rules)

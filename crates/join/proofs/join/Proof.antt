@@ -1,12 +1,12 @@
 -- `join` meets its contract: the table is clear.
-use Rattle.join.specs.steps.Tables.{fewSymbols}
-use Rattle.join.proofs.Tables.{settled-clear}
+use Rattle.join.specs.steps.Tables.{few_symbols}
+use Rattle.join.proofs.Tables.{settled_clear}
 use Rattle.std.proofs.Common.{arith, rules}
 use Rattle.join.proofs.join.Statement.{statement}
 use Rattle.join.proofs.join.Tie as tie
 
 join-by-requires : tie.Need-join-by-requires
-join-by-requires c κs = settled-clear fewSymbols _ _ _
+join-by-requires c κs = settled_clear few_symbols _ _ _
 
 pub join-spec : {M : Type 1} → statement M
 join-spec =

@@ -8,14 +8,14 @@ use native.Mathlib.Omega.{arith}
 use lib.ListN.{get_or}
 use borrow.Author.Rules.{rules}
 use Rattle.relax.specs.declared.Segment.{Segment}
-use Rattle.layout.specs.steps.Layout.{zeroSegment}
-use Rattle.layout.specs.steps.Targets.{endBefore}
+use Rattle.layout.specs.steps.Layout.{zero_segment}
+use Rattle.layout.specs.steps.Targets.{end_before}
 use Rattle.layout.proofs.end_before.Statement.{statement}
 use Rattle.layout.proofs.end_before.Proof.Tie as tie
 
-end-of-last : (ss : List Segment) (k : ℕ) → k ≢ 0 → (get_or ss (k - 1) zeroSegment).new_end ≡ endBefore ss k
+end-of-last : (ss : List Segment) (k : ℕ) → k ≢ 0 → (get_or ss (k - 1) zero_segment).new_end ≡ end_before ss k
 end-of-last ss zero some = absurd (some refl)
-end-of-last ss (suc k) some = let e : suc k - 1 ≡ k = omega arith in ap (λ (i : ℕ). (get_or ss i zeroSegment).new_end) e
+end-of-last ss (suc k) some = let e : suc k - 1 ≡ k = omega arith in ap (λ (i : ℕ). (get_or ss i zero_segment).new_end) e
 
 returns : tie.Need-returns
 returns c = rw c.if1.true refl

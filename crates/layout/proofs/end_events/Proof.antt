@@ -6,22 +6,22 @@ use native.Mathlib.Numerals.{add-one}
 use native.Mathlib.Omega.{arith}
 use lib.ListN.{length}
 use borrow.Author.Rules.{rules}
-use Rattle.relax.specs.Events.{eventAt}
+use Rattle.relax.specs.Events.{event_at}
 use Rattle.recording.specs.View.{entries}
 use Rattle.layout.specs.steps.Targets.{Ended}
-use Rattle.layout.proofs.Ends.{ended-none, ended-follows, ended-more}
+use Rattle.layout.proofs.Ends.{ended_none, ended_follows, ended_more}
 use Rattle.layout.proofs.end_events.Statement.{statement}
 use Rattle.layout.proofs.end_events.Proof.Tie as tie
 
 abbrev invariant-loop : tie.invariant-loop
 invariant-loop segments₀ events long n last₀ i₀ segments last i =
-    (i ≤ n) × (length segments ≡ length segments₀) × Ended segments₀ segments (entries (eventAt events) n) long i last.old_end last.new_end
+    (i ≤ n) × (length segments ≡ length segments₀) × Ended segments₀ segments (entries (event_at events) n) long i last.old_end last.new_end
 
 abbrev decreases-loop : tie.decreases-loop
 decreases-loop segments₀ events long n last₀ i₀ segments last i = n - i
 
 loop-holds : tie.Need-loop-init invariant-loop decreases-loop
-loop-holds c = (omega arith, refl, ended-none _ _ _)
+loop-holds c = (omega arith, refl, ended_none _ _ _)
 
 event-at-requires : tie.Need-event-at-requires invariant-loop decreases-loop
 event-at-requires c κs =
@@ -35,7 +35,7 @@ next-segment-requires c κs =
     let at-loop : tie.At-loop invariant-loop decreases-loop = search in
     let start : tie.Start invariant-loop decreases-loop = search in
     let p = start.pre in
-    rw after-event-at.event-at.ensures (ended-follows p.0 p.1.0 at-loop.loop.inv.2 in-loop.loop-test.taken)
+    rw after-event-at.event-at.ensures (ended_follows p.0 p.1.0 at-loop.loop.inv.2 in-loop.loop-test.taken)
 
 loop-again : tie.Need-loop-preserved invariant-loop decreases-loop
 loop-again c =
@@ -48,7 +48,7 @@ loop-again c =
     let p = start.pre in
     let l = at-loop.loop in
     let s = rw after-event-at.event-at.ensures at after-next-segment.next-segment.ensures in
-    let next = ended-more p.0 p.1.0 l.inv.2 in-loop.loop-test.taken _ s in
+    let next = ended_more p.0 p.1.0 l.inv.2 in-loop.loop-test.taken _ s in
     (omega arith, written.put-end.kept.0 ∙ l.inv.1, rw (add-one l.i, written.put-end.ensures) next)
 
 returns : tie.Need-returns invariant-loop decreases-loop

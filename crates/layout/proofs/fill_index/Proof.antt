@@ -6,7 +6,7 @@ use native.Mathlib.Omega.{arith}
 use lib.ListN.{length}
 use borrow.Author.Rules.{rules}
 use Rattle.lookup.specs.steps.Index.{Filled}
-use Rattle.lookup.proofs.Index.{filled_none, filled-one, filled-all}
+use Rattle.lookup.proofs.Index.{filled_none, filled_one, filled_all}
 use Rattle.layout.specs.steps.Layout.{start_at}
 use Rattle.layout.proofs.Search.{sorted_rises}
 use Rattle.layout.proofs.fill_index.Statement.{statement}
@@ -39,7 +39,7 @@ loop-again c =
     let at-loop : tie.At-loop invariant-loop decreases-loop = search in
     let start : tie.Start invariant-loop decreases-loop = search in
     let said = rw read.segment-at.ensures at marked.mark.ensures in
-    (filled-one (sorted_rises start.pre.0) at-loop.loop.inv.0 (omega arith) said, omega arith, marked.mark.ensures.size ∙ at-loop.loop.inv.2)
+    (filled_one (sorted_rises start.pre.0) at-loop.loop.inv.0 (omega arith) said, omega arith, marked.mark.ensures.size ∙ at-loop.loop.inv.2)
 
 close-requires : tie.Need-close-requires invariant-loop decreases-loop
 close-requires c κs =
@@ -58,7 +58,7 @@ returns c =
     let at-loop : tie.At-loop invariant-loop decreases-loop = search in
     let start : tie.Start invariant-loop decreases-loop = search in
     let all : at-loop.loop.i ≡ start.args.n = omega arith in
-    filled-all (rw all at at-loop.loop.inv.0) closed.close.ensures
+    filled_all (rw all at at-loop.loop.inv.0) closed.close.ensures
 
 pub fill-index-spec : {M : Type 1} → statement M
 fill-index-spec =

@@ -6,7 +6,7 @@ use native.Mathlib.Omega.{arith}
 use borrow.Author.Rules.{rules}
 use Rattle.relax.specs.declared.Segment.{Segment}
 use Rattle.layout.specs.steps.Layout.{Between}
-use Rattle.layout.proofs.Search.{between_first, between-right, between_left}
+use Rattle.layout.proofs.Search.{between_first, between_right, between_left}
 use Rattle.layout.proofs.find.Statement.{statement}
 use Rattle.layout.proofs.find.Proof.Tie as tie
 
@@ -40,7 +40,7 @@ loop-again c =
     let start' : tie.Start invariant-loop decreases-loop = search in
     let l = at-loop.loop in
     let start = ap (λ (s : Segment). s.old_start) after-segment-at.segment-at.ensures in
-    between-right _ _ _ start'.pre.0 _ _ _ l.inv (omega arith) (omega arith) (omega (arith, start, c.if1.true))
+    between_right _ _ _ start'.pre.0 _ _ _ l.inv (omega arith) (omega arith) (omega (arith, start, c.if1.true))
 
 loop-again-2 : tie.Need-loop-preserved-2 invariant-loop decreases-loop
 loop-again-2 c =

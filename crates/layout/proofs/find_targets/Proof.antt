@@ -8,9 +8,9 @@ use borrow.Author.Rules.{rules}
 use Rattle.words.specs.Words.{word_at}
 use Rattle.relax.specs.declared.LayoutEvent.{LayoutEvent}
 use Rattle.layout.specs.steps.Targets.{Shown, SamePast}
-use Rattle.layout.proofs.Found.{indexed-shown}
-use Rattle.layout.proofs.SamePast.{same-past-none, same-past-more, same-past-set}
-use Rattle.layout.proofs.Targets.{Targeted, targeted-none, targeted-more}
+use Rattle.layout.proofs.Found.{indexed_shown}
+use Rattle.layout.proofs.SamePast.{same_past_none, same_past_more, same_past_set}
+use Rattle.layout.proofs.Targets.{Targeted, targeted_none, targeted_more}
 use Rattle.layout.proofs.find_targets.Statement.{statement}
 use Rattle.layout.proofs.find_targets.Proof.Tie as tie
 
@@ -24,7 +24,7 @@ abbrev decreases-loop : tie.decreases-loop
 decreases-loop segments₀ events labels n all index shift i₀ segments i = n - i
 
 loop-holds : tie.Need-loop-init invariant-loop decreases-loop
-loop-holds c = (omega arith, λ es shown. targeted-none shown, same-past-none _ _)
+loop-holds c = (omega arith, λ es shown. targeted_none shown, same_past_none _ _)
 
 target-of-requires : tie.Need-target-of-requires invariant-loop decreases-loop
 target-of-requires c κs =
@@ -34,7 +34,7 @@ target-of-requires c κs =
     let p = start.pre in
     let more = in-loop.loop-test.taken in
     let shown = (at-loop.loop.inv.1 p.0.0 p.0.1).shown in
-    ((p.0.0, shown), (indexed-shown p.0.1 shown p.1.0, (p.1.1.0.known _ more, more)))
+    ((p.0.0, shown), (indexed_shown p.0.1 shown p.1.0, (p.1.1.0.known _ more, more)))
 
 put-target-requires : tie.Need-put-target-requires invariant-loop decreases-loop
 put-target-requires c κs =
@@ -57,8 +57,8 @@ loop-again c =
       omega arith,
       λ es shown.
           let now = l.inv.1 es shown in
-          rw written.put-target.ensures (targeted-more now more p.1.1.1 _ _ (found.target-of.ensures es now.shown)),
-      rw written.put-target.ensures (same-past-more l.inv.2 (same-past-set _ _ _ _ more) (omega arith)),
+          rw written.put-target.ensures (targeted_more now more p.1.1.1 _ _ (found.target-of.ensures es now.shown)),
+      rw written.put-target.ensures (same_past_more l.inv.2 (same_past_set _ _ _ _ more) (omega arith)),
     )
 
 returns : tie.Need-returns invariant-loop decreases-loop

@@ -1,14 +1,14 @@
 -- `index_segments` meets its contract.
 mod Tie
 use borrow.Author.Rules.{rules}
-use Rattle.lookup.proofs.Index.{indexed-none}
+use Rattle.lookup.proofs.Index.{indexed_none}
 use Rattle.layout.proofs.index_segments.Statement.{statement}
 use Rattle.layout.proofs.index_segments.Proof.Tie as tie
 
 returns : tie.Need-returns
 returns c =
     let start : tie.Start = search in
-    indexed-none _ _ _ _ start.pre.1.0 c.if1.true
+    indexed_none _ _ _ _ start.pre.1.0 c.if1.true
 
 fill-index-requires : tie.Need-fill-index-requires
 fill-index-requires c κs =

@@ -4,7 +4,7 @@ use mathlib.Core.Path.{refl, ◌∙◌, ap}
 use Prim.Native.Nat.{◌+◌}
 use native.Mathlib.Omega.{arith}
 use borrow.Author.Rules.{rules}
-use Rattle.layout.proofs.Missed.{missed-none, missed-reach}
+use Rattle.layout.proofs.Missed.{missed_none, missed_reach}
 use Rattle.layout.proofs.is_missed.Statement.{statement}
 use Rattle.layout.proofs.is_missed.Proof.Tie as tie
 
@@ -15,7 +15,7 @@ returns-2 : tie.Need-returns-2
 returns-2 c =
     let read : tie.After-segment-at = search in
     let short : tie.Else1 = search in
-    rw short.if1.left (missed-none _ _ _ (rw read.segment-at.ensures at c.if2.true))
+    rw short.if1.left (missed_none _ _ _ (rw read.segment-at.ensures at c.if2.true))
 
 end-before-requires : tie.Need-end-before-requires
 end-before-requires c κs =
@@ -50,7 +50,7 @@ returns-3 c =
     let row = read.segment-at.result in
     let is = read.segment-at.ensures in
     rw (short.if1.left, ← is, ← event.event-at.ensures)
-    (missed-reach _ _ row (row.old_end + ended.end_before.result) _ jump.if2.left tested.in_reach.ensures (omega (arith, ended.end_before.ensures)))
+    (missed_reach _ _ row (row.old_end + ended.end_before.result) _ jump.if2.left tested.in_reach.ensures (omega (arith, ended.end_before.ensures)))
 
 pub is-missed-spec : {M : Type 1} → statement M
 is-missed-spec =

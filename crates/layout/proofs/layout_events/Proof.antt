@@ -6,16 +6,16 @@ use native.Mathlib.Numerals.{add-one}
 use native.Mathlib.Omega.{arith}
 use lib.ListN.{length}
 use borrow.Author.Rules.{rules}
-use Rattle.relax.specs.Events.{eventAt}
+use Rattle.relax.specs.Events.{event_at}
 use Rattle.recording.specs.View.{entries}
 use Rattle.layout.specs.steps.Layout.{Laid}
-use Rattle.layout.proofs.Turns.{laid_none, event-follows, event-laid}
+use Rattle.layout.proofs.Turns.{laid_none, event_follows, event_laid}
 use Rattle.layout.proofs.layout_events.Statement.{statement}
 use Rattle.layout.proofs.layout_events.Proof.Tie as tie
 
 abbrev invariant-loop : tie.invariant-loop
 invariant-loop segments₀ events long n last₀ i₀ segments last i =
-    (i ≤ n) × (length segments ≡ length segments₀) × Laid segments₀ segments (entries (eventAt events) i) long last.old_end last.new_end
+    (i ≤ n) × (length segments ≡ length segments₀) × Laid segments₀ segments (entries (event_at events) i) long last.old_end last.new_end
 
 abbrev decreases-loop : tie.decreases-loop
 decreases-loop segments₀ events long n last₀ i₀ segments last i = n - i
@@ -35,7 +35,7 @@ next-segment-requires c κs =
     let at-loop : tie.At-loop invariant-loop decreases-loop = search in
     let start : tie.Start invariant-loop decreases-loop = search in
     let p = start.pre in
-    rw after-event-at.event-at.ensures (event-follows p.0 p.1.0 at-loop.loop.inv.2 in-loop.loop-test.taken)
+    rw after-event-at.event-at.ensures (event_follows p.0 p.1.0 at-loop.loop.inv.2 in-loop.loop-test.taken)
 
 loop-again : tie.Need-loop-preserved invariant-loop decreases-loop
 loop-again c =
@@ -48,7 +48,7 @@ loop-again c =
     let p = start.pre in
     let l = at-loop.loop in
     let s = rw after-event-at.event-at.ensures at after-next-segment.next-segment.ensures in
-    let next = event-laid p.0 p.1.0 l.inv.2 in-loop.loop-test.taken _ s in
+    let next = event_laid p.0 p.1.0 l.inv.2 in-loop.loop-test.taken _ s in
     (omega arith, after-put-segment.put-segment.kept.0 ∙ l.inv.1, rw (add-one l.i, after-put-segment.put-segment.ensures) next)
 
 returns : tie.Need-returns invariant-loop decreases-loop

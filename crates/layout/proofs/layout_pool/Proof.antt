@@ -6,7 +6,7 @@ use native.Mathlib.Numerals.{add-one}
 use native.Mathlib.Omega.{arith}
 use lib.ListN.{length}
 use borrow.Author.Rules.{rules}
-use Rattle.layout.proofs.Pooling.{PoolLaid, pool-none, pool-more, pool-padding}
+use Rattle.layout.proofs.Pooling.{PoolLaid, pool_none, pool_more, pool_padding_lem}
 use Rattle.layout.proofs.layout_pool.Statement.{statement}
 use Rattle.layout.proofs.layout_pool.Proof.Tie as tie
 
@@ -18,7 +18,7 @@ abbrev decreases-loop : tie.decreases-loop
 decreases-loop segments₀ constants asked n m old new from₀ to₀ j₀ segments from to j = m - j
 
 loop-holds : tie.Need-loop-init invariant-loop decreases-loop
-loop-holds c = (omega arith, refl, pool-none)
+loop-holds c = (omega arith, refl, pool_none)
 
 size-at-requires : tie.Need-size-at-requires invariant-loop decreases-loop
 size-at-requires c κs =
@@ -34,7 +34,7 @@ add-old-end c =
     let start' : tie.Start invariant-loop decreases-loop = search in
     let l = at-loop.loop in
     let f = start'.pre.0 in
-    omega (arith, l.inv.2.near, f.few, pool-padding _ after-size-at.size-at.result _ _ after-constant-alignment.constant-alignment.ensures c.padding-len.ensures)
+    omega (arith, l.inv.2.near, f.few, pool_padding_lem _ after-size-at.size-at.result _ _ after-constant-alignment.constant-alignment.ensures c.padding-len.ensures)
 
 add-new-end : tie.Need-overflow-add-new-end invariant-loop decreases-loop
 add-new-end c =
@@ -44,7 +44,7 @@ add-new-end c =
     let start' : tie.Start invariant-loop decreases-loop = search in
     let l = at-loop.loop in
     let f = start'.pre.0 in
-    omega (arith, l.inv.2.small, f.few, pool-padding _ after-size-at.size-at.result _ _ after-constant-alignment.constant-alignment.ensures c.padding-len2.ensures)
+    omega (arith, l.inv.2.small, f.few, pool_padding_lem _ after-size-at.size-at.result _ _ after-constant-alignment.constant-alignment.ensures c.padding-len2.ensures)
 
 add-put-segment : tie.Need-overflow-add-put-segment invariant-loop decreases-loop
 add-put-segment c =
@@ -62,7 +62,7 @@ add-from c =
     let l = at-loop.loop in
     let f = start'.pre.0 in
     let n = after-size-at.size-at in
-    let pad = pool-padding _ n.result _ _ after-constant-alignment.constant-alignment.ensures after-padding-len.padding-len.ensures in
+    let pad = pool_padding_lem _ n.result _ _ after-constant-alignment.constant-alignment.ensures after-padding-len.padding-len.ensures in
     omega (arith, l.inv.2.near, f.few, pad, n.ensures, f.sized l.j in-loop.loop-test.taken)
 
 add-to : tie.Need-overflow-add-to invariant-loop decreases-loop
@@ -76,7 +76,7 @@ add-to c =
     let l = at-loop.loop in
     let f = start'.pre.0 in
     let n = after-size-at.size-at in
-    let pad = pool-padding _ n.result _ _ after-constant-alignment.constant-alignment.ensures after-padding-len2.padding-len2.ensures in
+    let pad = pool_padding_lem _ n.result _ _ after-constant-alignment.constant-alignment.ensures after-padding-len2.padding-len2.ensures in
     omega (arith, l.inv.2.small, f.few, pad, n.ensures, f.sized l.j in-loop.loop-test.taken)
 
 loop-again : tie.Need-loop-preserved invariant-loop decreases-loop
@@ -93,7 +93,7 @@ loop-again c =
     let multiple = after-constant-alignment.constant-alignment.ensures in
     let one = rw multiple at after-padding-len.padding-len.ensures in
     let two = rw multiple at after-padding-len2.padding-len2.ensures in
-    let next = pool-more l.inv.2 start'.pre.0 in-loop.loop-test.taken after-size-at.size-at.ensures one two in
+    let next = pool_more l.inv.2 start'.pre.0 in-loop.loop-test.taken after-size-at.size-at.ensures one two in
     (omega arith, after-put-segment.put-segment.kept.0 ∙ l.inv.1, rw (add-one l.j, after-put-segment.put-segment.ensures) next)
 
 returns : tie.Need-returns invariant-loop decreases-loop

@@ -7,7 +7,7 @@ use native.Mathlib.Omega.{arith}
 use lib.ListN.{length, length-set}
 use borrow.Author.Rules.{rules}
 use Rattle.layout.specs.steps.Targets.{missed}
-use Rattle.layout.proofs.Scan.{Scanned, scanned-none, scan-mark, scan-keep, scan-all}
+use Rattle.layout.proofs.Scan.{Scanned, scanned_none, scan_mark, scan_keep, scan_all}
 use Rattle.layout.proofs.lengthen.Statement.{statement}
 use Rattle.layout.proofs.lengthen.Proof.Tie as tie
 
@@ -19,7 +19,7 @@ abbrev decreases-loop : tie.decreases-loop
 decreases-loop segments events long₀ n grew₀ i₀ long grew i = n - i
 
 loop-holds : tie.Need-loop-init invariant-loop decreases-loop
-loop-holds c = (omega arith, refl, scanned-none _ _)
+loop-holds c = (omega arith, refl, scanned_none _ _)
 
 is-missed-requires : tie.Need-is-missed-requires invariant-loop decreases-loop
 is-missed-requires c κs =
@@ -40,10 +40,10 @@ loop-again c =
     let said = tested.is-missed.ensures in
     ⊎_elim
     (λ w.
-    let next = scan-mark _ _ a.n _ l.i _ _ l.inv.2 more _ said _ _ w.0.taken w.1 w.2 in
+    let next = scan_mark _ _ a.n _ l.i _ _ l.inv.2 more _ said _ _ w.0.taken w.1 w.2 in
     (omega arith, ap length w.1 ∙ simp length-set l.inv.1, next))
     (λ w.
-    let next = scan-keep _ _ a.n _ l.i _ _ l.inv.2 more _ said _ _ w.0.left w.1 w.2 in
+    let next = scan_keep _ _ a.n _ l.i _ _ l.inv.2 more _ said _ _ w.0.left w.1 w.2 in
     (omega arith, ap length w.1 ∙ l.inv.1, next))
     c.if1.branch
 
@@ -53,7 +53,7 @@ returns c =
     let start : tie.Start invariant-loop decreases-loop = search in
     let a = start.args in
     let e : at-loop.loop.i ≡ a.n = omega arith in
-    scan-all _ _ a.n _ _ _ (rw e at at-loop.loop.inv.2)
+    scan_all _ _ a.n _ _ _ (rw e at at-loop.loop.inv.2)
 
 pub lengthen-spec : {M : Type 1} → statement M
 lengthen-spec =

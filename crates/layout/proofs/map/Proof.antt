@@ -3,25 +3,25 @@ mod Tie
 use mathlib.Core.Path.{◌∙◌}
 use Prim.Native.Nat.{◌-◌, ◌<◌}
 use native.Mathlib.Omega.{arith}
-use Rattle.layout.proofs.Search.{rising-sorted, map-none, found_none, found-last}
+use Rattle.layout.proofs.Search.{rising_sorted, map_none, found_none, found_last}
 use borrow.Author.Rules.{rules}
 use Rattle.layout.proofs.map.Statement.{statement}
 use Rattle.layout.proofs.map.Proof.Tie as tie
 
 returns : tie.Need-returns
-returns c = map-none _ _ c.if1.true
+returns c = map_none _ _ c.if1.true
 
 find-requires : tie.Need-find-requires
 find-requires c κs =
     let start : tie.Start = search in
-    (rising-sorted start.pre.0, start.pre.1.0)
+    (rising_sorted start.pre.0, start.pre.1.0)
 
 returns-2 : tie.Need-returns-2
 returns-2 c =
     let after-find : tie.After-find = search in
     let else1 : tie.Else1 = search in
     let start : tie.Start = search in
-    found_none _ _ _ (rising-sorted start.pre.0) _ after-find.find.ensures else1.if1.left c.if2.true
+    found_none _ _ _ (rising_sorted start.pre.0) _ after-find.find.ensures else1.if1.left c.if2.true
 
 place-requires : tie.Need-place-requires
 place-requires c κs =
@@ -44,7 +44,7 @@ returns-3 c =
     let after-find : tie.After-find = search in
     let else1 : tie.Else1 = search in
     let start : tie.Start = search in
-    let found = found-last _ _ _ (rising-sorted start.pre.0) _ after-find.find.ensures else1.if1.left else2.if2.left in
+    let found = found_last _ _ _ (rising_sorted start.pre.0) _ after-find.find.ensures else1.if1.left else2.if2.left in
     c.place.ensures ∙ rw after-segment-at.segment-at.ensures found
 
 pub map-spec : {M : Type 1} → statement M

@@ -38,7 +38,7 @@ use denote.Triple.Table.{entered}
 use denote.Triple.Walked.{says, needs, Stays, stay_slice, stay_none, walk_of, Walks, ends_at, walked, Goes-slice, Goes-none, walk_Meets}
 use denote.Exit.{yes}
 use Rattle.relax.specs.declared.Segment.{Segment}
-use Rattle.layout.specs.steps.Layout.{zeroSegment}
+use Rattle.layout.specs.steps.Layout.{zero_segment}
 use Rattle.relax.specs.contracts.Segment as T
 use Rattle.relax.proofs.Segment.TheLaws as T'
 use Rattle.layout.specs.contracts.put_segment.Key.{name as #layout·put-segment}
@@ -98,7 +98,7 @@ module _ {M : Type 1} {𝓤 : Ura M} (𝓛 : Logic 𝓤) (mem : Memory → SProp
         assigns ! (bin ! (load ! (from ! (fld ! refl (stop !))) (look_in ! 8 (sub ! 0 refl (whole !)))) (load ! (from ! (stop !)) (look ! 2 refl)) tt) (from ! (stop !)) (init ! 0 refl (tt, tt)) $
         rewrite ! 0 (λ (p' : ℕ). ‵ (fat full_share ty_ptr l₅ 0 (vptr b p'))) (sym (place_is 16 o i)) refl $
         move ! (13 ∷ []) $ fsplit ! $ fsplit ! $ move ! (1 ∷ []) $ fsplit ! $ move ! (16 ∷ []) $ split ! $ move ! (2 ∷ 3 ∷ 0 ∷ []) $
-        opens_slice ! tt R ys b o $ elem_out ! R (Is R) (shows 𝓛 R) (LL.vals T.the_type T'.the_laws) (LL.tells T.the_type T'.the_laws) full_share ys i zeroSegment b o l (λ _.
+        opens_slice ! tt R ys b o $ elem_out ! R (Is R) (shows 𝓛 R) (LL.vals T.the_type T'.the_laws) (LL.tells T.the_type T'.the_laws) full_share ys i zero_segment b o l (λ _.
         -- [s[i]; what it owns; the others; the open borrow; obs; auth; true; s's fact; i's and x's; _5; …; _4; …; _3; …; _2; …; _1; …; _0; …]
         assigns ! (of_opd ! (load ! (from ! (stop !)) (look ! 13 refl))) (from ! (hop ! (look ! 9 refl) (stop !))) (store_raw ! 0 refl ((LL.lawful T.the_type T'.the_laws 𝓛).typed v (mach ∷ []) p).0) $
         move ! (1 ∷ []) $ drop ! $ move ! (7 ∷ []) $ fsplit ! $ move ! (1 ∷ []) $ fsplit ! $ use1 𝓛 (‵ Own ⊛ ‵ Own) ((LL.copy T.the_type T'.the_copy 𝓛).twice v (mach ∷ [])) $ split ! $

@@ -8,12 +8,12 @@ use borrow.Author.Rules.{rules}
 use borrow.Author.Tests.{not-true, not-false}
 use Rattle.words.specs.Words.{word_at}
 use Rattle.fresh.specs.Rounds.{jumps}
-use Rattle.layout.specs.steps.Layout.{allEvents}
+use Rattle.layout.specs.steps.Layout.{all_events}
 use Rattle.layout.specs.steps.Targets.{Aiming}
-use Rattle.layout.proofs.Pooling.{length-all}
-use Rattle.layout.proofs.Found.{shown-sorted, indexed-shown}
-use Rattle.layout.proofs.Targets.{aiming-stays}
-use Rattle.layout.proofs.Standing.{Standing, standing-none, layouts-few, shown-laid, relaxed-from, round-adds, round-less, round-more, round-done}
+use Rattle.layout.proofs.Pooling.{length_all}
+use Rattle.layout.proofs.Found.{shown_sorted, indexed_shown}
+use Rattle.layout.proofs.Targets.{aiming_stays}
+use Rattle.layout.proofs.Standing.{Standing, standing_none, layouts_few, shown_laid, relaxed_from, round_adds, round_less, round_more, round_done}
 use Rattle.layout.proofs.relax_jumps.Statement.{statement}
 use Rattle.layout.proofs.relax_jumps.Proof.Tie as tie
 
@@ -22,11 +22,11 @@ abbrev invariant-loop : tie.invariant-loop
 invariant-loop segments₀ events labels constants asked long₀ index shift n m code layouts₀ segments long layouts =
     (n + m ≤ length segments)
     × (length long ≡ length long₀)
-    × Standing (allEvents events n code constants asked m) (word_at labels) long₀ segments₀ segments long layouts
-    × Aiming (allEvents events n code constants asked m) (word_at labels) events n segments
+    × Standing (all_events events n code constants asked m) (word_at labels) long₀ segments₀ segments long layouts
+    × Aiming (all_events events n code constants asked m) (word_at labels) events n segments
 
 abbrev decreases-loop : tie.decreases-loop
-decreases-loop segments₀ events labels constants asked long₀ index shift n m code layouts₀ segments long layouts = jumps (allEvents events n code constants asked m) - layouts
+decreases-loop segments₀ events labels constants asked long₀ index shift n m code layouts₀ segments long layouts = jumps (all_events events n code constants asked m) - layouts
 
 -- where the loop was entered from
 abbrev before-loop : tie.At-loop invariant-loop decreases-loop → tie.After-find-targets invariant-loop decreases-loop
@@ -53,8 +53,8 @@ index-segments-requires c κs =
     let start : tie.Start invariant-loop decreases-loop = search in
     let p = start.pre in
     let a = start.args in
-    let shown = shown-laid a.events.now a.n a.code a.constants.now a.asked.now a.m _ _ _ p.0 p.1.0 (omega arith) (omega arith) laid.layout.ensures.0 in
-    (shown-sorted shown, (p.1.1.1.3, omega arith))
+    let shown = shown_laid a.events.now a.n a.code a.constants.now a.asked.now a.m _ _ _ p.0 p.1.0 (omega arith) (omega arith) laid.layout.ensures.0 in
+    (shown_sorted shown, (p.1.1.1.3, omega arith))
 
 find-targets-requires : tie.Need-find-targets-requires invariant-loop decreases-loop
 find-targets-requires c κs =
@@ -63,7 +63,7 @@ find-targets-requires c κs =
     let start : tie.Start invariant-loop decreases-loop = search in
     let p = start.pre in
     let a = start.args in
-    let shown = shown-laid a.events.now a.n a.code a.constants.now a.asked.now a.m _ _ _ p.0 p.1.0 (omega arith) (omega arith) laid.layout.ensures.0 in
+    let shown = shown_laid a.events.now a.n a.code a.constants.now a.asked.now a.m _ _ _ p.0 p.1.0 (omega arith) (omega arith) laid.layout.ensures.0 in
     ((_, shown), (indexed.index-segments.ensures, (p.1.1.0, omega arith)))
 
 loop-holds : tie.Need-loop-init invariant-loop decreases-loop
@@ -73,9 +73,9 @@ loop-holds c =
     let start : tie.Start invariant-loop decreases-loop = search in
     let p = start.pre in
     let a = start.args in
-    let size = length-all a.events.now a.n a.code a.constants.now a.asked.now a.m in
-    let shown = shown-laid a.events.now a.n a.code a.constants.now a.asked.now a.m _ _ _ p.0 p.1.0 (omega arith) (omega arith) laid.layout.ensures.0 in
-    (omega (arith, laid.layout.kept.0, found.find-targets.kept.0), refl, standing-none _ _ _ _ (p.1.1.1.2 ∙ sym size), found.find-targets.ensures.0 _ shown)
+    let size = length_all a.events.now a.n a.code a.constants.now a.asked.now a.m in
+    let shown = shown_laid a.events.now a.n a.code a.constants.now a.asked.now a.m _ _ _ p.0 p.1.0 (omega arith) (omega arith) laid.layout.ensures.0 in
+    (omega (arith, laid.layout.kept.0, found.find-targets.kept.0), refl, standing_none _ _ _ _ (p.1.1.1.2 ∙ sym size), found.find-targets.ensures.0 _ shown)
 
 place-ends-requires : tie.Need-place-ends-requires invariant-loop decreases-loop
 place-ends-requires c κs =
@@ -90,8 +90,8 @@ add-layouts c =
     let at-loop : tie.At-loop invariant-loop decreases-loop = search in
     let start = entered at-loop in
     let a = start.args in
-    let size = length-all a.events.now a.n a.code a.constants.now a.asked.now a.m in
-    omega (arith, layouts-few at-loop.loop.inv.2, size)
+    let size = length_all a.events.now a.n a.code a.constants.now a.asked.now a.m in
+    omega (arith, layouts_few at-loop.loop.inv.2, size)
 
 lengthen-requires : tie.Need-lengthen-requires invariant-loop decreases-loop
 lengthen-requires c κs =
@@ -103,7 +103,7 @@ lengthen-requires c κs =
     let l = at-loop.loop in
     let placed = ends.place-ends.ensures in (
       (omega (arith, l.inv.0, placed.rest.sized), omega (arith, l.inv.1), p.0.room),
-      round-adds a.events.now a.n a.code a.constants.now a.asked.now a.m (word_at a.labels.now) l.inv.2 l.inv.3 (omega arith) placed
+      round_adds a.events.now a.n a.code a.constants.now a.asked.now a.m (word_at a.labels.now) l.inv.2 l.inv.3 (omega arith) placed
           p.0 p.1.0 l.inv.0,
     )
 
@@ -127,7 +127,7 @@ loop-less c =
     let l = at-loop.loop in
     let said = scan.lengthen.ensures in
     let less =
-    round-less a.events.now a.n a.code a.constants.now a.asked.now a.m (word_at a.labels.now) l.inv.2 l.inv.3 (omega arith)
+    round_less a.events.now a.n a.code a.constants.now a.asked.now a.m (word_at a.labels.now) l.inv.2 l.inv.3 (omega arith)
     ends.place-ends.ensures said.0 said.1 (not-false _ c.if1.false) in
     omega (arith, less)
 
@@ -142,9 +142,9 @@ loop-again c =
     let said = scan.lengthen.ensures in
     let placed = ends.place-ends.ensures in
     let next =
-    round-more a.events.now a.n a.code a.constants.now a.asked.now a.m (word_at a.labels.now) l.inv.2 l.inv.3 (omega arith)
+    round_more a.events.now a.n a.code a.constants.now a.asked.now a.m (word_at a.labels.now) l.inv.2 l.inv.3 (omega arith)
     placed said.0 said.1 (not-false _ c.if1.false) in
-    (omega (arith, l.inv.0, placed.rest.sized), scan.lengthen.kept.1.1.0 ∙ l.inv.1, next, aiming-stays l.inv.3 placed)
+    (omega (arith, l.inv.0, placed.rest.sized), scan.lengthen.kept.1.1.0 ∙ l.inv.1, next, aiming_stays l.inv.3 placed)
 
 same_length : tie.Need-same-length invariant-loop decreases-loop
 same_length c =
@@ -173,12 +173,12 @@ returns c =
     let p = start.pre in
     let few = p.1.1.1.0 in
     let room = p.1.1.1.1 in
-    let shown = shown-laid a.events.now a.n a.code a.constants.now a.asked.now a.m _ _ _ p.0 p.1.0 few room laid.layout.ensures.0 in
-    let shown-last = shown-laid a.events.now a.n a.code a.constants.now a.asked.now a.m _ _ _ p.0 p.1.0 few (omega (arith, l.inv.0, ends.place-ends.ensures.rest.sized)) made.0 in (
-      relaxed-from a.events.now a.n a.code a.constants.now a.asked.now a.m (word_at a.labels.now) _ laid.layout.ensures.0 found.find-targets.ensures.1
-          (round-done a.events.now a.n a.code a.constants.now a.asked.now a.m (word_at a.labels.now) l.inv.2 l.inv.3 few
+    let shown = shown_laid a.events.now a.n a.code a.constants.now a.asked.now a.m _ _ _ p.0 p.1.0 few room laid.layout.ensures.0 in
+    let shown-last = shown_laid a.events.now a.n a.code a.constants.now a.asked.now a.m _ _ _ p.0 p.1.0 few (omega (arith, l.inv.0, ends.place-ends.ensures.rest.sized)) made.0 in (
+      relaxed_from a.events.now a.n a.code a.constants.now a.asked.now a.m (word_at a.labels.now) _ laid.layout.ensures.0 found.find-targets.ensures.1
+          (round_done a.events.now a.n a.code a.constants.now a.asked.now a.m (word_at a.labels.now) l.inv.2 l.inv.3 few
           ends.place-ends.ensures said.0 said.1 (not-true _ done.if1.taken) _ made.0 _ _ made.1),
-      indexed-shown shown shown-last indexed.index-segments.ensures,
+      indexed_shown shown shown-last indexed.index-segments.ensures,
     )
 
 pub relax-jumps-spec : {M : Type 1} → statement M

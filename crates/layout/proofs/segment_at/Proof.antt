@@ -36,7 +36,7 @@ use denote.Triple.Table.{entered}
 use denote.Triple.Walked.{says, needs, Stays, stay_none_slice, stay_none, walk_of, Walks, ends_at, walked, Goes-none_slice, Goes-none, walk_Meets}
 use denote.Exit.{yes}
 use Rattle.relax.specs.declared.Segment.{Segment}
-use Rattle.layout.specs.steps.Layout.{zeroSegment}
+use Rattle.layout.specs.steps.Layout.{zero_segment}
 use Rattle.relax.specs.contracts.Segment as T
 use Rattle.relax.proofs.Segment.TheLaws as T'
 use Rattle.layout.specs.contracts.segment_at.Key.{name as #layout·segment-at}
@@ -57,7 +57,7 @@ module _ {M : Type 1} {𝓤 : Ura M} (𝓛 : Logic 𝓤) (mem : Memory → SProp
   x = (record { ref_ptr = (b, o); now = ys }, (i, tt))
 
   abbrev elem : Segment
-  elem = get_or ys i zeroSegment
+  elem = get_or ys i zero_segment
 
   abbrev mach : Val
   mach = LL.val T.the_type T'.the_laws elem
@@ -86,12 +86,12 @@ module _ {M : Type 1} {𝓤 : Ura M} (𝓛 : Logic 𝓤) (mem : Memory → SProp
         assigns ! (bin ! (load ! (from ! (fld ! refl (stop !))) (look_in ! 8 (sub ! 0 refl (whole !)))) (load ! (from ! (stop !)) (look ! 4 refl)) tt) (from ! (stop !)) (init ! 2 refl (tt, tt)) $
         rewrite ! 2 (λ (p : ℕ). ‵ (fat full_share ty_ptr l₄ 0 (vptr b p))) (sym (place_is 16 o i)) refl $
         move ! (13 ∷ []) $ fsplit ! $ fsplit ! $ move ! (1 ∷ []) $ fsplit ! $ move ! (16 ∷ []) $ split ! $ move ! (3 ∷ 0 ∷ []) $
-        looks_slice ! tt R (Is R) (shows 𝓛 R) (LL.vals T.the_type T'.the_laws) (LL.tells T.the_type T'.the_laws) (LL.copy T.the_type T'.the_copy 𝓛) ys b o (λ q'. elem_out ! R (Is R) (shows 𝓛 R) (LL.vals T.the_type T'.the_laws) (LL.tells T.the_type T'.the_laws) q' ys i zeroSegment b o l (λ g.
+        looks_slice ! tt R (Is R) (shows 𝓛 R) (LL.vals T.the_type T'.the_laws) (LL.tells T.the_type T'.the_laws) (LL.copy T.the_type T'.the_copy 𝓛) ys b o (λ q'. elem_out ! R (Is R) (shows 𝓛 R) (LL.vals T.the_type T'.the_laws) (LL.tells T.the_type T'.the_laws) q' ys i zero_segment b o l (λ g.
         -- [s[i]; what it owns; the others; what shuts; the fractured borrow; true; res; s's fact; i's; _5; …; _4; …; _3; …; _2; …; _1; …; _0; …]
         assigns ! (of_opd ! (load ! (from ! (hop ! (look ! 11 refl) (stop !))) (look_raw ! 0 refl))) (from ! (stop !)) (init ! 9 refl ((LL.lawful T.the_type T'.the_laws 𝓛).typed elem (mach ∷ []) g).0) $
         assigns ! (of_opd ! (load ! (from ! (stop !)) (look ! 9 refl))) (from ! (stop !)) (init ! 19 refl ((LL.lawful T.the_type T'.the_laws 𝓛).typed elem (mach ∷ []) g).0) $
         move ! (1 ∷ []) $ use1 𝓛 (‵ (R.own_val elem (mach ∷ [])) ⊛ ‵ (R.own_val elem (mach ∷ []))) ((LL.copy T.the_type T'.the_copy 𝓛).twice elem (mach ∷ [])) $ split ! $ move ! (2 ∷ 1 ∷ 3 ∷ []) $
-        elem_back ! R q' ys i zeroSegment (mach ∷ []) b o l $ move ! (0 ∷ 2 ∷ []) $ shuts_slice ! tt R q' ys b o $
+        elem_back ! R q' ys i zero_segment (mach ∷ []) b o l $ move ! (0 ∷ 2 ∷ []) $ shuts_slice ! tt R q' ys b o $
         returns ! (look ! 17 refl) $ forget ! 7 refl $ forget ! 9 refl $ forget ! 11 refl $ forget ! 13 refl $ forget ! 15 refl $ forget ! 17 refl $
         move ! (17 ∷ 18 ∷ []) $ free1 ! $ move ! (15 ∷ 16 ∷ []) $ free1 ! $ move ! (13 ∷ 14 ∷ []) $ free1 ! $ move ! (11 ∷ 12 ∷ []) $ free1 ! $ move ! (9 ∷ 10 ∷ []) $ free1 ! $ move ! (7 ∷ 8 ∷ []) $ free1 ! $ free0 ! $
         move ! (4 ∷ 2 ∷ []) $ fjoin ! $ move ! (4 ∷ 0 ∷ []) $ fjoin ! $ move ! (4 ∷ []) $ fsplit ! $ keep ! (3 ∷ 2 ∷ 0 ∷ 4 ∷ []) $ by ! exits))))))))

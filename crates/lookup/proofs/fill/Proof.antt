@@ -3,7 +3,7 @@ use Prim.Native.Nat.{◌-◌, ◌≤◌, max}
 use native.Mathlib.Omega.{arith}
 use borrow.Author.Rules.{rules}
 use Rattle.lookup.specs.steps.Index.{Marked}
-use Rattle.lookup.proofs.Index.{marked-none, marked-one, marked-end}
+use Rattle.lookup.proofs.Index.{marked_none, marked_one, marked_end}
 use Rattle.lookup.proofs.fill.Statement.{statement}
 use Rattle.lookup.proofs.fill.Tie as tie
 
@@ -14,7 +14,7 @@ abbrev decreases-loop : tie.decreases-loop
 decreases-loop index₀ next to value p₀ index p = to - p
 
 loop-holds : tie.Need-loop-init invariant-loop decreases-loop
-loop-holds c = (marked-none _ _ _, omega arith)
+loop-holds c = (marked_none _ _ _, omega arith)
 
 slice-write-index : tie.Need-slice-write-index invariant-loop decreases-loop
 slice-write-index c =
@@ -24,7 +24,7 @@ slice-write-index c =
 loop-again : tie.Need-loop-preserved invariant-loop decreases-loop
 loop-again c =
     let at-loop : tie.At-loop invariant-loop decreases-loop = search in
-    (marked-one at-loop.loop.inv.0 (omega (arith, at-loop.loop.inv.0.size)), omega arith)
+    (marked_one at-loop.loop.inv.0 (omega (arith, at-loop.loop.inv.0.size)), omega arith)
 
 same_length : tie.Need-same-length invariant-loop decreases-loop
 same_length c =
@@ -34,7 +34,7 @@ same_length c =
 returns : tie.Need-returns invariant-loop decreases-loop
 returns c =
     let at-loop : tie.At-loop invariant-loop decreases-loop = search in
-    marked-end at-loop.loop.inv.0 (omega arith) at-loop.loop.inv.1
+    marked_end at-loop.loop.inv.0 (omega arith) at-loop.loop.inv.1
 
 pub fill_spec : {M : Type 1} → statement M
 fill_spec =

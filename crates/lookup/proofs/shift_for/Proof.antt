@@ -3,7 +3,7 @@ use Prim.Native.Nat.{◌-◌, ◌≤◌, ◌<◌}
 use native.Mathlib.Omega.{arith}
 use borrow.Author.Rules.{rules}
 use lib.Pow.{shr_le}
-use Rattle.lookup.proofs.Index.{shift-grows}
+use Rattle.lookup.proofs.Index.{shift_grows}
 use Rattle.lookup.proofs.shift_for.Statement.{statement}
 use Rattle.lookup.proofs.shift_for.Tie as tie
 
@@ -18,7 +18,7 @@ left : (c : tie.In-loop invariant-loop decreases-loop) → c.before.loop.shift <
 left c =
     let start : tie.Start invariant-loop decreases-loop = search in
     let told : tie.After-parts-of invariant-loop decreases-loop = search in
-    shift-grows start.args.end c.before.loop.shift told.parts-of.result start.fits.end.fits c.before.loop.invariant told.parts-of.ensures.1 c.loop-test.true
+    shift_grows start.args.end c.before.loop.shift told.parts-of.result start.fits.end.fits c.before.loop.invariant told.parts-of.ensures.1 c.loop-test.true
 
 cast-loop : tie.Need-overflow-cast-loop invariant-loop decreases-loop
 cast-loop c =

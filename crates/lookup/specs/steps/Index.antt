@@ -2,14 +2,14 @@
 use Rattle.std.specs.Prelude.{◌≡◌, List, ℕ, ◌+◌, ◌-◌, ◌/◌, ◌^◌, ◌≤◌, ◌<◌, min, max, length, get_or}
 
 -- the entries of an index, at least, and of a large one; what an entry can count
-abbrev pub indexSize : ℕ
-indexSize = 1026
+abbrev pub index_size : ℕ
+index_size = 1026
 
-abbrev pub largeSize : ℕ
-largeSize = 16386
+abbrev pub large_size : ℕ
+large_size = 16386
 
-abbrev pub mostKeys : ℕ
-mostKeys = 4294967295
+abbrev pub most_keys : ℕ
+most_keys = 4294967295
 
 -- the parts that an index of a length tells apart
 abbrev pub parts : ℕ → ℕ
@@ -32,12 +32,12 @@ pub record Before (key : ℕ → ℕ) (n size shift p v : ℕ) : Type 0 where
 -- every entry counts the offsets before its part; a slice that is too short says nothing
 pub record Indexed (index : List ℕ) (key : ℕ → ℕ) (n shift : ℕ) : Type 0 where
   pub few_bits : shift < 32
-  pub counts : indexSize ≤ length index → (p : ℕ) → p < length index → Before key n (length index) shift p (get_or index p 0)
+  pub counts : index_size ≤ length index → (p : ℕ) → p < length index → Before key n (length index) shift p (get_or index p 0)
 
 -- the first i of n offsets are marked: they lie in parts before part `next`, and the entries before `next` are right
 pub record Filled (index : List ℕ) (key : ℕ → ℕ) (n shift i next : ℕ) : Type 0 where
   pub few_bits : shift < 32
-  pub size : indexSize ≤ length index
+  pub size : index_size ≤ length index
   pub most : next ≤ length index
   pub counts : (p : ℕ) → p < next → Before key n (length index) shift p (get_or index p 0)
   pub passed : (j : ℕ) → j < i → part (length index) shift (key j) < next
@@ -51,9 +51,9 @@ pub record Marked (before index : List ℕ) (next to v r : ℕ) : Type 0 where
 
 -- what the index says of a part, or all of n offsets where there is none
 pub record Narrowed (index : List ℕ) (n p low high : ℕ) : Type 0 where
-  pub first : indexSize ≤ length index → low ≡ get_or index p 0
-  pub last : indexSize ≤ length index → high ≡ get_or index (p + 1) 0
-  pub all : length index < indexSize → (low ≡ 0) × (high ≡ n)
+  pub first : index_size ≤ length index → low ≡ get_or index p 0
+  pub last : index_size ≤ length index → high ≡ get_or index (p + 1) 0
+  pub all : length index < index_size → (low ≡ 0) × (high ≡ n)
 
 -- of n offsets those before low lie below an offset, those from high on above it
 pub record Around (key : ℕ → ℕ) (n offset low high : ℕ) : Type 0 where

@@ -3,9 +3,9 @@ use Prim.Native.Nat.{ℕ, ◌+◌, ◌-◌, ◌*◌}
 use native.Mathlib.Omega.{arith}
 use borrow.Author.Rules.{rules}
 use Rattle.words.specs.Words.{word_at}
-use Rattle.naming.specs.steps.Open.{opens_at, openEntries}
-use Rattle.naming.proofs.Entries.{entry-within}
-use Rattle.naming.proofs.Turns.{Counted, counting, found-le, count-grows}
+use Rattle.naming.specs.steps.Open.{opens_at, open_entries}
+use Rattle.naming.proofs.Entries.{entry_within}
+use Rattle.naming.proofs.Turns.{Counted, counting, found_le, count_grows}
 use Rattle.naming.proofs.open_entries.Statement.{statement}
 use Rattle.naming.proofs.open_entries.Tie as tie
 
@@ -18,29 +18,29 @@ decreases-loop table n stride at base labels known found₀ i₀ found i = n - i
 mul-word-at : tie.Need-overflow-mul-word-at invariant-loop decreases-loop
 mul-word-at c =
     let start : tie.Start invariant-loop decreases-loop = search in
-    omega (arith, entry-within c.loop-test.true start.pre.1)
+    omega (arith, entry_within c.loop-test.true start.pre.1)
 
 add-word-at : tie.Need-overflow-add-word-at invariant-loop decreases-loop
 add-word-at c =
     let start : tie.Start invariant-loop decreases-loop = search in
-    omega (arith, entry-within c.loop-test.true start.pre.1)
+    omega (arith, entry_within c.loop-test.true start.pre.1)
 
 word-at-requires : tie.Need-word-at-requires invariant-loop decreases-loop
 word-at-requires c κs =
     let start : tie.Start invariant-loop decreases-loop = search in
-    omega (arith, entry-within c.loop-test.true start.pre.1)
+    omega (arith, entry_within c.loop-test.true start.pre.1)
 
 loop-again : tie.Need-loop-preserved invariant-loop decreases-loop
 loop-again c =
     let after-word-at : tie.After-word-at invariant-loop decreases-loop = search in
     let at-loop : tie.At-loop invariant-loop decreases-loop = search in
-    count-grows at-loop.loop.inv (omega arith) (rw after-word-at.word-at.ensures at c.opens.ensures)
+    count_grows at-loop.loop.inv (omega arith) (rw after-word-at.word-at.ensures at c.opens.ensures)
 
 add-found : tie.Need-overflow-add-found invariant-loop decreases-loop
-add-found c = omega (arith, found-le (loop-again c))
+add-found c = omega (arith, found_le (loop-again c))
 
 returns : tie.Need-returns invariant-loop decreases-loop
-unfolding openEntries
+unfolding open_entries
 returns c = search counting
 
 pub open-entries-spec : {M : Type 1} → statement M

@@ -4,14 +4,14 @@ use Prim.Native.Nat.{ℕ, ◌+◌, ◌-◌, ◌*◌}
 use native.Mathlib.Omega.{arith}
 use borrow.Author.Rules.{rules}
 use Rattle.words.specs.Words.{word_at}
-use Rattle.relax.specs.Events.{eventWords, namesLabel}
-use Rattle.naming.specs.steps.Open.{isOpenAt, openJumps}
-use Rattle.naming.proofs.Turns.{Counted, counting, found-le}
+use Rattle.relax.specs.Events.{event_words, names_label}
+use Rattle.naming.specs.steps.Open.{is_open_at, open_jumps}
+use Rattle.naming.proofs.Turns.{Counted, counting, found_le}
 use Rattle.naming.proofs.open_jumps.Statement.{statement}
 use Rattle.naming.proofs.open_jumps.Tie as tie
 
 abbrev invariant-loop : tie.invariant-loop
-invariant-loop events n labels known found₀ i₀ found i = Counted (λ (k : ℕ). namesLabel (word_at events (k * eventWords)) && isOpenAt labels known (word_at events (k * eventWords + 3))) n i found
+invariant-loop events n labels known found₀ i₀ found i = Counted (λ (k : ℕ). names_label (word_at events (k * event_words)) && is_open_at labels known (word_at events (k * event_words + 3))) n i found
 
 abbrev decreases-loop : tie.decreases-loop
 decreases-loop events n labels known found₀ i₀ found i = n - i
@@ -20,10 +20,10 @@ loop-again : tie.Need-loop-preserved invariant-loop decreases-loop
 loop-again c = search counting
 
 add-found : tie.Need-overflow-add-found invariant-loop decreases-loop
-add-found c = omega (arith, found-le (loop-again c))
+add-found c = omega (arith, found_le (loop-again c))
 
 returns : tie.Need-returns invariant-loop decreases-loop
-unfolding openJumps
+unfolding open_jumps
 returns c = search counting
 
 pub open-jumps-spec : {M : Type 1} → statement M

@@ -3,21 +3,21 @@ use mathlib.Core.Path.{◌≡◌, refl, ◌∙◌}
 use Prim.Native.Nat.{◌+◌, ◌*◌, ◌-◌, ◌≤◌}
 use native.Mathlib.Omega.{arith}
 use lib.ListN.{length}
-use Rattle.words.proofs.Laws.{length-setWord}
-use Rattle.pool.specs.steps.Pool.{poolStart, poolBound, mostPooled}
-use Rattle.pool.proofs.Pool.{Turn, pad-small, start-turn, bound-turn}
+use Rattle.words.proofs.Laws.{length_set_word}
+use Rattle.pool.specs.steps.Pool.{pool_start, pool_bound, most_pooled}
+use Rattle.pool.proofs.Pool.{Turn, pad_small, start_turn, bound_turn}
 use borrow.Author.Rules.{rules}
 use Rattle.pool.proofs.bind.Statement.{statement}
 use Rattle.pool.proofs.bind.Tie as tie
 
 abbrev invariant-loop : tie.invariant-loop
-invariant-loop from labels₀ constants asked n at₀ j₀ labels at j = (j ≤ n) × (at ≡ poolStart from constants asked j) × (at ≤ from + j * mostPooled) × (length labels ≡ length labels₀) × (labels ≡ poolBound from labels₀ constants asked j)
+invariant-loop from labels₀ constants asked n at₀ j₀ labels at j = (j ≤ n) × (at ≡ pool_start from constants asked j) × (at ≤ from + j * most_pooled) × (length labels ≡ length labels₀) × (labels ≡ pool_bound from labels₀ constants asked j)
 
 abbrev decreases-loop : tie.decreases-loop
 decreases-loop from labels₀ constants asked n at₀ j₀ labels at j = n - j
 
 loop-holds : tie.Need-loop-init invariant-loop decreases-loop
-unfolding poolStart poolBound
+unfolding pool_start pool_bound
 loop-holds c = (omega arith, refl, omega arith, refl, refl)
 
 size-at-requires : tie.Need-size-at-requires invariant-loop decreases-loop
@@ -45,7 +45,7 @@ turned c = search
 add-offset : tie.Need-overflow-add-offset invariant-loop decreases-loop
 add-offset c =
     let start : tie.Start invariant-loop decreases-loop = search in
-    omega (arith, pad-small (turned c), start.pre.0.few)
+    omega (arith, pad_small (turned c), start.pre.0.few)
 
 put-word-requires : tie.Need-put-word-requires invariant-loop decreases-loop
 put-word-requires c κs =
@@ -60,7 +60,7 @@ add_at c =
     let in-loop : tie.In-loop invariant-loop decreases-loop = search in
     let start : tie.Start invariant-loop decreases-loop = search in
     let turn = turned after-padding-len in
-    omega (arith, pad-small turn, start.pre.0.few, start.pre.0.sized _ in-loop.loop-test.taken, turn.sized)
+    omega (arith, pad_small turn, start.pre.0.few, start.pre.0.sized _ in-loop.loop-test.taken, turn.sized)
 
 loop-again : tie.Need-loop-preserved invariant-loop decreases-loop
 loop-again c =
@@ -71,7 +71,7 @@ loop-again c =
     let at-loop : tie.At-loop invariant-loop decreases-loop = search in
     let start : tie.Start invariant-loop decreases-loop = search in
     let turn = turned after-padding-len in
-    (omega arith, start-turn turn, omega (arith, pad-small turn, start.pre.0.sized _ in-loop.loop-test.taken, turn.sized), rw after-put-word.put_word.ensures (length-setWord _ _ _ ∙ at-loop.loop.inv.3), after-put-word.put_word.ensures ∙ bound-turn turn start.args.labels.now at-loop.loop.inv.4 after-label-at.label-at.ensures)
+    (omega arith, start_turn turn, omega (arith, pad_small turn, start.pre.0.sized _ in-loop.loop-test.taken, turn.sized), rw after-put-word.put_word.ensures (length_set_word _ _ _ ∙ at-loop.loop.inv.3), after-put-word.put_word.ensures ∙ bound_turn turn start.args.labels.now at-loop.loop.inv.4 after-label-at.label-at.ensures)
 
 returns : tie.Need-returns invariant-loop decreases-loop
 returns c =

@@ -4,19 +4,19 @@ use Prim.Native.Nat.{◌-◌, ◌≤◌}
 use native.Mathlib.Numerals.{add-one}
 use native.Mathlib.Omega.{arith}
 use borrow.Author.Rules.{rules}
-use Rattle.fresh.specs.Pooled.{constantAlignment}
-use Rattle.pool.specs.steps.Pool.{poolAlignment}
+use Rattle.fresh.specs.Pooled.{constant_alignment}
+use Rattle.pool.specs.steps.Pool.{pool_alignment}
 use Rattle.pool.proofs.code_alignment.Statement.{statement}
 use Rattle.pool.proofs.code_alignment.Tie as tie
 
 abbrev invariant-loop : tie.invariant-loop
-invariant-loop constants asked n alignment₀ j₀ alignment j = (j ≤ n) × (alignment ≡ poolAlignment constants asked j)
+invariant-loop constants asked n alignment₀ j₀ alignment j = (j ≤ n) × (alignment ≡ pool_alignment constants asked j)
 
 abbrev decreases-loop : tie.decreases-loop
 decreases-loop constants asked n alignment₀ j₀ alignment j = n - j
 
 loop-holds : tie.Need-loop-init invariant-loop decreases-loop
-unfolding poolAlignment
+unfolding pool_alignment
 loop-holds c = (omega arith, refl)
 
 size-at-requires : tie.Need-size-at-requires invariant-loop decreases-loop
@@ -25,14 +25,14 @@ size-at-requires c κs =
     omega (arith, start.pre.listed _ c.loop-test.true)
 
 loop-again : tie.Need-loop-preserved invariant-loop decreases-loop
-unfolding poolAlignment
+unfolding pool_alignment
 loop-again c =
     let after-greater : tie.After-greater invariant-loop decreases-loop = search in
     let after-constant-alignment : tie.After-constant-alignment invariant-loop decreases-loop = search in
     let after-size-at : tie.After-size-at invariant-loop decreases-loop = search in
     let at-loop : tie.At-loop invariant-loop decreases-loop = search in
     let l = at-loop.loop in
-    let own = after-constant-alignment.constant-alignment.ensures ∙ ap constantAlignment after-size-at.size-at.ensures in
+    let own = after-constant-alignment.constant-alignment.ensures ∙ ap constant_alignment after-size-at.size-at.ensures in
     (omega arith, rw (add-one l.j) (omega (arith, after-greater.greater.ensures, own, l.inv.1)))
 
 returns : tie.Need-returns invariant-loop decreases-loop

@@ -4,20 +4,20 @@ use mathlib.Core.Bool.{false}
 use Prim.Native.Nat.{◌-◌, ◌≤◌}
 use native.Mathlib.Omega.{arith}
 use borrow.Author.Tests.{eq-eqb, ne_eqb}
-use Rattle.pool.specs.steps.Pool.{isAnyBound}
-use Rattle.pool.proofs.Pool.{one-bound, none-bound}
+use Rattle.pool.specs.steps.Pool.{is_any_bound}
+use Rattle.pool.proofs.Pool.{one_bound, none_bound}
 use borrow.Author.Rules.{rules}
 use Rattle.pool.proofs.is_any_bound.Statement.{statement}
 use Rattle.pool.proofs.is_any_bound.Tie as tie
 
 abbrev invariant-loop : tie.invariant-loop
-invariant-loop labels constants asked n j₀ j = (j ≤ n) × (isAnyBound labels constants asked j ≡ false)
+invariant-loop labels constants asked n j₀ j = (j ≤ n) × (is_any_bound labels constants asked j ≡ false)
 
 abbrev decreases-loop : tie.decreases-loop
 decreases-loop labels constants asked n j₀ j = n - j
 
 loop-holds : tie.Need-loop-init invariant-loop decreases-loop
-unfolding isAnyBound
+unfolding is_any_bound
 loop-holds c = (omega arith, refl)
 
 label-at-requires : tie.Need-label-at-requires invariant-loop decreases-loop
@@ -36,14 +36,14 @@ returns c =
     let after-word-at : tie.After-word-at invariant-loop decreases-loop = search in
     let after-label-at : tie.After-label-at invariant-loop decreases-loop = search in
     let at-loop : tie.At-loop invariant-loop decreases-loop = search in
-    sym (one-bound _ _ _ at-loop.loop.j _ (omega arith) (rw (← after-label-at.label-at.ensures, ← after-word-at.word-at.ensures, ne_eqb _ _ c.if1.true)))
+    sym (one_bound _ _ _ at-loop.loop.j _ (omega arith) (rw (← after-label-at.label-at.ensures, ← after-word-at.word-at.ensures, ne_eqb _ _ c.if1.true)))
 
 loop-again : tie.Need-loop-preserved invariant-loop decreases-loop
 loop-again c =
     let after-word-at : tie.After-word-at invariant-loop decreases-loop = search in
     let after-label-at : tie.After-label-at invariant-loop decreases-loop = search in
     let at-loop : tie.At-loop invariant-loop decreases-loop = search in
-    (omega arith, none-bound _ _ _ _ at-loop.loop.inv.1 (rw (← after-label-at.label-at.ensures, ← after-word-at.word-at.ensures, eq-eqb _ _ c.if1.false)))
+    (omega arith, none_bound _ _ _ _ at-loop.loop.inv.1 (rw (← after-label-at.label-at.ensures, ← after-word-at.word-at.ensures, eq-eqb _ _ c.if1.false)))
 
 returns-2 : tie.Need-returns-2 invariant-loop decreases-loop
 returns-2 c =

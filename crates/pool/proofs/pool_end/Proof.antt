@@ -2,20 +2,20 @@
 use mathlib.Core.Path.{◌≡◌, refl}
 use Prim.Native.Nat.{◌+◌, ◌*◌, ◌-◌, ◌≤◌}
 use native.Mathlib.Omega.{arith}
-use Rattle.pool.specs.steps.Pool.{poolStart, mostPooled}
-use Rattle.pool.proofs.Pool.{Turn, pad-small, start-turn}
+use Rattle.pool.specs.steps.Pool.{pool_start, most_pooled}
+use Rattle.pool.proofs.Pool.{Turn, pad_small, start_turn}
 use borrow.Author.Rules.{rules}
 use Rattle.pool.proofs.pool_end.Statement.{statement}
 use Rattle.pool.proofs.pool_end.Tie as tie
 
 abbrev invariant-loop : tie.invariant-loop
-invariant-loop from constants asked n at₀ j₀ at j = (j ≤ n) × (at ≡ poolStart from constants asked j) × (at ≤ from + j * mostPooled)
+invariant-loop from constants asked n at₀ j₀ at j = (j ≤ n) × (at ≡ pool_start from constants asked j) × (at ≤ from + j * most_pooled)
 
 abbrev decreases-loop : tie.decreases-loop
 decreases-loop from constants asked n at₀ j₀ at j = n - j
 
 loop-holds : tie.Need-loop-init invariant-loop decreases-loop
-unfolding poolStart
+unfolding pool_start
 loop-holds c = (omega arith, refl, omega arith)
 
 size-at-requires : tie.Need-size-at-requires invariant-loop decreases-loop
@@ -37,21 +37,21 @@ turned c = search
 add_at : tie.Need-overflow-add-at invariant-loop decreases-loop
 add_at c =
     let start : tie.Start invariant-loop decreases-loop = search in
-    omega (arith, pad-small (turned c), start.pre.0.few)
+    omega (arith, pad_small (turned c), start.pre.0.few)
 
 add-at-2 : tie.Need-overflow-add-at-2 invariant-loop decreases-loop
 add-at-2 c =
     let in-loop : tie.In-loop invariant-loop decreases-loop = search in
     let start : tie.Start invariant-loop decreases-loop = search in
     let turn = turned c in
-    omega (arith, pad-small turn, start.pre.0.few, start.pre.0.sized _ in-loop.loop-test.taken, turn.sized)
+    omega (arith, pad_small turn, start.pre.0.few, start.pre.0.sized _ in-loop.loop-test.taken, turn.sized)
 
 loop-again : tie.Need-loop-preserved invariant-loop decreases-loop
 loop-again c =
     let in-loop : tie.In-loop invariant-loop decreases-loop = search in
     let start : tie.Start invariant-loop decreases-loop = search in
     let turn = turned c in
-    (omega arith, start-turn turn, omega (arith, pad-small turn, start.pre.0.sized _ in-loop.loop-test.taken, turn.sized))
+    (omega arith, start_turn turn, omega (arith, pad_small turn, start.pre.0.sized _ in-loop.loop-test.taken, turn.sized))
 
 returns : tie.Need-returns invariant-loop decreases-loop
 returns c =

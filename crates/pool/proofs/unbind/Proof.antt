@@ -3,21 +3,21 @@ use mathlib.Core.Path.{◌≡◌, refl, ◌∙◌}
 use Prim.Native.Nat.{◌-◌, ◌≤◌}
 use native.Mathlib.Omega.{arith}
 use lib.ListN.{length}
-use Rattle.words.proofs.Laws.{length-setWord}
-use Rattle.pool.specs.steps.Pool.{poolUnbound}
-use Rattle.pool.proofs.Pool.{unbound-turn}
+use Rattle.words.proofs.Laws.{length_set_word}
+use Rattle.pool.specs.steps.Pool.{pool_unbound}
+use Rattle.pool.proofs.Pool.{unbound_turn}
 use borrow.Author.Rules.{rules}
 use Rattle.pool.proofs.unbind.Statement.{statement}
 use Rattle.pool.proofs.unbind.Tie as tie
 
 abbrev invariant-loop : tie.invariant-loop
-invariant-loop labels₀ constants asked n j₀ labels j = (j ≤ n) × (length labels ≡ length labels₀) × (labels ≡ poolUnbound labels₀ constants asked j)
+invariant-loop labels₀ constants asked n j₀ labels j = (j ≤ n) × (length labels ≡ length labels₀) × (labels ≡ pool_unbound labels₀ constants asked j)
 
 abbrev decreases-loop : tie.decreases-loop
 decreases-loop labels₀ constants asked n j₀ labels j = n - j
 
 loop-holds : tie.Need-loop-init invariant-loop decreases-loop
-unfolding poolUnbound
+unfolding pool_unbound
 loop-holds c = (omega arith, refl, refl)
 
 label-at-requires : tie.Need-label-at-requires invariant-loop decreases-loop
@@ -37,7 +37,7 @@ loop-again c =
     let after-put-word : tie.After-put-word invariant-loop decreases-loop = search in
     let after-label-at : tie.After-label-at invariant-loop decreases-loop = search in
     let at-loop : tie.At-loop invariant-loop decreases-loop = search in
-    (omega arith, rw after-put-word.put_word.ensures (length-setWord _ _ _ ∙ at-loop.loop.inv.1), after-put-word.put_word.ensures ∙ unbound-turn (record { unbound = at-loop.loop.inv.2; labelled = after-label-at.label-at.ensures }))
+    (omega arith, rw after-put-word.put_word.ensures (length_set_word _ _ _ ∙ at-loop.loop.inv.1), after-put-word.put_word.ensures ∙ unbound_turn (record { unbound = at-loop.loop.inv.2; labelled = after-label-at.label-at.ensures }))
 
 returns : tie.Need-returns invariant-loop decreases-loop
 returns c =

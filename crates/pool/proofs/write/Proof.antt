@@ -3,20 +3,20 @@ use mathlib.Core.Path.{◌≡◌, refl}
 use Prim.Native.Nat.{◌-◌, ◌≤◌}
 use native.Mathlib.Omega.{arith}
 use lib.ListN.{length}
-use Rattle.pool.specs.steps.Pool.{poolWritten}
-use Rattle.pool.proofs.Pool.{Writing, from-turn, room-turn, written-turn, length-poolWritten}
+use Rattle.pool.specs.steps.Pool.{pool_written}
+use Rattle.pool.proofs.Pool.{Writing, from_turn, room_turn, written_turn, length_pool_written}
 use borrow.Author.Rules.{rules}
 use Rattle.pool.proofs.write.Statement.{statement}
 use Rattle.pool.proofs.write.Tie as tie
 
 abbrev invariant-loop : tie.invariant-loop
-invariant-loop output₀ labels constants asked n j₀ output j = (j ≤ n) × (length output ≡ length output₀) × (output ≡ poolWritten output₀ labels constants asked j)
+invariant-loop output₀ labels constants asked n j₀ output j = (j ≤ n) × (length output ≡ length output₀) × (output ≡ pool_written output₀ labels constants asked j)
 
 abbrev decreases-loop : tie.decreases-loop
 decreases-loop output₀ labels constants asked n j₀ output j = n - j
 
 loop-holds : tie.Need-loop-init invariant-loop decreases-loop
-unfolding poolWritten
+unfolding pool_written
 loop-holds c = (omega arith, refl, refl)
 
 size-at-requires : tie.Need-size-at-requires invariant-loop decreases-loop
@@ -57,14 +57,14 @@ part-copy-end : tie.Need-slice-bounds-copy-end invariant-loop decreases-loop
 part-copy-end c =
     let in-loop : tie.In-loop invariant-loop decreases-loop = search in
     let start : tie.Start invariant-loop decreases-loop = search in
-    omega (arith, from-turn (turned c) start.pre.0 in-loop.loop-test.taken)
+    omega (arith, from_turn (turned c) start.pre.0 in-loop.loop-test.taken)
 
 part-copy-end-2 : tie.Need-slice-bounds-copy-end-2 invariant-loop decreases-loop
 part-copy-end-2 c =
     let after-word-at2 : tie.After-word-at2 invariant-loop decreases-loop = search in
     let in-loop : tie.In-loop invariant-loop decreases-loop = search in
     let start : tie.Start invariant-loop decreases-loop = search in
-    omega (arith, room-turn (turned after-word-at2) start.pre.1.1 in-loop.loop-test.taken)
+    omega (arith, room_turn (turned after-word-at2) start.pre.1.1 in-loop.loop-test.taken)
 
 loop-again : tie.Need-loop-preserved invariant-loop decreases-loop
 loop-again c =
@@ -75,9 +75,9 @@ loop-again c =
     let start : tie.Start invariant-loop decreases-loop = search in
     let more = in-loop.loop-test.taken in
     let turn = turned after-word-at2 in
-    let room = room-turn turn start.pre.1.1 more in
-    let written = written-turn turn start.args.output.now at-loop.loop.inv.2 (from-turn turn start.pre.0 more) (omega arith) after-copy.copy.ensures in
-    (omega arith, rw written (length-poolWritten _ _ _ _ _), written)
+    let room = room_turn turn start.pre.1.1 more in
+    let written = written_turn turn start.args.output.now at-loop.loop.inv.2 (from_turn turn start.pre.0 more) (omega arith) after-copy.copy.ensures in
+    (omega arith, rw written (length_pool_written _ _ _ _ _), written)
 
 returns : tie.Need-returns invariant-loop decreases-loop
 returns c =

@@ -5,7 +5,7 @@ use Prim.Native.Nat.{◌≤◌, ◌-◌, min}
 use native.Mathlib.Omega.{arith}
 use lib.ListN.{length, take, length-set}
 use Rattle.seqs.specs.Over.{over}
-use Rattle.seqs.proofs.Overwrites.{over-nil, over-copy, over-take}
+use Rattle.seqs.proofs.Overwrites.{over_nil, over_copy, over_take}
 use Rattle.seqs.proofs.copy.Statement.{statement}
 use Rattle.seqs.proofs.copy.Tie as tie
 use Rattle.seqs.proofs.copy.Reads as reads
@@ -18,7 +18,7 @@ abbrev decreases-loop : tie.decreases-loop
 decreases-loop src dst₀ n i₀ dst i = n - i
 
 loop-holds : tie.Need-loop-init invariant-loop decreases-loop
-loop-holds c = (omega arith, c.least.ensures, sym (over-nil _ 0), refl)
+loop-holds c = (omega arith, c.least.ensures, sym (over_nil _ 0), refl)
 
 loop-again : tie.Need-loop-preserved invariant-loop decreases-loop
 loop-again c =
@@ -27,7 +27,7 @@ loop-again c =
     let i = at-loop.loop.i in (
       omega arith,
       at-loop.loop.inv.1,
-      rw at-loop.loop.inv.2 (over-copy _ 0 start.args.src.now i i 0 (omega arith) (omega arith)),
+      rw at-loop.loop.inv.2 (over_copy _ 0 start.args.src.now i i 0 (omega arith) (omega arith)),
       simp length-set (omega arith),
     )
 
@@ -36,7 +36,7 @@ returns c =
     let at-loop' : tie.At-loop invariant-loop decreases-loop = search in
     let start : tie.Start invariant-loop decreases-loop = search in
     let a = start.args in
-    at-loop'.loop.inv.2 ∙ over-take a.dst.now a.src.now at-loop'.loop.i (omega arith)
+    at-loop'.loop.inv.2 ∙ over_take a.dst.now a.src.now at-loop'.loop.i (omega arith)
 
 pub copy_spec : {M : Type 1} → statement M
 copy_spec =

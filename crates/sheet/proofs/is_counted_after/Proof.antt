@@ -1,13 +1,13 @@
 -- `is_counted_after` meets its contract.
 use mathlib.Core.Path.{sym, ◌∙◌}
 use borrow.Author.Tests.{eqb-true}
-use Rattle.seqs.proofs.Booleans.{true-is-not-false}
+use Rattle.seqs.proofs.Booleans.{true_is_not_false}
 use borrow.Author.Rules.{rules}
 use Rattle.sheet.proofs.is_counted_after.Statement.{statement}
 use Rattle.sheet.proofs.is_counted_after.Tie as tie
 
 returns : tie.Need-returns
-returns c = λ e. absurd (true-is-not-false (sym e))
+returns c = λ e. absurd (true_is_not_false (sym e))
 
 returns-2 : tie.Need-returns-2
 returns-2 c =

@@ -4,20 +4,20 @@ use borrow.Author.Rules.{rules}
 use Prim.Native.Nat.{◌+◌, ◌*◌, ◌-◌, ◌≤◌, ◌<◌}
 use native.Mathlib.Omega.{arith}
 use lib.ListN.{length, get_or, take, drop}
-use Rattle.checks.specs.Lent.{recordingOf}
-use Rattle.sheet.specs.Run.{call_of, calls_of, runCalls}
-use Rattle.sheet_form.proofs.Forming.{argument-part, argument-length}
-use Rattle.sheet.proofs.Following.{call-follows}
-use Rattle.sheet.proofs.Counting.{call-meant, meant-on, going-fits, going_on, gone-labels, gone-code}
-use Rattle.sheet.proofs.Running.{run-again, run-refused, run_end}
+use Rattle.checks.specs.Lent.{recording_of}
+use Rattle.sheet.specs.Run.{call_of, calls_of, run_calls}
+use Rattle.sheet_form.proofs.Forming.{argument_part, argument_length}
+use Rattle.sheet.proofs.Following.{call_follows}
+use Rattle.sheet.proofs.Counting.{call_meant, meant_on, going_fits, going_on, gone_labels, gone_code}
+use Rattle.sheet.proofs.Running.{run_again, run_refused, run_end}
 use Rattle.sheet.proofs.run.Statement.{statement}
-use Rattle.sheet_form.specs.Form.{argumentSize}
+use Rattle.sheet_form.specs.Form.{argument_size}
 use Rattle.sheet_form.specs.steps.Bound.{Known}
 use Rattle.sheet.specs.steps.Meant.{meant, Going}
 use Rattle.sheet.proofs.run.Tie as tie
 
 abbrev invariant-loop : tie.invariant-loop
-invariant-loop kept kinds arguments code₀ labels₀ events₀ uses₀ refs₀ constants₀ asked₀ relocs₀ last₀ bound₀ i₀ code labels events uses refs constants asked relocs last bound i = (i ≤ length kinds) × (length code ≡ length code₀) × (length labels ≡ length labels₀) × (length events ≡ length events₀) × (length uses ≡ length uses₀) × (length refs ≡ length refs₀) × (length constants ≡ length constants₀) × (length asked ≡ length asked₀) × (length relocs ≡ length relocs₀) × (Known labels last.labels bound) × (runCalls (calls_of (drop i kinds) (drop (i * argumentSize) arguments)) i (meant kept (recordingOf last code labels events uses refs constants asked relocs)) ≡ runCalls (calls_of kinds arguments) 0 (meant kept (recordingOf last₀ code₀ labels₀ events₀ uses₀ refs₀ constants₀ asked₀ relocs₀))) × Going kept (recordingOf last code labels events uses refs constants asked relocs) × (last.code < 4294967296)
+invariant-loop kept kinds arguments code₀ labels₀ events₀ uses₀ refs₀ constants₀ asked₀ relocs₀ last₀ bound₀ i₀ code labels events uses refs constants asked relocs last bound i = (i ≤ length kinds) × (length code ≡ length code₀) × (length labels ≡ length labels₀) × (length events ≡ length events₀) × (length uses ≡ length uses₀) × (length refs ≡ length refs₀) × (length constants ≡ length constants₀) × (length asked ≡ length asked₀) × (length relocs ≡ length relocs₀) × (Known labels last.labels bound) × (run_calls (calls_of (drop i kinds) (drop (i * argument_size) arguments)) i (meant kept (recording_of last code labels events uses refs constants asked relocs)) ≡ run_calls (calls_of kinds arguments) 0 (meant kept (recording_of last₀ code₀ labels₀ events₀ uses₀ refs₀ constants₀ asked₀ relocs₀))) × Going kept (recording_of last code labels events uses refs constants asked relocs) × (last.code < 4294967296)
 
 abbrev decreases-loop : tie.decreases-loop
 decreases-loop kept kinds arguments code₀ labels₀ events₀ uses₀ refs₀ constants₀ asked₀ relocs₀ last₀ bound₀ i₀ code labels events uses refs constants asked relocs last bound i = length kinds - i
@@ -60,7 +60,7 @@ call-requires c κs =
     let looked : tie.After-before-call invariant-loop decreases-loop = search in
     let in-turn : tie.In-loop invariant-loop decreases-loop = search in
     let start = entered (looped in-turn) in
-    (argument-length start.args.kinds.now start.args.arguments.now (looped in-turn).loop.i in-turn.loop-test.taken start.pre.0.0, told.nearest.ensures _ _ looked.before-call.ensures)
+    (argument_length start.args.kinds.now start.args.arguments.now (looped in-turn).loop.i in-turn.loop-test.taken start.pre.0.0, told.nearest.ensures _ _ looked.before-call.ensures)
 
 -- the index of a call, and the next, are words
 index-small : (c : tie.In-loop invariant-loop decreases-loop) → (looped c).loop.i + 1 < 4294967296
@@ -75,10 +75,10 @@ returns c =
     let at-loop = looped in-turn in
     let a = (entered at-loop).args in
     let going = at-loop.loop.inv.11 in
-    let call = call_of (get_or a.kinds.now at-loop.loop.i 0) (take argumentSize (drop (at-loop.loop.i * argumentSize) a.arguments.now)) in
-    let e = rw (argument-part a.kinds.now a.arguments.now at-loop.loop.i) at made.call.ensures in (
-      run-refused a.kinds.now a.arguments.now at-loop.loop.i _ _ at-loop.loop.inv.10 _ _ in-turn.loop-test.taken (call-meant a.kept call _ going at-loop.loop.inv.12 e) c.if1.true,
-      going-fits call _ going e,
+    let call = call_of (get_or a.kinds.now at-loop.loop.i 0) (take argument_size (drop (at-loop.loop.i * argument_size) a.arguments.now)) in
+    let e = rw (argument_part a.kinds.now a.arguments.now at-loop.loop.i) at made.call.ensures in (
+      run_refused a.kinds.now a.arguments.now at-loop.loop.i _ _ at-loop.loop.inv.10 _ _ in-turn.loop-test.taken (call_meant a.kept call _ going at-loop.loop.inv.12 e) c.if1.true,
+      going_fits call _ going e,
     )
 
 add-i : tie.Need-overflow-add-i invariant-loop decreases-loop
@@ -99,8 +99,8 @@ loop-again c =
     let at-loop = looped in-turn in
     let a = (entered at-loop).args in
     let going = at-loop.loop.inv.11 in
-    let call = call_of (get_or a.kinds.now at-loop.loop.i 0) (take argumentSize (drop (at-loop.loop.i * argumentSize) a.arguments.now)) in
-    let e = rw (argument-part a.kinds.now a.arguments.now at-loop.loop.i) at made.call.ensures in (
+    let call = call_of (get_or a.kinds.now at-loop.loop.i 0) (take argument_size (drop (at-loop.loop.i * argument_size) a.arguments.now)) in
+    let e = rw (argument_part a.kinds.now a.arguments.now at-loop.loop.i) at made.call.ensures in (
       omega (arith, in-turn.loop-test.taken),
       omega (arith, made.call.kept, at-loop.loop.inv),
       omega (arith, made.call.kept, at-loop.loop.inv),
@@ -110,13 +110,13 @@ loop-again c =
       omega (arith, made.call.kept, at-loop.loop.inv),
       omega (arith, made.call.kept, at-loop.loop.inv),
       omega (arith, made.call.kept, at-loop.loop.inv),
-      rw (c.going_on.ensures, gone-labels a.kept made.call.result.buffer)
-          ((stepped c).after_call.ensures _ _ _ _ (call-follows _ _ _ made.call.ensures accepted.if1.left) (told-before made).before-call.ensures),
+      rw (c.going_on.ensures, gone_labels a.kept made.call.result.buffer)
+          ((stepped c).after_call.ensures _ _ _ _ (call_follows _ _ _ made.call.ensures accepted.if1.left) (told-before made).before-call.ensures),
       rw c.going_on.ensures
-          (ap (runCalls _ _) (meant-on a.kept _)
-          ∙ run-again a.kinds.now a.arguments.now at-loop.loop.i _ _ at-loop.loop.inv.10 _ _ in-turn.loop-test.taken (call-meant a.kept call _ going at-loop.loop.inv.12 e) accepted.if1.left),
+          (ap (run_calls _ _) (meant_on a.kept _)
+          ∙ run_again a.kinds.now a.arguments.now at-loop.loop.i _ _ at-loop.loop.inv.10 _ _ in-turn.loop-test.taken (call_meant a.kept call _ going at-loop.loop.inv.12 e) accepted.if1.left),
       rw c.going_on.ensures (going_on a.kept call _ going e),
-      rw (c.going_on.ensures, gone-code a.kept made.call.result.buffer) (omega (arith, made.call.ok)),
+      rw (c.going_on.ensures, gone_code a.kept made.call.result.buffer) (omega (arith, made.call.ok)),
     )
 
 returns-2 : tie.Need-returns-2 invariant-loop decreases-loop

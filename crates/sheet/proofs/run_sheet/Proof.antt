@@ -7,15 +7,15 @@ use Prim.Native.Nat.{ℕ, ◌+◌, ◌*◌, ◌≤◌}
 use native.Mathlib.Omega.{arith}
 use lib.ListN.{length}
 use Rattle.words.specs.Words.{word_at}
-use Rattle.buffer.specs.Tables.{mostOpen}
+use Rattle.buffer.specs.Tables.{most_open}
 use Rattle.recording.specs.Calls.{Recording}
 use Rattle.recording.specs.steps.Righted.{Fitting}
-use Rattle.checks.specs.Lent.{recordingOf}
-use Rattle.sheet_form.specs.Form.{isWhole, kindsOf, argumentsOf, firstBroken}
-use Rattle.sheet_form.proofs.Parts.{whole_length, kinds-part, arguments-part, parts-match, kinds-few}
-use Rattle.sheet.specs.Run.{runCalls}
-use Rattle.sheet.proofs.Counting.{standing-fits, counted-meant, meant-first}
-use Rattle.sheet.proofs.Running.{sheet-cut, sheet-broken, sheet-not-standing, sheet-run, parts-run}
+use Rattle.checks.specs.Lent.{recording_of}
+use Rattle.sheet_form.specs.Form.{is_whole, kinds_of, arguments_of, first_broken}
+use Rattle.sheet_form.proofs.Parts.{whole_length, kinds_part, arguments_part, parts_match, kinds_few}
+use Rattle.sheet.specs.Run.{run_calls}
+use Rattle.sheet.proofs.Counting.{standing_fits, counted_meant, meant_first}
+use Rattle.sheet.proofs.Running.{sheet_cut, sheet_broken, sheet_not_standing, sheet_run, parts_run}
 use borrow.Author.Rules.{rules}
 use Rattle.sheet.proofs.run_sheet.Statement.{statement}
 use Rattle.sheet.proofs.run_sheet.Tie as tie
@@ -57,32 +57,32 @@ sheet-of c = (entered (measured (is-long c))).args.sheet.now
 abbrev recording-of : tie.Start → Recording
 recording-of start =
     let a = start.args in
-    recordingOf a.b a.code.now a.labels.now a.events.now a.uses.now a.refs.now a.constants.now a.asked.now a.relocs.now
+    recording_of a.b a.code.now a.labels.now a.events.now a.uses.now a.refs.now a.constants.now a.asked.now a.relocs.now
 
 -- what is known of the sheet once its count is read
-whole : (c : tie.After-word-at) → isWhole (sheet-of c) ≡ true
+whole : (c : tie.After-word-at) → is_whole (sheet-of c) ≡ true
 whole c = sym (measured (is-long c)).is_whole.ensures ∙ not-false _ (is-long c).if1.false
 
 long : (c : tie.After-word-at) → length (sheet-of c) ≡ 4 + 17 * c.word-at.result
 long c = omega (arith, (whole_length (sheet-of c) (whole c)).1, c.word-at.ensures)
 
 -- and once its calls were looked at
-abbrev broken : (c : tie.After-first-broken) → c.first-broken.result ≡ firstBroken (kindsOf (sheet-of (read c))) (argumentsOf (sheet-of (read c)))
+abbrev broken : (c : tie.After-first-broken) → c.first-broken.result ≡ first_broken (kinds_of (sheet-of (read c))) (arguments_of (sheet-of (read c)))
 broken c =
     let count = read c in
-    rw (kinds-part (sheet-of count) _ count.word-at.ensures, arguments-part (sheet-of count) _ count.word-at.ensures) at c.first-broken.ensures
+    rw (kinds_part (sheet-of count) _ count.word-at.ensures, arguments_part (sheet-of count) _ count.word-at.ensures) at c.first-broken.ensures
 
 unbroken : (c : tie.Else2) → word_at (sheet-of (read (looked c))) 0 ≤ (looked c).first-broken.result
 unbroken c = omega (arith, c.if2.false, (read (looked c)).word-at.ensures)
 
 -- and on a recording that answers the calls
-fits : (c : tie.Else3) → Fitting (recording-of (entered (measured (is-long (read (looked (is-formed (told c)))))))) × ((entered (measured (is-long (read (looked (is-formed (told c))))))).args.b.unresolved ≤ mostOpen)
-fits c = standing-fits _ (sym (told c).why-not-standing.ensures ∙ c.if3.false)
+fits : (c : tie.Else3) → Fitting (recording-of (entered (measured (is-long (read (looked (is-formed (told c)))))))) × ((entered (measured (is-long (read (looked (is-formed (told c))))))).args.b.unresolved ≤ most_open)
+fits c = standing_fits _ (sym (told c).why-not-standing.ensures ∙ c.if3.false)
 
 returns : tie.Need-returns
 returns c =
     let at-whole : tie.After-is-whole = search in
-    sheet-cut _ _ (sym at-whole.is_whole.ensures ∙ not-true _ c.if1.true)
+    sheet_cut _ _ (sym at-whole.is_whole.ensures ∙ not-true _ c.if1.true)
 
 word-at-requires : tie.Need-word-at-requires
 word-at-requires c κs =
@@ -105,19 +105,19 @@ part-first-broken-start-2 c =
 first-broken-requires : tie.Need-first-broken-requires
 first-broken-requires c κs =
     let count : tie.After-word-at = search in
-    parts-match _ (whole count) _ count.word-at.ensures
+    parts_match _ (whole count) _ count.word-at.ensures
 
 returns-2 : tie.Need-returns-2
 returns-2 c =
     let at-broken : tie.After-first-broken = search in
     let count = read at-broken in
-    sheet-broken _ _ (whole count) _ (broken at-broken) (omega (arith, c.if2.true, count.word-at.ensures))
+    sheet_broken _ _ (whole count) _ (broken at-broken) (omega (arith, c.if2.true, count.word-at.ensures))
 
 returns-3 : tie.Need-returns-3
 returns-3 c =
     let why : tie.After-why-not-standing = search in
     let formed = is-formed why in
-    sheet-not-standing _ _ (whole (read (looked formed))) _ (broken (looked formed)) (unbroken formed) _ why.why-not-standing.ensures c.if3.true
+    sheet_not_standing _ _ (whole (read (looked formed))) _ (broken (looked formed)) (unbroken formed) _ why.why-not-standing.ensures c.if3.true
 
 part-is-counted-after-end : tie.Need-slice-bounds-is-counted-after-end
 part-is-counted-after-end c =
@@ -150,7 +150,7 @@ run-requires c κs =
     let after : tie.After-is-counted-after = search in
     let stands = stood after in
     let count = read (looked (is-formed (told stands))) in (
-      (parts-match _ (whole count) _ count.word-at.ensures, kinds-few (sheet-of count) count.word-at.result (omega arith)),
+      (parts_match _ (whole count) _ count.word-at.ensures, kinds_few (sheet-of count) count.word-at.result (omega arith)),
       record { fitting = (fits stands).0; few = λ no. (fits stands).1 },
     )
 
@@ -163,11 +163,11 @@ returns-4 c =
     let formed = is-formed (told stands) in
     let count = read (looked formed) in
     rw done.counted.ensures
-    (ap (λ (s : Recording). ((ran.run.result.refusal, ran.run.result.index), s)) (counted-meant _ _)
+    (ap (λ (s : Recording). ((ran.run.result.refusal, ran.run.result.index), s)) (counted_meant _ _)
     ∙ ran.run.ensures.0
-    ∙ ap (runCalls _ 0) (meant-first _ _ after.is-counted-after.ensures)
-    ∙ parts-run (sheet-of count) _ _ count.word-at.ensures
-    ∙ sheet-run _ _ (whole count) _ (broken (looked formed)) (unbroken formed) _ (told stands).why-not-standing.ensures stands.if3.left)
+    ∙ ap (run_calls _ 0) (meant_first _ _ after.is-counted-after.ensures)
+    ∙ parts_run (sheet-of count) _ _ count.word-at.ensures
+    ∙ sheet_run _ _ (whole count) _ (broken (looked formed)) (unbroken formed) _ (told stands).why-not-standing.ensures stands.if3.left)
 
 pub run-sheet-spec : {M : Type 1} → statement M
 run-sheet-spec =

@@ -1,5 +1,5 @@
 -- `put_counts` meets its contract.
-use Rattle.wargnifla.proofs.Crossing.{counts-over}
+use Rattle.wargnifla.proofs.Crossing.{counts_over}
 use borrow.Author.Rules.{rules}
 use Rattle.wargnifla.proofs.put_counts.Statement.{statement}
 use Rattle.wargnifla.proofs.put_counts.Tie as tie
@@ -10,7 +10,7 @@ returns c =
     let after-put-four3 : tie.After-put-four3 = search in
     let after-put-four2 : tie.After-put-four2 = search in
     let after-put-four : tie.After-put-four = search in
-    rw (after-put-word.put_word.ensures, after-put-four3.put-four3.ensures, after-put-four2.put-four2.ensures, after-put-four.put_four.ensures) (counts-over _ _)
+    rw (after-put-word.put_word.ensures, after-put-four3.put-four3.ensures, after-put-four2.put-four2.ensures, after-put-four.put_four.ensures) (counts_over _ _)
 
 pub put-counts-spec : {M : Type 1} → statement M
 put-counts-spec =

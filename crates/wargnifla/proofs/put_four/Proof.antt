@@ -1,5 +1,5 @@
 -- `put_four` meets its contract.
-use Rattle.wargnifla.proofs.Crossing.{four-over}
+use Rattle.wargnifla.proofs.Crossing.{four_over}
 use borrow.Author.Rules.{rules}
 use Rattle.wargnifla.proofs.put_four.Statement.{statement}
 use Rattle.wargnifla.proofs.put_four.Tie as tie
@@ -10,7 +10,7 @@ returns c =
     let after-put-word3 : tie.After-put-word3 = search in
     let after-put-word2 : tie.After-put-word2 = search in
     let after-put-word : tie.After-put-word = search in
-    four-over (record {
+    four_over (record {
       first = after-put-word.put_word.ensures;
       second = after-put-word2.put-word2.ensures;
       third = after-put-word3.put-word3.ensures;

@@ -1,5 +1,5 @@
 -- `put_record` meets its contract.
-use Rattle.wargnifla.proofs.Crossing.{record-over}
+use Rattle.wargnifla.proofs.Crossing.{record_over}
 use borrow.Author.Rules.{rules}
 use Rattle.wargnifla.proofs.put_record.Statement.{statement}
 use Rattle.wargnifla.proofs.put_record.Tie as tie
@@ -9,7 +9,7 @@ returns c =
     let after-put-word2 : tie.After-put-word2 = search in
     let after-put-word : tie.After-put-word = search in
     let after-put-four : tie.After-put-four = search in
-    rw (after-put-word2.put-word2.ensures, after-put-word.put_word.ensures, after-put-four.put_four.ensures) (record-over _ _)
+    rw (after-put-word2.put-word2.ensures, after-put-word.put_word.ensures, after-put-four.put_four.ensures) (record_over _ _)
 
 pub put-record-spec : {M : Type 1} → statement M
 put-record-spec =

@@ -1,5 +1,5 @@
 -- `wargnifla_add_constant` meets its contract.
-use Rattle.wargnifla.proofs.Crossing.{constant-short, constant-crosses}
+use Rattle.wargnifla.proofs.Crossing.{constant_short, constant_crosses}
 use borrow.Author.Rules.{rules}
 use Rattle.wargnifla.proofs.wargnifla_add_constant.Statement.{statement}
 use Rattle.wargnifla.proofs.wargnifla_add_constant.Tie as tie
@@ -8,7 +8,7 @@ returns : tie.Need-returns
 returns c =
     let start : tie.Start = search in
     let a = start.args in
-    constant-short a.counts.now a.counts.now a.constants.now a.constants.now a.bytes.now c.if1.true
+    constant_short a.counts.now a.counts.now a.constants.now a.constants.now a.bytes.now c.if1.true
 
 returns-2 : tie.Need-returns-2
 returns-2 c =
@@ -18,7 +18,7 @@ returns-2 c =
     let else1 : tie.Else1 = search in
     let start : tie.Start = search in
     let a = start.args in
-    constant-crosses a.counts.now _ a.constants.now _ a.bytes.now _ _ else1.if1.left after-counts-at.counts-at.ensures after-add-constant.add-constant.ensures after-put-counts.put-counts.ensures
+    constant_crosses a.counts.now _ a.constants.now _ a.bytes.now _ _ else1.if1.left after-counts-at.counts-at.ensures after-add-constant.add-constant.ensures after-put-counts.put-counts.ensures
 
 pub wargnifla-add-constant-spec : {M : Type 1} → statement M
 wargnifla-add-constant-spec =

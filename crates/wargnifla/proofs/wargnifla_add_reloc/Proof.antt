@@ -1,5 +1,5 @@
 -- `wargnifla_add_reloc` meets its contract.
-use Rattle.wargnifla.proofs.Crossing.{reloc-short, reloc-crosses}
+use Rattle.wargnifla.proofs.Crossing.{reloc_short, reloc_crosses}
 use borrow.Author.Rules.{rules}
 use Rattle.wargnifla.proofs.wargnifla_add_reloc.Statement.{statement}
 use Rattle.wargnifla.proofs.wargnifla_add_reloc.Tie as tie
@@ -8,7 +8,7 @@ returns : tie.Need-returns
 returns c =
     let start : tie.Start = search in
     let a = start.args in
-    reloc-short a.labels.now a.offset a.kind a.target a.addend c.if1.true
+    reloc_short a.labels.now a.offset a.kind a.target a.addend c.if1.true
 
 returns-2 : tie.Need-returns-2
 returns-2 c =
@@ -16,7 +16,7 @@ returns-2 c =
     let after-add-reloc-at-offset : tie.After-add-reloc-at-offset = search in
     let after-counts-at : tie.After-counts-at = search in
     let else1 : tie.Else1 = search in
-    reloc-crosses (record {
+    reloc_crosses (record {
       long = else1.if1.left;
       read = after-counts-at.counts-at.ensures;
       added = after-add-reloc-at-offset.add-reloc-at-offset.ensures;

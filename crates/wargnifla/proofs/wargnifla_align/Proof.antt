@@ -1,5 +1,5 @@
 -- `wargnifla_align` meets its contract.
-use Rattle.wargnifla.proofs.Crossing.{align-short, align-crosses}
+use Rattle.wargnifla.proofs.Crossing.{align_short, align_crosses}
 use borrow.Author.Rules.{rules}
 use Rattle.wargnifla.proofs.wargnifla_align.Statement.{statement}
 use Rattle.wargnifla.proofs.wargnifla_align.Tie as tie
@@ -8,7 +8,7 @@ returns : tie.Need-returns
 returns c =
     let start : tie.Start = search in
     let a = start.args in
-    align-short a.counts.now a.counts.now a.code.now a.code.now a.events.now a.events.now a.multiple a.most c.if1.true
+    align_short a.counts.now a.counts.now a.code.now a.code.now a.events.now a.events.now a.multiple a.most c.if1.true
 
 returns-2 : tie.Need-returns-2
 returns-2 c =
@@ -18,7 +18,7 @@ returns-2 c =
     let else1 : tie.Else1 = search in
     let start : tie.Start = search in
     let a = start.args in
-    align-crosses a.counts.now _ a.code.now _ a.events.now _ a.multiple a.most _ _ else1.if1.left after-counts-at.counts-at.ensures padded.try-align-to-within.ensures after-put-counts.put-counts.ensures
+    align_crosses a.counts.now _ a.code.now _ a.events.now _ a.multiple a.most _ _ else1.if1.left after-counts-at.counts-at.ensures padded.try-align-to-within.ensures after-put-counts.put-counts.ensures
 
 pub wargnifla-align-spec : {M : Type 1} → statement M
 wargnifla-align-spec =

@@ -1,5 +1,5 @@
 -- `wargnifla_put_bytes` meets its contract.
-use Rattle.wargnifla.proofs.Crossing.{bytes-short, bytes-cross}
+use Rattle.wargnifla.proofs.Crossing.{bytes_short, bytes_cross}
 use borrow.Author.Rules.{rules}
 use Rattle.wargnifla.proofs.wargnifla_put_bytes.Statement.{statement}
 use Rattle.wargnifla.proofs.wargnifla_put_bytes.Tie as tie
@@ -8,7 +8,7 @@ returns : tie.Need-returns
 returns c =
     let start : tie.Start = search in
     let a = start.args in
-    bytes-short a.counts.now a.counts.now a.code.now a.code.now a.bytes.now c.if1.true
+    bytes_short a.counts.now a.counts.now a.code.now a.code.now a.bytes.now c.if1.true
 
 returns-2 : tie.Need-returns-2
 returns-2 c =
@@ -18,7 +18,7 @@ returns-2 c =
     let else1 : tie.Else1 = search in
     let start : tie.Start = search in
     let a = start.args in
-    bytes-cross a.counts.now _ a.code.now _ a.bytes.now _ _ else1.if1.left after-counts-at.counts-at.ensures after-put-bytes.put-bytes.ensures after-put-counts.put-counts.ensures
+    bytes_cross a.counts.now _ a.code.now _ a.bytes.now _ _ else1.if1.left after-counts-at.counts-at.ensures after-put-bytes.put-bytes.ensures after-put-counts.put-counts.ensures
 
 pub wargnifla-put-bytes-spec : {M : Type 1} → statement M
 wargnifla-put-bytes-spec =

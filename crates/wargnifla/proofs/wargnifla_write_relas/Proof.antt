@@ -1,5 +1,5 @@
 -- `wargnifla_write_relas` meets its contract.
-use Rattle.wargnifla.proofs.Crossing.{relas-short, relas-cross}
+use Rattle.wargnifla.proofs.Crossing.{relas_short, relas_cross}
 use borrow.Author.Rules.{rules}
 use Rattle.wargnifla.proofs.wargnifla_write_relas.Statement.{statement}
 use Rattle.wargnifla.proofs.wargnifla_write_relas.Tie as tie
@@ -8,7 +8,7 @@ returns : tie.Need-returns
 returns c =
     let start : tie.Start = search in
     let a = start.args in
-    relas-short a.finalized.now a.labels.now a.relocs.now a.section a.output.now c.if1.true
+    relas_short a.finalized.now a.labels.now a.relocs.now a.section a.output.now c.if1.true
 
 returns-2 : tie.Need-returns-2
 returns-2 c =
@@ -17,7 +17,7 @@ returns-2 c =
     let else1 : tie.Else1 = search in
     let start : tie.Start = search in
     let a = start.args in
-    relas-cross a.finalized.now a.labels.now a.relocs.now a.section a.output.now _ _ else1.if1.left
+    relas_cross a.finalized.now a.labels.now a.relocs.now a.section a.output.now _ _ else1.if1.left
     after-record-at.record-at.ensures
     after-write-relas.write-relas.ensures
 

@@ -1,8 +1,8 @@
 -- `put_word` meets its contract: four stores in a row are one overwrite.
 use native.Mathlib.Omega.{arith}
 use lib.ListN.{length-set}
-use Rattle.seqs.proofs.Overwrites.{set4-over}
-use Rattle.words.specs.Words.{setWord}
+use Rattle.seqs.proofs.Overwrites.{set4_over}
+use Rattle.words.specs.Words.{set_word}
 use borrow.Author.Rules.{rules}
 use Rattle.words.proofs.put_word.Statement.{statement}
 use Rattle.words.proofs.put_word.Tie as tie
@@ -17,8 +17,8 @@ slice-write-bytes-4 : tie.Need-slice-write-bytes-4
 slice-write-bytes-4 c = simp length-set (omega arith)
 
 returns : tie.Need-returns
-unfolding setWord
-returns c = search set4-over
+unfolding set_word
+returns c = search set4_over
 
 pub put-word-spec : {M : Type 1} → statement M
 put-word-spec =

@@ -1,7 +1,7 @@
 -- `add_constant` meets its contract: where it is not turned down, the table has room for the entry, and the entry for the bytes.
-use Rattle.buffer.specs.Calls.{addConstant}
-use Rattle.buffer.proofs.Accepted.{constant-accepted}
-use Rattle.seqs.proofs.Picking.{yes-eq, no_eq}
+use Rattle.buffer.specs.Calls.{add_constant}
+use Rattle.buffer.proofs.Accepted.{constant_accepted}
+use Rattle.seqs.proofs.Picking.{yes_eq, no_eq}
 use mathlib.Core.Path.{sym, ◌∙◌}
 use native.Mathlib.Omega.{arith}
 use borrow.Author.Rules.{rules}
@@ -9,7 +9,7 @@ use Rattle.buffer.proofs.CodeBuffer.add_constant.Statement.{statement}
 use Rattle.buffer.proofs.CodeBuffer.add_constant.Tie as tie
 
 returns : tie.Need-returns
-unfolding addConstant
+unfolding add_constant
 returns c =
     let then1 : tie.Then1 = search in
     let after-why-no-constant : tie.After-why-no-constant = search in
@@ -19,21 +19,21 @@ put-constant-requires : tie.Need-put-constant-requires
 put-constant-requires c κs =
     let else1 : tie.Else1 = search in
     let after-why-no-constant : tie.After-why-no-constant = search in
-    omega (arith, constant-accepted (sym after-why-no-constant.why-no-constant.ensures ∙ else1.if1.left))
+    omega (arith, constant_accepted (sym after-why-no-constant.why-no-constant.ensures ∙ else1.if1.left))
 
 add-self : tie.Need-overflow-add-self
 add-self c =
     let else1 : tie.Else1 = search in
     let after-why-no-constant : tie.After-why-no-constant = search in
-    omega (arith, constant-accepted (sym after-why-no-constant.why-no-constant.ensures ∙ else1.if1.left))
+    omega (arith, constant_accepted (sym after-why-no-constant.why-no-constant.ensures ∙ else1.if1.left))
 
 returns-2 : tie.Need-returns-2
-unfolding addConstant
+unfolding add_constant
 returns-2 c =
     let after-put-constant : tie.After-put-constant = search in
     let else1 : tie.Else1 = search in
     let after-why-no-constant : tie.After-why-no-constant = search in
-    rw after-put-constant.put-constant.ensures (sym (yes-eq _ 0 _ _ (sym after-why-no-constant.why-no-constant.ensures ∙ else1.if1.left)))
+    rw after-put-constant.put-constant.ensures (sym (yes_eq _ 0 _ _ (sym after-why-no-constant.why-no-constant.ensures ∙ else1.if1.left)))
 
 pub add-constant-spec : {M : Type 1} → statement M
 add-constant-spec =

@@ -1,6 +1,6 @@
 -- `ask_first` meets its contract: the constant stands in its table, and the tests leave room in the other two.
-use Rattle.buffer.specs.Calls.{askedFirst}
-use Rattle.buffer.proofs.Accepted.{constant-label-accepted}
+use Rattle.buffer.specs.Calls.{asked_first}
+use Rattle.buffer.proofs.Accepted.{constant_label_accepted}
 use Rattle.seqs.proofs.Picking.{pick_yes, pick_no}
 use borrow.Author.Tests.{le-leb, lt-leb}
 use mathlib.Core.Path.{sym}
@@ -10,13 +10,13 @@ use Rattle.buffer.proofs.CodeBuffer.ask_first.Statement.{statement}
 use Rattle.buffer.proofs.CodeBuffer.ask_first.Tie as tie
 
 returns : tie.Need-returns
-unfolding askedFirst
+unfolding asked_first
 returns c =
     let then1 : tie.Then1 = search in
     rw c.make-none.ensures (sym (pick_yes _ _ _ (rw (le-leb _ _ then1.if1.taken))))
 
 returns-2 : tie.Need-returns-2
-unfolding askedFirst
+unfolding asked_first
 returns-2 c =
     let then2 : tie.Then2 = search in
     let else1 : tie.Else1 = search in
@@ -25,20 +25,20 @@ returns-2 c =
 put-word-requires : tie.Need-put-word-requires
 put-word-requires c κs =
     let start : tie.Start = search in
-    omega (arith, constant-label-accepted start.pre)
+    omega (arith, constant_label_accepted start.pre)
 
 add-self : tie.Need-overflow-add-self
 add-self c =
     let start : tie.Start = search in
-    omega (arith, constant-label-accepted start.pre)
+    omega (arith, constant_label_accepted start.pre)
 
 add-self-2 : tie.Need-overflow-add-self-2
 add-self-2 c =
     let start : tie.Start = search in
-    omega (arith, constant-label-accepted start.pre)
+    omega (arith, constant_label_accepted start.pre)
 
 returns-3 : tie.Need-returns-3
-unfolding askedFirst
+unfolding asked_first
 returns-3 c =
     let after-put-word3 : tie.After-put-word3 = search in
     let after-put-word2 : tie.After-put-word2 = search in

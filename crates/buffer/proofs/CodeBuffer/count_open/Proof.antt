@@ -1,10 +1,10 @@
 -- `count_open` meets its contract: each table has at most 65,536 entries, so the sums do not wrap.
 use Prim.Native.Nat.{◌≤◌}
 use native.Mathlib.Omega.{arith}
-use Rattle.naming.proofs.AtMost.{open-entries-le, open-jumps-le}
-use Rattle.buffer.specs.State.{labelTarget}
-use Rattle.buffer.specs.Tables.{mostEntries, useWords, refWords, relocWords}
-use Rattle.buffer.specs.steps.Count.{openCount}
+use Rattle.naming.proofs.AtMost.{open_entries_le, open_jumps_le}
+use Rattle.buffer.specs.State.{label_target}
+use Rattle.buffer.specs.Tables.{most_entries, use_words, ref_words, reloc_words}
+use Rattle.buffer.specs.steps.Count.{open_count}
 use borrow.Author.Rules.{rules}
 use Rattle.buffer.proofs.CodeBuffer.count_open.Statement.{statement}
 use Rattle.buffer.proofs.CodeBuffer.count_open.Tie as tie
@@ -46,15 +46,15 @@ used c = first (referred c)
 
 -- what each scan found
 few : (c : tie.After-open-jumps)
-    → ((used c).open-entries.result ≤ mostEntries) × ((referred c).open-entries2.result ≤ mostEntries) × ((targeted c).open-entries3.result ≤ mostEntries) × (c.open-jumps.result ≤ mostEntries)
+    → ((used c).open-entries.result ≤ most_entries) × ((referred c).open-entries2.result ≤ most_entries) × ((targeted c).open-entries3.result ≤ most_entries) × (c.open-jumps.result ≤ most_entries)
 few c =
     let start = entered (used c) in
     let a = start.args in
     let fit = start.pre.0 in (
-      omega (arith, (used c).open-entries.ensures, open-entries-le a.uses.now a.self.uses useWords 1 0 a.labels.now a.self.labels, fit.uses-few),
-      omega (arith, (referred c).open-entries2.ensures, open-entries-le a.refs.now a.self.refs refWords 1 0 a.labels.now a.self.labels, fit.refs-few),
-      omega (arith, (targeted c).open-entries3.ensures, open-entries-le a.relocs.now a.self.relocs relocWords 2 labelTarget a.labels.now a.self.labels, fit.relocs-few),
-      omega (arith, c.open-jumps.ensures, open-jumps-le a.events.now a.self.events a.labels.now a.self.labels, fit.events-few),
+      omega (arith, (used c).open-entries.ensures, open_entries_le a.uses.now a.self.uses use_words 1 0 a.labels.now a.self.labels, fit.uses-few),
+      omega (arith, (referred c).open-entries2.ensures, open_entries_le a.refs.now a.self.refs ref_words 1 0 a.labels.now a.self.labels, fit.refs-few),
+      omega (arith, (targeted c).open-entries3.ensures, open_entries_le a.relocs.now a.self.relocs reloc_words 2 label_target a.labels.now a.self.labels, fit.relocs-few),
+      omega (arith, c.open-jumps.ensures, open_jumps_le a.events.now a.self.events a.labels.now a.self.labels, fit.events-few),
     )
 
 add-result : tie.Need-overflow-add-result
@@ -73,7 +73,7 @@ add-result-3 c =
     omega (arith, few jumped)
 
 returns : tie.Need-returns
-unfolding openCount
+unfolding open_count
 returns c =
     let jumped : tie.After-open-jumps = search in
     omega (arith, (used jumped).open-entries.ensures, (referred jumped).open-entries2.ensures, (targeted jumped).open-entries3.ensures, jumped.open-jumps.ensures)

@@ -1,6 +1,6 @@
-use Rattle.buffer.specs.Calls.{getLabel}
-use Rattle.buffer.proofs.Accepted.{label-accepted}
-use Rattle.seqs.proofs.Picking.{yes-eq, no_eq}
+use Rattle.buffer.specs.Calls.{get_label}
+use Rattle.buffer.proofs.Accepted.{label_accepted}
+use Rattle.seqs.proofs.Picking.{yes_eq, no_eq}
 use mathlib.Core.Path.{sym, ◌∙◌}
 use native.Mathlib.Omega.{arith}
 use borrow.Author.Rules.{rules}
@@ -8,7 +8,7 @@ use Rattle.buffer.proofs.CodeBuffer.get_label.Statement.{statement}
 use Rattle.buffer.proofs.CodeBuffer.get_label.Tie as tie
 
 returns : tie.Need-returns
-unfolding getLabel
+unfolding get_label
 returns c =
     let then1 : tie.Then1 = search in
     let after-why-no-label : tie.After-why-no-label = search in
@@ -18,21 +18,21 @@ put-word-requires : tie.Need-put-word-requires
 put-word-requires c κs =
     let else1 : tie.Else1 = search in
     let after-why-no-label : tie.After-why-no-label = search in
-    omega (arith, label-accepted (sym after-why-no-label.why-no-label.ensures ∙ else1.if1.left))
+    omega (arith, label_accepted (sym after-why-no-label.why-no-label.ensures ∙ else1.if1.left))
 
 add-self : tie.Need-overflow-add-self
 add-self c =
     let else1 : tie.Else1 = search in
     let after-why-no-label : tie.After-why-no-label = search in
-    omega (arith, label-accepted (sym after-why-no-label.why-no-label.ensures ∙ else1.if1.left))
+    omega (arith, label_accepted (sym after-why-no-label.why-no-label.ensures ∙ else1.if1.left))
 
 returns-2 : tie.Need-returns-2
-unfolding getLabel
+unfolding get_label
 returns-2 c =
     let after-put-word : tie.After-put-word = search in
     let else1 : tie.Else1 = search in
     let after-why-no-label : tie.After-why-no-label = search in
-    rw after-put-word.put_word.ensures (sym (yes-eq _ 0 _ _ (sym after-why-no-label.why-no-label.ensures ∙ else1.if1.left)))
+    rw after-put-word.put_word.ensures (sym (yes_eq _ 0 _ _ (sym after-why-no-label.why-no-label.ensures ∙ else1.if1.left)))
 
 pub get-label-spec : {M : Type 1} → statement M
 get-label-spec =

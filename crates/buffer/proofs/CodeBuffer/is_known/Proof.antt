@@ -1,18 +1,18 @@
 -- `is_known` meets its contract: the numbers below 2^31 are symbols.
-use Rattle.buffer.specs.Refusals.{targetKnown}
+use Rattle.buffer.specs.Refusals.{target_known}
 use Rattle.seqs.proofs.Picking.{yes_lt, no_lt}
 use mathlib.Core.Path.{sym}
 use Rattle.buffer.proofs.CodeBuffer.is_known.Statement.{statement}
 use Rattle.buffer.proofs.CodeBuffer.is_known.Tie as tie
 
 returns : tie.Need-returns
-unfolding targetKnown
+unfolding target_known
 returns c =
     let then1 : tie.Then1 = search in
     sym (yes_lt _ _ _ _ then1.if1.taken)
 
 returns-2 : tie.Need-returns-2
-unfolding targetKnown
+unfolding target_known
 returns-2 c =
     let else1 : tie.Else1 = search in
     sym (no_lt _ _ _ _ else1.if1.left)

@@ -1,23 +1,23 @@
--- `is_unfit` meets its contract: its tests are those of `jumpUnfit`, in order.
+-- `is_unfit` meets its contract: its tests are those of `jump_unfit`, in order.
 use borrow.Author.Rules.{rules}
 use borrow.Author.Tests.{lt-ltb}
 use mathlib.Core.Path.{◌≡◌, sym, ap, ◌∙◌}
 use native.Mathlib.Omega.{arith}
 use lib.Dec.{ltb}
-use Rattle.buffer.specs.Refusals.{labelInside, jumpUnfit}
-use Rattle.buffer.proofs.Scan.{unfit-by-label}
-use Rattle.buffer.proofs.Below.{inside-below}
+use Rattle.buffer.specs.Refusals.{label_inside, jump_unfit}
+use Rattle.buffer.proofs.Scan.{unfit_by_label}
+use Rattle.buffer.proofs.Below.{inside_below}
 use Rattle.buffer.proofs.CodeBuffer.is_unfit.Statement.{statement}
 use Rattle.buffer.proofs.CodeBuffer.is_unfit.Tie as tie
 
 returns : tie.Need-returns
-unfolding jumpUnfit
+unfolding jump_unfit
 returns c =
     let after-is-malformed : tie.After-is-malformed = search in
     rw (sym after-is-malformed.is-malformed.ensures ∙ c.if1.true)
 
 returns-2 : tie.Need-returns-2
-unfolding jumpUnfit
+unfolding jump_unfit
 returns-2 c =
     let last : tie.After-last-end = search in
     let one : tie.Else1 = search in
@@ -32,21 +32,21 @@ returns-2 c =
 -- only a label inside is left to be looked for
 only-labels : (c : tie.Else2) → let start' : tie.Start = search in
     let a = start'.args in
-    jumpUnfit a.self a.labels.now a.events.now a.start a.len a.cc ≡ labelInside a.labels.now a.self.labels a.start a.self.code
+    jump_unfit a.self a.labels.now a.events.now a.start a.len a.cc ≡ label_inside a.labels.now a.self.labels a.start a.self.code
 only-labels c =
     let last : tie.After-last-end = search in
     let one : tie.Else1 = search in
     let after-is-malformed : tie.After-is-malformed = search in
     let start' : tie.Start = search in
     let a = start'.args in
-    unfit-by-label a.self a.labels.now a.events.now a.start a.len a.cc (sym after-is-malformed.is-malformed.ensures ∙ one.if1.left) (omega (arith, last.last-end.ensures, c.if2.false))
+    unfit_by_label a.self a.labels.now a.events.now a.start a.len a.cc (sym after-is-malformed.is-malformed.ensures ∙ one.if1.left) (omega (arith, last.last-end.ensures, c.if2.false))
 
 returns-3 : tie.Need-returns-3
 returns-3 c =
     let else2 : tie.Else2 = search in
     let start' : tie.Start = search in
     let a = start'.args in
-    sym (only-labels else2 ∙ (inside-below a.labels.now a.self.labels a.start a.self.code ∙ ap (ltb a.start) (sym (start'.pre.2.right c.if3.true))))
+    sym (only-labels else2 ∙ (inside_below a.labels.now a.self.labels a.start a.self.code ∙ ap (ltb a.start) (sym (start'.pre.2.right c.if3.true))))
 
 returns-4 : tie.Need-returns-4
 returns-4 c =

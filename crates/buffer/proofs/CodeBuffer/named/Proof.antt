@@ -1,9 +1,9 @@
 -- `named` meets its contract: each table has at most 65,536 entries, so the sums do not wrap.
 use Prim.Native.Nat.{◌+◌, ◌≤◌}
 use native.Mathlib.Omega.{arith}
-use Rattle.naming.proofs.AtMost.{naming-le, jumps-naming-le}
-use Rattle.buffer.specs.State.{labelTarget}
-use Rattle.buffer.specs.Tables.{mostEntries, useWords, refWords, relocWords}
+use Rattle.naming.proofs.AtMost.{naming_le, jumps_naming_le}
+use Rattle.buffer.specs.State.{label_target}
+use Rattle.buffer.specs.Tables.{most_entries, use_words, ref_words, reloc_words}
 use Rattle.buffer.specs.Open.{named}
 use borrow.Author.Rules.{rules}
 use Rattle.buffer.proofs.CodeBuffer.named.Statement.{statement}
@@ -25,15 +25,15 @@ targeted c = search
 
 -- what each scan found
 few : (c : tie.After-jumps-naming)
-    → ((used c).naming.result ≤ mostEntries) × ((referred c).naming2.result ≤ mostEntries) × ((targeted c).naming3.result ≤ mostEntries) × (c.jumps-naming.result ≤ mostEntries)
+    → ((used c).naming.result ≤ most_entries) × ((referred c).naming2.result ≤ most_entries) × ((targeted c).naming3.result ≤ most_entries) × (c.jumps-naming.result ≤ most_entries)
 few c =
     let start : tie.Start = search in
     let a = start.args in
     let fit = start.pre.0 in (
-      omega (arith, (used c).naming.ensures, naming-le a.uses.now a.self.uses useWords 1 a.label, fit.uses-few),
-      omega (arith, (referred c).naming2.ensures, naming-le a.refs.now a.self.refs refWords 1 a.label, fit.refs-few),
-      omega (arith, (targeted c).naming3.ensures, naming-le a.relocs.now a.self.relocs relocWords 2 (labelTarget + a.label), fit.relocs-few),
-      omega (arith, c.jumps-naming.ensures, jumps-naming-le a.events.now a.self.events a.label, fit.events-few),
+      omega (arith, (used c).naming.ensures, naming_le a.uses.now a.self.uses use_words 1 a.label, fit.uses-few),
+      omega (arith, (referred c).naming2.ensures, naming_le a.refs.now a.self.refs ref_words 1 a.label, fit.refs-few),
+      omega (arith, (targeted c).naming3.ensures, naming_le a.relocs.now a.self.relocs reloc_words 2 (label_target + a.label), fit.relocs-few),
+      omega (arith, c.jumps-naming.ensures, jumps_naming_le a.events.now a.self.events a.label, fit.events-few),
     )
 
 add-result : tie.Need-overflow-add-result

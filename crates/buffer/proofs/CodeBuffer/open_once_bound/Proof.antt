@@ -1,7 +1,7 @@
 -- `open_once_bound` meets its contract: where none is open, and where the current offset is no label's, the tables do not matter.
 use Prim.Native.Nat.{ℕ}
 use native.Mathlib.Omega.{arith}
-use Rattle.seqs.proofs.Picking.{yes-eq, no_eq}
+use Rattle.seqs.proofs.Picking.{yes_eq, no_eq}
 use Rattle.buffer.specs.Open.{settled}
 use borrow.Author.Rules.{rules}
 use Rattle.buffer.proofs.CodeBuffer.open_once_bound.Statement.{statement}
@@ -12,7 +12,7 @@ returns c = omega arith
 
 returns-2 : tie.Need-returns-2
 unfolding settled
-returns-2 c = rw (yes-eq {A = ℕ} _ _ 0 _ c.if2.true) (omega arith)
+returns-2 c = rw (yes_eq {A = ℕ} _ _ 0 _ c.if2.true) (omega arith)
 
 returns-3 : tie.Need-returns-3
 unfolding settled

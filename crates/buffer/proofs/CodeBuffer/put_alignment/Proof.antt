@@ -4,12 +4,12 @@ use mathlib.Core.Path.{refl, sym, ◌∙◌}
 use native.Mathlib.Omega.{arith}
 use borrow.Author.Tests.{not-true, not-false}
 use Rattle.seqs.proofs.Picking.{pick_yes, pick_no}
-use Rattle.buffer.specs.Calls.{alignedEvents}
+use Rattle.buffer.specs.Calls.{aligned_events}
 use Rattle.buffer.proofs.CodeBuffer.put_alignment.Statement.{statement}
 use Rattle.buffer.proofs.CodeBuffer.put_alignment.Tie as tie
 
 returns : tie.Need-returns
-unfolding alignedEvents
+unfolding aligned_events
 returns c =
     let told : tie.After-keeps-events = search in
     rw (pick_no _ _ _ (sym told.keeps-events.ensures ∙ not-true _ c.if1.true)) refl
@@ -22,7 +22,7 @@ put-event-requires c κs =
     omega (arith, start.pre (sym told.keeps-events.ensures ∙ not-false _ one.if1.left))
 
 returns-2 : tie.Need-returns-2
-unfolding alignedEvents
+unfolding aligned_events
 returns-2 c =
     let written : tie.After-put-event = search in
     let measured : tie.After-padding-within = search in

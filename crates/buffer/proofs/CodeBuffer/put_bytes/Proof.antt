@@ -2,15 +2,15 @@
 use borrow.Author.Rules.{rules}
 use mathlib.Core.Path.{sym, ◌∙◌}
 use native.Mathlib.Omega.{arith}
-use Rattle.seqs.proofs.Picking.{yes-eq, no_eq}
-use Rattle.buffer.specs.Calls.{putBytes}
-use Rattle.buffer.proofs.Accepted.{bytes-accepted}
-use Rattle.buffer.proofs.Appends.{part-copied}
+use Rattle.seqs.proofs.Picking.{yes_eq, no_eq}
+use Rattle.buffer.specs.Calls.{put_bytes}
+use Rattle.buffer.proofs.Accepted.{bytes_accepted}
+use Rattle.buffer.proofs.Appends.{part_copied}
 use Rattle.buffer.proofs.CodeBuffer.put_bytes.Statement.{statement}
 use Rattle.buffer.proofs.CodeBuffer.put_bytes.Tie as tie
 
 returns : tie.Need-returns
-unfolding putBytes
+unfolding put_bytes
 returns c =
     let then1 : tie.Then1 = search in
     let after-why-no-bytes : tie.After-why-no-bytes = search in
@@ -21,16 +21,16 @@ part-copy-end : tie.Need-slice-bounds-copy-end
 part-copy-end c =
     let else1 : tie.Else1 = search in
     let after-why-no-bytes : tie.After-why-no-bytes = search in
-    omega (arith, bytes-accepted (sym after-why-no-bytes.why-no-bytes.ensures ∙ else1.if1.left))
+    omega (arith, bytes_accepted (sym after-why-no-bytes.why-no-bytes.ensures ∙ else1.if1.left))
 
 cast-self : tie.Need-overflow-cast-self
 cast-self c =
     let checked : tie.Else1 = search in
     let after-why-no-bytes : tie.After-why-no-bytes = search in
-    omega (arith, bytes-accepted (sym after-why-no-bytes.why-no-bytes.ensures ∙ checked.if1.left))
+    omega (arith, bytes_accepted (sym after-why-no-bytes.why-no-bytes.ensures ∙ checked.if1.left))
 
 returns-2 : tie.Need-returns-2
-unfolding putBytes
+unfolding put_bytes
 returns-2 c =
     let after-copy : tie.After-copy = search in
     let checked : tie.Else1 = search in
@@ -39,9 +39,9 @@ returns-2 c =
     let a = start.args in
     let at = a.self.code in
     let why = sym after-why-no-bytes.why-no-bytes.ensures ∙ checked.if1.left in
-    let fits = bytes-accepted why in
-    let copied = part-copied a.code.now a.bytes.now at (omega arith) in
-    rw (after-copy.copy.ensures, copied) (sym (yes-eq _ 0 _ _ why))
+    let fits = bytes_accepted why in
+    let copied = part_copied a.code.now a.bytes.now at (omega arith) in
+    rw (after-copy.copy.ensures, copied) (sym (yes_eq _ 0 _ _ why))
 
 pub put-bytes-spec : {M : Type 1} → statement M
 put-bytes-spec =

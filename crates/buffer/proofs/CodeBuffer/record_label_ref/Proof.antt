@@ -10,13 +10,13 @@ use borrow.Author.Tests.{eqb-true, eq-eqb}
 use lib.Dec.{eqb}
 use lib.ListN.{length}
 use Rattle.seqs.proofs.Booleans.{both_true}
-use Rattle.seqs.proofs.Numbers.{lt-or-ge, eq-or-ne}
-use Rattle.seqs.proofs.Picking.{pick_yes, pick_no, yes-eq, no_eq, yes_lt, no_lt}
+use Rattle.seqs.proofs.Numbers.{lt_or_ge, eq_or_ne}
+use Rattle.seqs.proofs.Picking.{pick_yes, pick_no, yes_eq, no_eq, yes_lt, no_lt}
 use Rattle.buffer.specs.declared.CodeBuffer.{CodeBuffer}
-use Rattle.buffer.specs.State.{refusing, keepsEvents}
-use Rattle.buffer.specs.Refusals.{whyRef}
-use Rattle.buffer.specs.Calls.{recordRef}
-use Rattle.buffer.proofs.Accepted.{RefAccepted, ref-accepted}
+use Rattle.buffer.specs.State.{refusing, keeps_events}
+use Rattle.buffer.specs.Refusals.{why_ref}
+use Rattle.buffer.specs.Calls.{record_ref}
+use Rattle.buffer.proofs.Accepted.{RefAccepted, ref_accepted}
 use borrow.Author.Rules.{rules}
 use Rattle.buffer.proofs.CodeBuffer.record_label_ref.Statement.{statement}
 use Rattle.buffer.proofs.CodeBuffer.record_label_ref.Tie as tie
@@ -24,17 +24,17 @@ use Rattle.buffer.proofs.CodeBuffer.record_label_ref.Tie as tie
 -- What the test says where it holds, and where it does not.
 record Kept (b : CodeBuffer) (known room label code why : ℕ) : Type 0 where
   none : why ≡ 0
-  keeps : keepsEvents b.arch ≡ true
+  keeps : keeps_events b.arch ≡ true
   fits : RefAccepted b known room label code
 
-kept : (b : CodeBuffer) (known room label code why : ℕ) {keeps t : Bool} → why ≡ whyRef b known room label code → keeps ≡ keepsEvents b.arch → t ≡ (eqb why 0 && keeps) → t ≡ true → Kept b known room label code why
+kept : (b : CodeBuffer) (known room label code why : ℕ) {keeps t : Bool} → why ≡ why_ref b known room label code → keeps ≡ keeps_events b.arch → t ≡ (eqb why 0 && keeps) → t ≡ true → Kept b known room label code why
 kept b known room label code why {keeps} e told test holds =
     let parts = both_true (eqb why 0) keeps (sym test ∙ holds) in
     let none : why ≡ 0 = eqb-true why 0 parts.0 in
-    let on : keepsEvents b.arch ≡ true = sym told ∙ parts.1 in
-    record { none = none; keeps = on; fits = ref-accepted (sym e ∙ none) on }
+    let on : keeps_events b.arch ≡ true = sym told ∙ parts.1 in
+    record { none = none; keeps = on; fits = ref_accepted (sym e ∙ none) on }
 
-not-kept : (why arch : ℕ) {keeps t : Bool} → keeps ≡ keepsEvents arch → t ≡ (eqb why 0 && keeps) → t ≡ false → why ≡ 0 → keepsEvents arch ≡ false
+not-kept : (why arch : ℕ) {keeps t : Bool} → keeps ≡ keeps_events arch → t ≡ (eqb why 0 && keeps) → t ≡ false → why ≡ 0 → keeps_events arch ≡ false
 not-kept why arch told test fails none = sym told ∙ sym (rw (eq-eqb why 0 none) at test) ∙ fails
 
 opened-requires : tie.Need-opened-requires
@@ -83,7 +83,7 @@ same_length c =
     c.before.before.before.if1.branch
 
 returns : tie.Need-returns
-unfolding recordRef refusing
+unfolding record_ref refusing
 returns c =
     let tested : tie.After-both = search in
     let told : tie.After-keeps-events = search in
@@ -95,16 +95,16 @@ returns c =
     ⊎_elim
     (λ w.
     let k = kept _ _ _ _ _ _ why told.keeps-events.ensures tested.both.ensures w.0.taken in
-    rw (w.9, w.8, w.7, w.4.ensures, w.1.ensures.0, refused.0 (omega (arith, k.none)), k.none) (sym (yes-eq _ 0 _ _ (sym why ∙ k.none) ∙ pick_yes _ _ _ k.keeps)))
+    rw (w.9, w.8, w.7, w.4.ensures, w.1.ensures.0, refused.0 (omega (arith, k.none)), k.none) (sym (yes_eq _ 0 _ _ (sym why ∙ k.none) ∙ pick_yes _ _ _ k.keeps)))
     (λ w.
     rw (w.1, w.2, w.3, add-zero, add-zero)
     (⊎_elim
-    (λ (none : asked.why-no-ref.result ≡ 0). rw (refused.0 (omega (arith, none)), none) (sym (yes-eq _ 0 _ _ (sym why ∙ none) ∙ pick_no _ _ _ (not-kept asked.why-no-ref.result b.arch told.keeps-events.ensures tested.both.ensures w.0.left none))))
+    (λ (none : asked.why-no-ref.result ≡ 0). rw (refused.0 (omega (arith, none)), none) (sym (yes_eq _ 0 _ _ (sym why ∙ none) ∙ pick_no _ _ _ (not-kept asked.why-no-ref.result b.arch told.keeps-events.ensures tested.both.ensures w.0.left none))))
     (λ (some : asked.why-no-ref.result ≢ 0). rw why (⊎_elim
     (λ lt. rw (refused.0 lt) (sym (no_eq _ 0 _ _ (λ e. some (why ∙ e)) ∙ rw (yes_lt _ 6 _ _ (rw why at lt)))))
     (λ ge. rw (refused.1 ge, why) (sym (no_eq _ 0 _ _ (λ e. some (why ∙ e)) ∙ rw (no_lt _ 6 _ _ (rw why at ge)))))
-    (lt-or-ge asked.why-no-ref.result 6)))
-    (eq-or-ne asked.why-no-ref.result 0)))
+    (lt_or_ge asked.why-no-ref.result 6)))
+    (eq_or_ne asked.why-no-ref.result 0)))
     c.before.before.before.if1.branch
 
 pub record-label-ref-spec : {M : Type 1} → statement M

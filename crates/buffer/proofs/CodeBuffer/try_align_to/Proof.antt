@@ -1,7 +1,7 @@
 -- `try_align_to` meets its contract: the tables, then the counts.
 use borrow.Author.Rules.{rules}
-use Rattle.buffer.specs.Tables.{defaultMost}
-use Rattle.buffer.proofs.Aligning.{align-answered, aligned-fits}
+use Rattle.buffer.specs.Tables.{default_most}
+use Rattle.buffer.proofs.Aligning.{align_answered, aligned_fits}
 use Rattle.buffer.proofs.CodeBuffer.try_align_to.Statement.{statement}
 use Rattle.buffer.proofs.CodeBuffer.try_align_to.Tie as tie
 
@@ -10,7 +10,7 @@ aligned-requires c κs =
     let done : tie.After-align-tables = search in
     let start : tie.Start = search in
     let a = start.args in
-    aligned-fits a.self a.code.now a.events.now a.multiple defaultMost _ _ done.align-tables.ensures
+    aligned_fits a.self a.code.now a.events.now a.multiple default_most _ _ done.align-tables.ensures
 
 returns : tie.Need-returns
 returns c =
@@ -18,7 +18,7 @@ returns c =
     let done : tie.After-align-tables = search in
     let start : tie.Start = search in
     let a = start.args in
-    align-answered a.self a.code.now a.events.now a.multiple defaultMost _ _ done.align-tables.ensures counted.aligned.ensures
+    align_answered a.self a.code.now a.events.now a.multiple default_most _ _ done.align-tables.ensures counted.aligned.ensures
 
 pub try-align-to-spec : {M : Type 1} → statement M
 try-align-to-spec = tie.close (tie.spec (λ c κs. search rules) aligned-requires (λ c. search rules) (λ c. search rules) returns)

@@ -4,9 +4,9 @@ use mathlib.Core.Bool.{true, false, ◌&&◌}
 use borrow.Author.Tests.{not-true, not-false}
 use lib.Dec.{leb}
 use Rattle.seqs.proofs.Picking.{picks}
-use Rattle.fields.specs.Kinds.{lastCode}
-use Rattle.buffer.specs.Refusals.{standing, whyRef}
-use Rattle.buffer.specs.Tables.{mostEntries}
+use Rattle.fields.specs.Kinds.{last_code}
+use Rattle.buffer.specs.Refusals.{standing, why_ref}
+use Rattle.buffer.specs.Tables.{most_entries}
 use borrow.Author.Rules.{rules}
 use Rattle.buffer.proofs.CodeBuffer.why_no_ref.Statement.{statement}
 use Rattle.buffer.proofs.CodeBuffer.why_no_ref.Tie as tie
@@ -17,7 +17,7 @@ entered c = search
 -- what was asked first
 stood : (c : tie.After-standing)
     → let a = (entered c).args in
-    c.standing.result ≡ standing a.self (leb a.self.labels a.known && (leb a.self.refs a.room && leb a.code lastCode)) (leb a.known mostEntries && leb a.room mostEntries)
+    c.standing.result ≡ standing a.self (leb a.self.labels a.known && (leb a.self.refs a.room && leb a.code last_code)) (leb a.known most_entries && leb a.room most_entries)
 stood c =
     let within : tie.After-both3 = search in
     let fit : tie.After-both2 = search in
@@ -25,13 +25,13 @@ stood c =
     rw (← formed.both.ensures, ← fit.both2.ensures, ← within.both3.ensures) c.standing.ensures
 
 returns : tie.Need-returns
-unfolding whyRef
+unfolding why_ref
 returns c =
     let asked : tie.After-standing = search in
     search (picks, ← stood asked)
 
 returns-2 : tie.Need-returns-2
-unfolding whyRef
+unfolding why_ref
 returns-2 c =
     let asked : tie.After-standing = search in
     let kept : tie.After-keeps-events = search in
@@ -39,7 +39,7 @@ returns-2 c =
     search (picks, ← stood asked, ← kept.keeps-events.ensures)
 
 returns-3 : tie.Need-returns-3
-unfolding whyRef
+unfolding why_ref
 returns-3 c =
     let kept : tie.After-keeps-events = search in
     let else2 : tie.Else2 = search in
@@ -49,7 +49,7 @@ returns-3 c =
     search (picks, ← stood asked, ← told.is-foreign.ensures, ← kept.keeps-events.ensures)
 
 returns-4 : tie.Need-returns-4
-unfolding whyRef
+unfolding why_ref
 returns-4 c =
     let kept : tie.After-keeps-events = search in
     let else2 : tie.Else2 = search in
@@ -59,7 +59,7 @@ returns-4 c =
     search (picks, ← stood asked, ← told.is-foreign.ensures, ← kept.keeps-events.ensures)
 
 returns-5 : tie.Need-returns-5
-unfolding whyRef
+unfolding why_ref
 returns-5 c =
     let kept : tie.After-keeps-events = search in
     let else2 : tie.Else2 = search in
@@ -69,7 +69,7 @@ returns-5 c =
     search (picks, ← stood asked, ← told.is-foreign.ensures, ← kept.keeps-events.ensures)
 
 returns-6 : tie.Need-returns-6
-unfolding whyRef
+unfolding why_ref
 returns-6 c =
     let kept : tie.After-keeps-events = search in
     let else2 : tie.Else2 = search in

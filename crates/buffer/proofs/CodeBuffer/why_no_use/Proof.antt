@@ -3,9 +3,9 @@ use mathlib.Core.Path.{◌≡◌}
 use mathlib.Core.Bool.{◌&&◌}
 use lib.Dec.{leb}
 use Rattle.seqs.proofs.Picking.{picks}
-use Rattle.fields.specs.Kinds.{lastCode}
-use Rattle.buffer.specs.Refusals.{standing, whyUse}
-use Rattle.buffer.specs.Tables.{mostEntries}
+use Rattle.fields.specs.Kinds.{last_code}
+use Rattle.buffer.specs.Refusals.{standing, why_use}
+use Rattle.buffer.specs.Tables.{most_entries}
 use borrow.Author.Rules.{rules}
 use Rattle.buffer.proofs.CodeBuffer.why_no_use.Statement.{statement}
 use Rattle.buffer.proofs.CodeBuffer.why_no_use.Tie as tie
@@ -16,7 +16,7 @@ entered c = search
 -- what was asked first
 stood : (c : tie.After-standing)
     → let a = (entered c).args in
-    c.standing.result ≡ standing a.self (leb a.self.labels a.known && (leb a.self.uses a.room && leb a.code lastCode)) (leb a.known mostEntries && leb a.room mostEntries)
+    c.standing.result ≡ standing a.self (leb a.self.labels a.known && (leb a.self.uses a.room && leb a.code last_code)) (leb a.known most_entries && leb a.room most_entries)
 stood c =
     let within : tie.After-both3 = search in
     let fit : tie.After-both2 = search in
@@ -24,40 +24,40 @@ stood c =
     rw (← formed.both.ensures, ← fit.both2.ensures, ← within.both3.ensures) c.standing.ensures
 
 returns : tie.Need-returns
-unfolding whyUse
+unfolding why_use
 returns c =
     let asked : tie.After-standing = search in
     search (picks, ← stood asked)
 
 returns-2 : tie.Need-returns-2
-unfolding whyUse
+unfolding why_use
 returns-2 c =
     let asked : tie.After-standing = search in
     search (picks, ← stood asked)
 
 returns-3 : tie.Need-returns-3
-unfolding whyUse
+unfolding why_use
 returns-3 c =
     let told : tie.After-is-foreign = search in
     let asked : tie.After-standing = search in
     search (picks, ← stood asked, ← told.is-foreign.ensures)
 
 returns-4 : tie.Need-returns-4
-unfolding whyUse
+unfolding why_use
 returns-4 c =
     let told : tie.After-is-foreign = search in
     let asked : tie.After-standing = search in
     search (picks, ← stood asked, ← told.is-foreign.ensures)
 
 returns-5 : tie.Need-returns-5
-unfolding whyUse
+unfolding why_use
 returns-5 c =
     let told : tie.After-is-foreign = search in
     let asked : tie.After-standing = search in
     search (picks, ← stood asked, ← told.is-foreign.ensures)
 
 returns-6 : tie.Need-returns-6
-unfolding whyUse
+unfolding why_use
 returns-6 c =
     let told : tie.After-is-foreign = search in
     let asked : tie.After-standing = search in

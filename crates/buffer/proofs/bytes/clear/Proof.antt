@@ -5,7 +5,7 @@ use Prim.Native.Nat.{◌≤◌, ◌-◌}
 use native.Mathlib.Omega.{arith}
 use lib.ListN.{length, replicate, length-set, length-replicate}
 use Rattle.seqs.specs.Over.{over}
-use Rattle.seqs.proofs.Overwrites.{over-nil, over-all}
+use Rattle.seqs.proofs.Overwrites.{over_nil, over_all}
 use Rattle.buffer.proofs.Appends.{over_zeros}
 use Rattle.buffer.proofs.bytes.clear.Statement.{statement}
 use Rattle.buffer.proofs.bytes.clear.Tie as tie
@@ -17,7 +17,7 @@ abbrev decreases-loop : tie.decreases-loop
 decreases-loop part₀ i₀ part i = length part₀ - i
 
 loop-holds : tie.Need-loop-init invariant-loop decreases-loop
-loop-holds c = (omega arith, sym (over-nil _ 0), refl)
+loop-holds c = (omega arith, sym (over_nil _ 0), refl)
 
 loop-again : tie.Need-loop-preserved invariant-loop decreases-loop
 loop-again c =
@@ -31,7 +31,7 @@ returns c =
     let start : tie.Start invariant-loop decreases-loop = search in
     let part = start.args.part.now in
     let all : at-loop'.loop.i ≡ length part = omega arith in
-    rw (at-loop'.loop.inv.1, all) (over-all part _ (length-replicate (length part) 0))
+    rw (at-loop'.loop.inv.1, all) (over_all part _ (length-replicate (length part) 0))
 
 pub clear_spec : {M : Type 1} → statement M
 clear_spec =

@@ -3,20 +3,20 @@ use borrow.Author.Rules.{rules}
 use mathlib.Core.Path.{◌≡◌, refl, ◌∙◌}
 use Prim.Native.Nat.{◌-◌, ◌≤◌}
 use native.Mathlib.Omega.{arith}
-use Rattle.buffer.specs.Refusals.{labelInside}
+use Rattle.buffer.specs.Refusals.{label_inside}
 use Rattle.buffer.proofs.Scan.{scan_step}
 use Rattle.buffer.proofs.jumps.label_inside.Statement.{statement}
 use Rattle.buffer.proofs.jumps.label_inside.Tie as tie
 
 abbrev invariant-loop : tie.invariant-loop
-invariant-loop labels n start end found₀ i₀ found i = (i ≤ n) × (found ≡ labelInside labels i start end)
+invariant-loop labels n start end found₀ i₀ found i = (i ≤ n) × (found ≡ label_inside labels i start end)
 
 abbrev decreases-loop : tie.decreases-loop
 decreases-loop labels n start end found₀ i₀ found i = n - i
 
 -- src/jumps.rt:30:5
 loop-holds : tie.Need-loop-init invariant-loop decreases-loop
-unfolding labelInside
+unfolding label_inside
 loop-holds c = (omega arith, refl)
 
 -- src/jumps.rt:31:13

@@ -1,6 +1,6 @@
 -- `last_end` meets its contract: the event is the one before the count.
 use Rattle.buffer.specs.Refusals.{last_end}
-use Rattle.seqs.proofs.Picking.{yes-eq, no_eq}
+use Rattle.seqs.proofs.Picking.{yes_eq, no_eq}
 use mathlib.Core.Path.{sym}
 use borrow.Author.Rules.{rules}
 use Rattle.buffer.proofs.jumps.last_end.Statement.{statement}
@@ -8,7 +8,7 @@ use Rattle.buffer.proofs.jumps.last_end.Tie as tie
 
 returns : tie.Need-returns
 unfolding last_end
-returns c = sym (yes-eq _ 0 _ _ c.if1.true)
+returns c = sym (yes_eq _ 0 _ _ c.if1.true)
 
 returns-2 : tie.Need-returns-2
 unfolding last_end

@@ -3,8 +3,8 @@ use Prim.Native.Nat.{ℕ, ◌<◌}
 use borrow.Fn.Kinds.{In}
 use borrow.Fn.PlainCycle.{Measures, is, falls, and}
 use borrow.Author.Rules.{rules}
-use Rattle.buffer.specs.Tables.{mostEntries}
-use Rattle.checks.proofs.Marking.{marking-blank}
+use Rattle.buffer.specs.Tables.{most_entries}
+use Rattle.checks.proofs.Marking.{marking_blank}
 use Rattle.checks.proofs.entries.large_order_fits.Reads as reads
 use Rattle.checks.proofs.entries.large_order_fits.Kinds as kinds
 use Rattle.checks.proofs.entries.+large_order_fits.Lts-large_order_fits as lts
@@ -40,5 +40,5 @@ pub +large-order-fits-spec : {M : Type 1} → statement M
     (λ c. absurd (c.before.before.if1.true c.before.before.before.before.before.requires.1.0))
     (λ c. search rules)
     (λ c. search rules)
-    (λ c κs. let s = c.before.before.before.before.before in (s.requires.1.1.0.0, marking-blank _ mostEntries s.requires.1.1.0.1 s.requires.1.1.1))
+    (λ c κs. let s = c.before.before.before.before.before in (s.requires.1.1.0.0, marking_blank _ most_entries s.requires.1.1.0.1 s.requires.1.1.1))
     (λ c. search rules)

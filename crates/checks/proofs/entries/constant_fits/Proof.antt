@@ -1,11 +1,11 @@
--- `constant_fits` meets its contract: its tests are those of `constantFits`.
-use Rattle.checks.specs.Entries.{constantFits}
+-- `constant_fits` meets its contract: its tests are those of `constant_fits`.
+use Rattle.checks.specs.Entries.{constant_fits}
 use borrow.Author.Rules.{rules}
 use Rattle.checks.proofs.entries.constant_fits.Statement.{statement}
 use Rattle.checks.proofs.entries.constant_fits.Tie as tie
 
 returns : tie.Need-returns
-unfolding constantFits
+unfolding constant_fits
 returns c =
     let after-either : tie.After-either = search in
     let after-word-at2 : tie.After-word-at2 = search in

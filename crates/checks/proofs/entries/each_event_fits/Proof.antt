@@ -1,13 +1,13 @@
 -- `each_event_fits` meets its contract: all the events passed fit.
 use Prim.Native.Nat.{◌-◌}
-use Rattle.checks.specs.Entries.{eventFits}
+use Rattle.checks.specs.Entries.{event_fits}
 use Rattle.seqs.proofs.Scans.{AllPassed, scans}
 use borrow.Author.Rules.{rules}
 use Rattle.checks.proofs.entries.each_event_fits.Statement.{statement}
 use Rattle.checks.proofs.entries.each_event_fits.Tie as tie
 
 abbrev invariant-loop : tie.invariant-loop
-invariant-loop events n labels code i₀ i = AllPassed (eventFits events labels code) n i
+invariant-loop events n labels code i₀ i = AllPassed (event_fits events labels code) n i
 
 abbrev decreases-loop : tie.decreases-loop
 decreases-loop events n labels code i₀ i = n - i

@@ -1,11 +1,11 @@
--- `event_fits` meets its contract: its tests are those of `eventFits`.
-use Rattle.checks.specs.Entries.{eventFits}
+-- `event_fits` meets its contract: its tests are those of `event_fits`.
+use Rattle.checks.specs.Entries.{event_fits}
 use borrow.Author.Rules.{rules}
 use Rattle.checks.proofs.entries.event_fits.Statement.{statement}
 use Rattle.checks.proofs.entries.event_fits.Tie as tie
 
 returns : tie.Need-returns
-unfolding eventFits
+unfolding event_fits
 returns c =
     let after_both : tie.After-both = search in
     let after-last-end : tie.After-last-end = search in

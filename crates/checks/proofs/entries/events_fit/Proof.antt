@@ -1,11 +1,11 @@
 -- `events_fit` meets its contract.
-use Rattle.checks.specs.Entries.{eventsFit}
+use Rattle.checks.specs.Entries.{events_fit}
 use borrow.Author.Rules.{rules}
 use Rattle.checks.proofs.entries.events_fit.Statement.{statement}
 use Rattle.checks.proofs.entries.events_fit.Tie as tie
 
 returns : tie.Need-returns
-unfolding eventsFit
+unfolding events_fit
 returns c =
     let after-each-event-fits : tie.After-each-event-fits = search in
     let after-is-kept : tie.After-is-kept = search in

@@ -1,11 +1,11 @@
 -- `is_kept` meets its contract.
-use Rattle.checks.specs.Entries.{keptOnly}
+use Rattle.checks.specs.Entries.{kept_only}
 use borrow.Author.Rules.{rules}
 use Rattle.checks.proofs.entries.is_kept.Statement.{statement}
 use Rattle.checks.proofs.entries.is_kept.Tie as tie
 
 returns : tie.Need-returns
-unfolding keptOnly
+unfolding kept_only
 returns c =
     let told : tie.After-keeps-events = search in
     rw (← told.keeps-events.ensures) c.either.ensures

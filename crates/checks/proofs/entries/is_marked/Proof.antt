@@ -1,4 +1,4 @@
--- `is_marked` meets its contract: its tests are those of `unlabelledOr`.
+-- `is_marked` meets its contract: its tests are those of `unlabelled_or`.
 use borrow.Author.Rules.{rules}
 use Rattle.checks.proofs.entries.is_marked.Statement.{statement}
 use Rattle.checks.proofs.entries.is_marked.Tie as tie

@@ -1,7 +1,7 @@
 -- `is_new` meets its contract: what is not marked is new.
 use native.Mathlib.Omega.{arith}
 use mathlib.Core.Path.{sym, ◌∙◌}
-use Rattle.checks.proofs.Marking.{new-unknown, new-unlabelled, new-marked}
+use Rattle.checks.proofs.Marking.{new_unknown, new_unlabelled, new_marked}
 use borrow.Author.Rules.{rules}
 use Rattle.checks.proofs.entries.is_new.Statement.{statement}
 use Rattle.checks.proofs.entries.is_new.Tie as tie
@@ -9,13 +9,13 @@ use Rattle.checks.proofs.entries.is_new.Tie as tie
 returns : tie.Need-returns
 returns c =
     let after-word-at : tie.After-word-at = search in
-    new-unknown _ _ _ _ (rw after-word-at.word-at.ensures at c.if1.true)
+    new_unknown _ _ _ _ (rw after-word-at.word-at.ensures at c.if1.true)
 
 returns-2 : tie.Need-returns-2
 returns-2 c =
     let after-word-at2 : tie.After-word-at2 = search in
     let after-word-at : tie.After-word-at = search in
-    new-unlabelled _ _ _ _ (sym (rw after-word-at.word-at.ensures at after-word-at2.word-at2.ensures) ∙ c.if2.true)
+    new_unlabelled _ _ _ _ (sym (rw after-word-at.word-at.ensures at after-word-at2.word-at2.ensures) ∙ c.if2.true)
 
 shared-slice-read-shared : tie.Need-shared-slice-read-shared
 shared-slice-read-shared c =
@@ -39,7 +39,7 @@ returns-3 c =
     let p = start.pre in
     let constant = after-word-at.word-at.ensures in
     let label = rw constant at after-word-at2.word-at2.ensures in
-    rw (c.both.ensures, label, constant) (new-marked start.args.asked.now p.1 (rw constant at else1.if1.left) (λ e. else2.if2.left (label ∙ e)))
+    rw (c.both.ensures, label, constant) (new_marked start.args.asked.now p.1 (rw constant at else1.if1.left) (λ e. else2.if2.left (label ∙ e)))
 
 pub is-new-spec : {M : Type 1} → statement M
 is-new-spec =

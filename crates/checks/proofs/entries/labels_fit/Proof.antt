@@ -1,7 +1,7 @@
 -- `labels_fit` meets its contract, with an index of the events and without one.
 use borrow.Author.Tests.{not-false}
 use native.Mathlib.Omega.{arith}
-use Rattle.lookup.proofs.Index.{indexed-none}
+use Rattle.lookup.proofs.Index.{indexed_none}
 use borrow.Author.Rules.{rules}
 use Rattle.checks.proofs.entries.labels_fit.Statement.{statement}
 use Rattle.checks.proofs.entries.labels_fit.Tie as tie
@@ -9,7 +9,7 @@ use Rattle.checks.proofs.entries.labels_fit.Tie as tie
 each-label-fits-requires : tie.Need-each-label-fits-requires
 each-label-fits-requires c κs =
     let start : tie.Start = search in
-    (start.pre.0, (start.pre.1.0, (start.pre.1.1, indexed-none _ _ _ _ (omega arith) (omega arith))))
+    (start.pre.0, (start.pre.1.0, (start.pre.1.1, indexed_none _ _ _ _ (omega arith) (omega arith))))
 
 many-labels-fit-requires : tie.Need-many-labels-fit-requires
 many-labels-fit-requires c κs =

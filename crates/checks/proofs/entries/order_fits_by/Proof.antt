@@ -1,7 +1,7 @@
 -- `order_fits_by` meets its contract: what is marked is what is asked for.
 use mathlib.Core.Path.{sym, ◌∙◌}
 use borrow.Author.Tests.{not-true, not-false}
-use Rattle.checks.proofs.Marking.{order-fails, order-holds}
+use Rattle.checks.proofs.Marking.{order_fails, order_holds}
 use borrow.Author.Rules.{rules}
 use Rattle.checks.proofs.entries.order_fits_by.Statement.{statement}
 use Rattle.checks.proofs.entries.order_fits_by.Tie as tie
@@ -9,7 +9,7 @@ use Rattle.checks.proofs.entries.order_fits_by.Tie as tie
 returns : tie.Need-returns
 returns c =
     let after-mark-asked : tie.After-mark-asked = search in
-    order-fails _ _ _ _ (sym after-mark-asked.mark-asked.ensures.0 ∙ not-true _ c.if1.true)
+    order_fails _ _ _ _ (sym after-mark-asked.mark-asked.ensures.0 ∙ not-true _ c.if1.true)
 
 returns-2 : tie.Need-returns-2
 returns-2 c =
@@ -17,7 +17,7 @@ returns-2 c =
     let after-mark-asked : tie.After-mark-asked = search in
     let held = not-false _ else1.if1.left in
     let marked = after-mark-asked.mark-asked.ensures in
-    rw c.is-each-marked.ensures (order-holds _ _ _ _ (marked.1 held) (sym marked.0 ∙ held))
+    rw c.is-each-marked.ensures (order_holds _ _ _ _ (marked.1 held) (sym marked.0 ∙ held))
 
 pub order-fits-by-spec : {M : Type 1} → statement M
 order-fits-by-spec =

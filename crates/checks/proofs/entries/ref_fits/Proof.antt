@@ -1,11 +1,11 @@
--- `ref_fits` meets its contract: its tests are those of `refFits`.
-use Rattle.checks.specs.Entries.{refFits}
+-- `ref_fits` meets its contract: its tests are those of `ref_fits`.
+use Rattle.checks.specs.Entries.{ref_fits}
 use borrow.Author.Rules.{rules}
 use Rattle.checks.proofs.entries.ref_fits.Statement.{statement}
 use Rattle.checks.proofs.entries.ref_fits.Tie as tie
 
 returns : tie.Need-returns
-unfolding refFits
+unfolding ref_fits
 returns c =
     let after-is-foreign : tie.After-is-foreign = search in
     let after-word-at2 : tie.After-word-at2 = search in

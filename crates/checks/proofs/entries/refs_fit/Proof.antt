@@ -1,11 +1,11 @@
 -- `refs_fit` meets its contract.
-use Rattle.checks.specs.Entries.{refsFit}
+use Rattle.checks.specs.Entries.{refs_fit}
 use borrow.Author.Rules.{rules}
 use Rattle.checks.proofs.entries.refs_fit.Statement.{statement}
 use Rattle.checks.proofs.entries.refs_fit.Tie as tie
 
 returns : tie.Need-returns
-unfolding refsFit
+unfolding refs_fit
 returns c =
     let after-each-ref-fits : tie.After-each-ref-fits = search in
     let after-is-kept : tie.After-is-kept = search in

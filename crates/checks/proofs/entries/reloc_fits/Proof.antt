@@ -1,11 +1,11 @@
--- `reloc_fits` meets its contract: its tests are those of `relocFits`.
-use Rattle.checks.specs.Entries.{relocFits}
+-- `reloc_fits` meets its contract: its tests are those of `reloc_fits`.
+use Rattle.checks.specs.Entries.{reloc_fits}
 use borrow.Author.Rules.{rules}
 use Rattle.checks.proofs.entries.reloc_fits.Statement.{statement}
 use Rattle.checks.proofs.entries.reloc_fits.Tie as tie
 
 returns : tie.Need-returns
-unfolding relocFits
+unfolding reloc_fits
 returns c =
     let after-both2 : tie.After-both2 = search in
     let after_both : tie.After-both = search in

@@ -1,11 +1,11 @@
--- `use_fits` meets its contract: its tests are those of `useFits`.
-use Rattle.checks.specs.Entries.{useFits}
+-- `use_fits` meets its contract: its tests are those of `use_fits`.
+use Rattle.checks.specs.Entries.{use_fits}
 use borrow.Author.Rules.{rules}
 use Rattle.checks.proofs.entries.use_fits.Statement.{statement}
 use Rattle.checks.proofs.entries.use_fits.Tie as tie
 
 returns : tie.Need-returns
-unfolding useFits
+unfolding use_fits
 returns c =
     let after-both2 : tie.After-both2 = search in
     let after_both : tie.After-both = search in

@@ -4,15 +4,15 @@ use mathlib.Core.Bool.{false}
 use Prim.Native.Nat.{◌≤◌, ◌-◌}
 use native.Mathlib.Omega.{arith}
 use borrow.Author.Rules.{rules}
-use Rattle.relax.specs.Events.{eventAt}
+use Rattle.relax.specs.Events.{event_at}
 use Rattle.recording.specs.View.{entries}
-use Rattle.fresh.specs.Forms.{isMoving, moves}
-use Rattle.fresh.proofs.Moves.{still-more, still-all, moved_by}
+use Rattle.fresh.specs.Forms.{is_moving, moves}
+use Rattle.fresh.proofs.Moves.{still_more, still_all, moved_by}
 use Rattle.checks.proofs.fields_fit.moves.Statement.{statement}
 use Rattle.checks.proofs.fields_fit.moves.Tie as tie
 
 abbrev invariant-loop : tie.invariant-loop
-invariant-loop events n i₀ i = (i ≤ n) × (moves (entries (eventAt events) i) ≡ false)
+invariant-loop events n i₀ i = (i ≤ n) × (moves (entries (event_at events) i) ≡ false)
 
 abbrev decreases-loop : tie.decreases-loop
 decreases-loop events n i₀ i = n - i
@@ -20,7 +20,7 @@ decreases-loop events n i₀ i = n - i
 loop-holds : tie.Need-loop-init invariant-loop decreases-loop
 loop-holds c =
     let start : tie.Start invariant-loop decreases-loop = search in
-    (omega arith, still-all (eventAt start.args.events.now) 0 (λ i l. absurd (omega arith)))
+    (omega arith, still_all (event_at start.args.events.now) 0 (λ i l. absurd (omega arith)))
 
 returns : tie.Need-returns invariant-loop decreases-loop
 returns c =
@@ -28,7 +28,7 @@ returns c =
     let read : tie.After-event-at invariant-loop decreases-loop = search in
     let at-loop : tie.At-loop invariant-loop decreases-loop = search in
     let start : tie.Start invariant-loop decreases-loop = search in
-    sym (moved_by (eventAt start.args.events.now) start.args.n at-loop.loop.i (omega arith) (ap isMoving (sym read.event-at.ensures) ∙ (sym told.is-moving.ensures ∙ c.if1.true)))
+    sym (moved_by (event_at start.args.events.now) start.args.n at-loop.loop.i (omega arith) (ap is_moving (sym read.event-at.ensures) ∙ (sym told.is-moving.ensures ∙ c.if1.true)))
 
 loop-again : tie.Need-loop-preserved invariant-loop decreases-loop
 loop-again c =
@@ -36,7 +36,7 @@ loop-again c =
     let read : tie.After-event-at invariant-loop decreases-loop = search in
     let at-loop : tie.At-loop invariant-loop decreases-loop = search in
     let start : tie.Start invariant-loop decreases-loop = search in
-    (omega arith, still-more (eventAt start.args.events.now) at-loop.loop.i at-loop.loop.inv.1 (ap isMoving (sym read.event-at.ensures) ∙ (sym told.is-moving.ensures ∙ c.if1.false)))
+    (omega arith, still_more (event_at start.args.events.now) at-loop.loop.i at-loop.loop.inv.1 (ap is_moving (sym read.event-at.ensures) ∙ (sym told.is-moving.ensures ∙ c.if1.false)))
 
 returns-2 : tie.Need-returns-2 invariant-loop decreases-loop
 returns-2 c =

@@ -1,13 +1,13 @@
 -- `why_unreached` meets its contract: 19 comes before the reach.
 use mathlib.Core.Path.{sym}
-use Rattle.checks.specs.steps.Fields.{whyUnreached}
+use Rattle.checks.specs.steps.Fields.{why_unreached}
 use Rattle.seqs.proofs.Picking.{yes_lt, no_lt}
 use borrow.Author.Rules.{rules}
 use Rattle.checks.proofs.fields_fit.why_unreached.Statement.{statement}
 use Rattle.checks.proofs.fields_fit.why_unreached.Tie as tie
 
 returns : tie.Need-returns
-unfolding whyUnreached
+unfolding why_unreached
 returns c =
     let after-size-of : tie.After-size-of = search in
     let after-word-at3 : tie.After-word-at3 = search in
@@ -15,7 +15,7 @@ returns c =
     rw (← after-word-at.word-at.ensures, ← after-word-at3.word-at3.ensures, ← after-size-of.type_size.ensures.0) (sym (yes_lt _ _ _ _ c.if1.true))
 
 returns-2 : tie.Need-returns-2
-unfolding whyUnreached
+unfolding why_unreached
 returns-2 c =
     let else1 : tie.Else1 = search in
     let after-size-of : tie.After-size-of = search in

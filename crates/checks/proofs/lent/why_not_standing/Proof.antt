@@ -1,11 +1,11 @@
 -- `why_not_standing` meets its contract: counts and limits, then what every call looks at first.
 use borrow.Author.Rules.{rules}
-use Rattle.checks.specs.Lent.{countsFit, withinLimits}
+use Rattle.checks.specs.Lent.{counts_fit, within_limits}
 use Rattle.checks.proofs.lent.why_not_standing.Statement.{statement}
 use Rattle.checks.proofs.lent.why_not_standing.Tie as tie
 
 returns : tie.Need-returns
-unfolding countsFit withinLimits
+unfolding counts_fit within_limits
 returns c =
     let after-within-limits : tie.After-within-limits = search in
     let after-counts-fit : tie.After-counts-fit = search in

@@ -1,7 +1,7 @@
 -- `clear_of_pool` meets its contract: the last alignment that starts before the end decides.
 use native.Mathlib.Omega.{arith}
 use Prim.Native.Nat.{◌-◌}
-use Rattle.checks.proofs.Clear.{pool-clear-none, pool-clear-last}
+use Rattle.checks.proofs.Clear.{pool_clear_none, pool_clear_last}
 use borrow.Author.Rules.{rules}
 use Rattle.checks.proofs.search.clear_of_pool.Statement.{statement}
 use Rattle.checks.proofs.search.clear_of_pool.Tie as tie
@@ -9,7 +9,7 @@ use Rattle.checks.proofs.search.clear_of_pool.Tie as tie
 returns : tie.Need-returns
 returns c =
     let after-alignments-before : tie.After-alignments-before = search in
-    search (pool-clear-none, c.if1.true, after-alignments-before.alignments-before.ensures)
+    search (pool_clear_none, c.if1.true, after-alignments-before.alignments-before.ensures)
 
 offset-at-requires : tie.Need-offset-at-requires
 offset-at-requires c κs =
@@ -24,7 +24,7 @@ returns-2 : tie.Need-returns-2
 returns-2 c =
     let after-alignments-before : tie.After-alignments-before = search in
     let start : tie.Start = search in
-    rw c.offset_at.ensures (pool-clear-last start.args.from start.pre after-alignments-before.alignments-before.ensures (omega arith))
+    rw c.offset_at.ensures (pool_clear_last start.args.from start.pre after-alignments-before.alignments-before.ensures (omega arith))
 
 pub clear-of-pool-spec : {M : Type 1} → statement M
 clear-of-pool-spec =

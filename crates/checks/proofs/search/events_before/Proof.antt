@@ -3,7 +3,7 @@ use native.Mathlib.Omega.{arith}
 use Prim.Native.Nat.{◌+◌, ◌-◌, ◌/◌}
 use Rattle.recording.specs.Sound.{start_at}
 use Rattle.checks.specs.steps.Search.{Halved}
-use Rattle.checks.proofs.Clear.{halved-low, halved-high, halved-last}
+use Rattle.checks.proofs.Clear.{halved_low, halved_high, halved_last}
 use borrow.Author.Rules.{rules}
 use Rattle.checks.proofs.search.events_before.Statement.{statement}
 use Rattle.checks.proofs.search.events_before.Tie as tie
@@ -24,7 +24,7 @@ loop-again c =
     let start : tie.Start invariant-loop decreases-loop = search in
     let l = at-loop.loop in
     let mid = l.low + (l.high - l.low) / 2 in
-    halved-low _ _ _ _ l.low l.high mid start.pre.1.0 l.inv (omega arith) (rw after-start-at.start-at.ensures at c.if1.true) (omega arith)
+    halved_low _ _ _ _ l.low l.high mid start.pre.1.0 l.inv (omega arith) (rw after-start-at.start-at.ensures at c.if1.true) (omega arith)
 
 loop-again-2 : tie.Need-loop-preserved-2 invariant-loop decreases-loop
 loop-again-2 c =
@@ -33,12 +33,12 @@ loop-again-2 c =
     let start : tie.Start invariant-loop decreases-loop = search in
     let l = at-loop.loop in
     let mid = l.low + (l.high - l.low) / 2 in
-    halved-high _ _ _ _ l.low l.high mid start.pre.1.0 l.inv (omega arith) (rw after-start-at.start-at.ensures at c.if1.false) (omega arith)
+    halved_high _ _ _ _ l.low l.high mid start.pre.1.0 l.inv (omega arith) (rw after-start-at.start-at.ensures at c.if1.false) (omega arith)
 
 returns : tie.Need-returns invariant-loop decreases-loop
 returns c =
     let at-loop : tie.At-loop invariant-loop decreases-loop = search in
-    let l = at-loop.loop in halved-last l.inv (omega arith)
+    let l = at-loop.loop in halved_last l.inv (omega arith)
 
 pub events-before-spec : {M : Type 1} → statement M
 events-before-spec =

@@ -6,8 +6,8 @@ use lib.ListN.{length}
 use borrow.Author.Rules.{rules}
 use Rattle.recording.specs.Sound.{start_at}
 use Rattle.lookup.specs.steps.Index.{Filled}
-use Rattle.lookup.proofs.Index.{filled_none, filled-one, filled-all}
-use Rattle.checks.proofs.Clear.{starts-rises}
+use Rattle.lookup.proofs.Index.{filled_none, filled_one, filled_all}
+use Rattle.checks.proofs.Clear.{starts_rises}
 use Rattle.checks.proofs.search.index_events.Statement.{statement}
 use Rattle.checks.proofs.search.index_events.Tie as tie
 
@@ -32,7 +32,7 @@ loop-again c =
     let marked : tie.After-mark invariant-loop decreases-loop = search in
     let at-loop : tie.At-loop invariant-loop decreases-loop = search in
     let start : tie.Start invariant-loop decreases-loop = search in
-    (filled-one (starts-rises _ _ _ start.pre.1) at-loop.loop.inv.0 (omega arith) (rw read.word-at.ensures at marked.mark.ensures), omega arith, marked.mark.ensures.size ∙ at-loop.loop.inv.2)
+    (filled_one (starts_rises _ _ _ start.pre.1) at-loop.loop.inv.0 (omega arith) (rw read.word-at.ensures at marked.mark.ensures), omega arith, marked.mark.ensures.size ∙ at-loop.loop.inv.2)
 
 close-requires : tie.Need-close-requires invariant-loop decreases-loop
 close-requires c κs =
@@ -51,7 +51,7 @@ returns c =
     let at-loop : tie.At-loop invariant-loop decreases-loop = search in
     let start : tie.Start invariant-loop decreases-loop = search in
     let all : at-loop.loop.i ≡ start.args.n = omega arith in
-    filled-all (rw all at at-loop.loop.inv.0) closed.close.ensures
+    filled_all (rw all at at-loop.loop.inv.0) closed.close.ensures
 
 pub index-events-spec : {M : Type 1} → statement M
 index-events-spec =

@@ -1,7 +1,7 @@
 -- `is_readable` meets its contract.
 use Rattle.std.proofs.Common.{◌+◌, ◌*◌, sym, ◌∙◌, rules, eq-eqb, ne_eqb}
 use Rattle.words.specs.Words.{word_at}
-use Rattle.elf.specs.Elf.{relaWords, readable}
+use Rattle.elf.specs.Elf.{rela_words, readable}
 use Rattle.elf.proofs.read.is_readable.Statement.{statement}
 use Rattle.elf.proofs.read.is_readable.Tie as tie
 
@@ -10,7 +10,7 @@ unfolding readable
 returns c =
     let after-word-at : tie.After-word-at = search in
     let start : tie.Start = search in
-    rw (ne_eqb (word_at start.args.relas.now (start.args.i * relaWords + 1)) 0 (λ z. c.if1.true (after-word-at.word-at.ensures ∙ z)))
+    rw (ne_eqb (word_at start.args.relas.now (start.args.i * rela_words + 1)) 0 (λ z. c.if1.true (after-word-at.word-at.ensures ∙ z)))
 
 returns-2 : tie.Need-returns-2
 unfolding readable
@@ -20,7 +20,7 @@ returns-2 c =
     let else1 : tie.Else1 = search in
     let start : tie.Start = search in
     rw (
-      eq-eqb (word_at start.args.relas.now (start.args.i * relaWords + 1)) 0 (sym after-word-at.word-at.ensures ∙ else1.if1.left),
+      eq-eqb (word_at start.args.relas.now (start.args.i * rela_words + 1)) 0 (sym after-word-at.word-at.ensures ∙ else1.if1.left),
       ← after-word-at2.word-at2.ensures,
       ← c.is-listed.ensures,
     )

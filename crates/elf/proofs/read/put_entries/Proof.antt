@@ -1,27 +1,27 @@
 -- `put_entries` meets its contract: after i turns the first i entries stand in the table.
 use Rattle.std.proofs.Common.{◌≡◌, ℕ, ◌-◌, ◌≤◌, length, sym, refl, ap, ◌∙◌, arith, rules}
-use Rattle.seqs.proofs.Overwrites.{length_over, over-nil}
-use Rattle.words.specs.Words.{bytesOfAll, overWords}
-use Rattle.elf.specs.Elf.{relaAt, wordsOfEntry, wordsOfEntries}
-use Rattle.elf.proofs.Entries.{put_one, six-over}
+use Rattle.seqs.proofs.Overwrites.{length_over, over_nil}
+use Rattle.words.specs.Words.{bytes_of_all, over_words}
+use Rattle.elf.specs.Elf.{rela_at, words_of_entry, words_of_entries}
+use Rattle.elf.proofs.Entries.{put_one, six_over}
 use Rattle.elf.proofs.read.put_entries.Statement.{statement}
 use Rattle.elf.proofs.read.put_entries.Tie as tie
 
 abbrev invariant-loop : tie.invariant-loop
-invariant-loop table₀ relas n i₀ table i = (i ≤ n) × (table ≡ overWords table₀ (wordsOfEntries relas i))
+invariant-loop table₀ relas n i₀ table i = (i ≤ n) × (table ≡ over_words table₀ (words_of_entries relas i))
 
 abbrev decreases-loop : tie.decreases-loop
 decreases-loop table₀ relas n i₀ table i = n - i
 
 loop-holds : tie.Need-loop-init invariant-loop decreases-loop
-loop-holds c = (omega arith, sym (over-nil _ 0))
+loop-holds c = (omega arith, sym (over_nil _ 0))
 
 put-reloc-requires : tie.Need-put-reloc-requires invariant-loop decreases-loop
 put-reloc-requires c κs =
     let at-loop : tie.At-loop invariant-loop decreases-loop = search in
     let start : tie.Start invariant-loop decreases-loop = search in
     let a = start.args in
-    omega (arith, ap length at-loop.loop.inv.1 ∙ length_over a.table.now 0 (bytesOfAll (wordsOfEntries a.relas.now at-loop.loop.i)))
+    omega (arith, ap length at-loop.loop.inv.1 ∙ length_over a.table.now 0 (bytes_of_all (words_of_entries a.relas.now at-loop.loop.i)))
 
 loop-again : tie.Need-loop-preserved invariant-loop decreases-loop
 loop-again c =
@@ -31,15 +31,15 @@ loop-again c =
     let start : tie.Start invariant-loop decreases-loop = search in
     let a = start.args in
     let l = at-loop.loop in
-    let written = after-put-reloc.put-reloc.ensures ∙ six-over l.table l.i _ _ _ _ _ _ in
-    (omega arith, rw (written, l.inv.1, after-rela-at.rela-at.ensures) (put_one (λ (j : ℕ). wordsOfEntry (relaAt a.relas.now j)) (λ j. refl) a.table.now l.i))
+    let written = after-put-reloc.put-reloc.ensures ∙ six_over l.table l.i _ _ _ _ _ _ in
+    (omega arith, rw (written, l.inv.1, after-rela-at.rela-at.ensures) (put_one (λ (j : ℕ). words_of_entry (rela_at a.relas.now j)) (λ j. refl) a.table.now l.i))
 
 same_length : tie.Need-same-length invariant-loop decreases-loop
 same_length c =
     let at-loop : tie.At-loop invariant-loop decreases-loop = search in
     let start : tie.Start invariant-loop decreases-loop = search in
     let a = start.args in
-    ap length at-loop.loop.inv.1 ∙ length_over a.table.now 0 (bytesOfAll (wordsOfEntries a.relas.now at-loop.loop.i))
+    ap length at-loop.loop.inv.1 ∙ length_over a.table.now 0 (bytes_of_all (words_of_entries a.relas.now at-loop.loop.i))
 
 returns : tie.Need-returns invariant-loop decreases-loop
 returns c =

@@ -1,15 +1,15 @@
 -- `relas_fit` meets its contract.
 use Rattle.std.proofs.Common.{arith, eq-eqb, ne_eqb}
-use Rattle.elf.specs.Elf.{relasFit}
+use Rattle.elf.specs.Elf.{relas_fit}
 use Rattle.elf.proofs.read.relas_fit.Statement.{statement}
 use Rattle.elf.proofs.read.relas_fit.Tie as tie
 
 returns : tie.Need-returns
-unfolding relasFit
+unfolding relas_fit
 returns c = rw (ne_eqb _ 0 c.if1.true)
 
 returns-2 : tie.Need-returns-2
-unfolding relasFit
+unfolding relas_fit
 returns-2 c =
     let else1 : tie.Else1 = search in
     rw (eq-eqb _ 0 else1.if1.left, c.all-readable.ensures)

@@ -1,7 +1,7 @@
 -- `is_listed` meets its contract: the patterns are the types of the two tables.
 use Rattle.std.proofs.Common.{◌≢◌, refl, inl, inr, ⊎_elim, arith}
 use Rattle.seqs.specs.Every.{every}
-use Rattle.elf.specs.Elf.{typeListed}
+use Rattle.elf.specs.Elf.{type_listed}
 use Rattle.elf.proofs.Listed.{listed, one_of_two, Differs, unlisted}
 use Rattle.elf.proofs.types.is_listed.Statement.{statement}
 use Rattle.elf.proofs.types.is_listed.Tie as tie
@@ -45,23 +45,23 @@ returns-4 c =
     unlisted (differs rest (λ e. omega arith) (λ e. omega arith) (λ e. omega arith) (λ e. omega arith) (λ e. omega arith) (λ e. omega arith))
 
 returns-5 : tie.Need-returns-5
-unfolding typeListed every
+unfolding type_listed every
 returns-5 c = ⊎_elim (listed 275 refl) (⊎_elim (listed 277 refl) (listed 283 refl)) c.match.keys2
 
 returns-6 : tie.Need-returns-6
-unfolding typeListed every
+unfolding type_listed every
 returns-6 c = let start : tie.Start = search in ⊎_elim (listed 257 refl) (listed 258 refl) (one_of_two 257 start.args.elf-type (omega arith) (omega arith))
 
 returns-7 : tie.Need-returns-7
-unfolding typeListed every
+unfolding type_listed every
 returns-7 c = ⊎_elim (listed 4 refl) (listed 19 refl) c.match.keys1
 
 returns-8 : tie.Need-returns-8
-unfolding typeListed every
+unfolding type_listed every
 returns-8 c = let start : tie.Start = search in ⊎_elim (listed 1 refl) (listed 2 refl) (one_of_two 1 start.args.elf-type (omega arith) (omega arith))
 
 returns-9 : tie.Need-returns-9
-unfolding typeListed every
+unfolding type_listed every
 returns-9 c = let start : tie.Start = search in ⊎_elim (listed 9 refl) (listed 10 refl) (one_of_two 9 start.args.elf-type (omega arith) (omega arith))
 
 pub is-listed-spec : {M : Type 1} → statement M

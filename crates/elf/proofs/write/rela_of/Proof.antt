@@ -1,6 +1,6 @@
 -- `rela_of` meets its contract.
 use Rattle.std.proofs.Common.{arith, rules}
-use Rattle.elf.specs.Elf.{relaOf}
+use Rattle.elf.specs.Elf.{rela_of}
 use Rattle.elf.proofs.write.rela_of.Statement.{statement}
 use Rattle.elf.proofs.write.rela_of.Tie as tie
 
@@ -10,7 +10,7 @@ target-offset-requires c κs =
     λ label. omega (arith, c.word-at.ensures, start.pre.1 (omega (arith, c.word-at.ensures, label)))
 
 returns : tie.Need-returns
-unfolding relaOf
+unfolding rela_of
 returns c =
     let after-symbol-of : tie.After-symbol-of = search in
     let after-elf-type : tie.After-elf-type = search in

@@ -1,16 +1,16 @@
 -- `why_no_rela` meets its contract: no type, a sum that leaves signed 64 bits, neither.
 use Rattle.std.proofs.Common.{sym, ◌∙◌, rules}
-use Rattle.seqs.proofs.Picking.{yes-eq, no_eq, pick_yes, pick_no}
-use Rattle.elf.specs.Elf.{whyNoRela}
+use Rattle.seqs.proofs.Picking.{yes_eq, no_eq, pick_yes, pick_no}
+use Rattle.elf.specs.Elf.{why_no_rela}
 use Rattle.elf.proofs.write.why_no_rela.Statement.{statement}
 use Rattle.elf.proofs.write.why_no_rela.Tie as tie
 
 returns : tie.Need-returns
-unfolding whyNoRela
+unfolding why_no_rela
 returns c =
     let after-elf-type : tie.After-elf-type = search in
     let after-word-at : tie.After-word-at = search in
-    rw (← after-word-at.word-at.ensures, ← after-elf-type.elf-type.ensures) (sym (yes-eq _ 0 _ _ c.if1.true))
+    rw (← after-word-at.word-at.ensures, ← after-elf-type.elf-type.ensures) (sym (yes_eq _ 0 _ _ c.if1.true))
 
 target-offset-requires : tie.Need-target-offset-requires
 target-offset-requires c κs =
@@ -18,7 +18,7 @@ target-offset-requires c κs =
     rw c.word-at2.ensures start.pre.1
 
 returns-2 : tie.Need-returns-2
-unfolding whyNoRela
+unfolding why_no_rela
 returns-2 c =
     let after-leaves-signed : tie.After-leaves-signed = search in
     let after-addend-at : tie.After-addend-at = search in
@@ -31,7 +31,7 @@ returns-2 c =
     (sym (no_eq _ 0 _ _ else1.if1.left ∙ pick_yes _ _ _ (sym after-leaves-signed.leaves_signed.ensures ∙ c.if2.true)))
 
 returns-3 : tie.Need-returns-3
-unfolding whyNoRela
+unfolding why_no_rela
 returns-3 c =
     let after-leaves-signed : tie.After-leaves-signed = search in
     let after-addend-at : tie.After-addend-at = search in

@@ -1,14 +1,14 @@
 -- `can_reach_delta` meets its contract: a distance that is no multiple is refused before its range is looked at.
 use borrow.Author.Tests.{not-true, not-false}
-use Rattle.fields.proofs.Signed.{limits-fit}
+use Rattle.fields.proofs.Signed.{limits_fit}
 use Rattle.fields.specs.declared.FieldInfo.{FieldInfo}
-use Rattle.fields.specs.Reach.{multiple, canReachDelta}
+use Rattle.fields.specs.Reach.{multiple, can_reach_delta}
 use Rattle.std.proofs.Common.{sym, ap, ◌∙◌, rules}
 use Rattle.fields.proofs.LabelUse.can_reach_delta.Statement.{statement}
 use Rattle.fields.proofs.LabelUse.can_reach_delta.Tie as tie
 
 returns : tie.Need-returns
-unfolding canReachDelta
+unfolding can_reach_delta
 returns c =
     let after-is-multiple : tie.After-is-multiple = search in
     let after-info : tie.After-info = search in
@@ -20,10 +20,10 @@ in-range-requires : tie.Need-in-range-requires
 in-range-requires c κs =
     let after-info : tie.After-info = search in
     let start : tie.Start = search in
-    rw after-info.info.ensures (limits-fit start.args.self)
+    rw after-info.info.ensures (limits_fit start.args.self)
 
 returns-2 : tie.Need-returns-2
-unfolding canReachDelta
+unfolding can_reach_delta
 returns-2 c =
     let after-wrapping-sub : tie.After-wrapping-sub = search in
     let else1 : tie.Else1 = search in

@@ -5,8 +5,8 @@ use native.Mathlib.Omega.{arith}
 use borrow.Fn.Kinds.{In}
 use borrow.Fn.PlainCycle.{Measures, is, falls, and}
 use borrow.Author.Rules.{rules}
-use Rattle.buffer.specs.Tables.{mostEntries}
-use Rattle.finish.proofs.StageAnswers.{few, marks-short}
+use Rattle.buffer.specs.Tables.{most_entries}
+use Rattle.finish.proofs.StageAnswers.{few, marks_short}
 use Rattle.finish.proofs.Plans.pooled_large_relaxed.Reads as reads
 use Rattle.finish.proofs.Plans.pooled_large_relaxed.Kinds as kinds
 use Rattle.finish.proofs.Plans.pooled_large_relaxed.Lts as lts
@@ -63,7 +63,7 @@ pub +large-relaxed-spec : {M : Type 1} → statement M
     (λ c. search rules)
     (λ c. search rules)
     (λ c. search rules)
-    (λ c κs. let s : Start t = search in (s.pre.1.1, marks-short _ mostEntries (few s.pre.1.1)))
+    (λ c κs. let s : Start t = search in (s.pre.1.1, marks_short _ most_entries (few s.pre.1.1)))
     (λ c. search rules)
     (λ c. search rules)
     (λ c. search rules)

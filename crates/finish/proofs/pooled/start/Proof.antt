@@ -3,9 +3,9 @@ use mathlib.Core.Path.{sym}
 use native.Mathlib.Omega.{arith}
 use borrow.Author.Rules.{rules}
 use borrow.Author.Tests.{not-true, not-false, eqb-true, eqb-false}
-use Rattle.seqs.proofs.Booleans.{true-is-not-false}
+use Rattle.seqs.proofs.Booleans.{true_is_not_false}
 use Rattle.finish.proofs.RelaxedRequires.{clearing}
-use Rattle.finish.proofs.WithOrWithoutJump.{keepable, placed-unbound, started-refused, starts, placed-kept}
+use Rattle.finish.proofs.WithOrWithoutJump.{keepable, placed_unbound, started_refused, starts, placed_kept}
 use Rattle.finish.proofs.pooled.start.Statement.{statement}
 use Rattle.finish.proofs.pooled.start.Tie as tie
 
@@ -27,8 +27,8 @@ returns : tie.Need-returns
 returns c =
     let unbound : tie.Then1 = search in
     let asked : tie.After-all-bound = search in (
-      λ e ss l. placed-unbound (entered asked).pre asked.all-bound.ensures (not-true _ unbound.if1.taken) c.refused.ensures ss,
-      λ e. absurd (true-is-not-false (sym e)),
+      λ e ss l. placed_unbound (entered asked).pre asked.all-bound.ensures (not-true _ unbound.if1.taken) c.refused.ensures ss,
+      λ e. absurd (true_is_not_false (sym e)),
     )
 
 moves-requires : tie.Need-moves-requires
@@ -57,7 +57,7 @@ returns-2 c =
     let asked = (named moved).all-bound.ensures in
     let all = not-false _ (bound moved).if1.left in (
       λ e ss l.
-          started-refused x asked all moved.moves.ensures jump.if2.taken why.why-not-laid.ensures (eqb-false _ 0 e) c.refused2.ensures ss l,
+          started_refused x asked all moved.moves.ensures jump.if2.taken why.why-not-laid.ensures (eqb-false _ 0 e) c.refused2.ensures ss l,
       λ e. starts x asked all moved.moves.ensures jump.if2.taken why.why-not-laid.ensures (eqb-true _ 0 e),
     )
 
@@ -73,8 +73,8 @@ returns-3 c =
     let moved : tie.After-moves = search in
     let x = (entered (named moved)).requires in
     let all = not-false _ (bound moved).if1.left in (
-      λ e ss l. placed-kept x (named moved).all-bound.ensures all moved.moves.ensures still.if2.left kept.unrelaxed.ensures ss,
-      λ e. absurd (true-is-not-false (sym e)),
+      λ e ss l. placed_kept x (named moved).all-bound.ensures all moved.moves.ensures still.if2.left kept.unrelaxed.ensures ss,
+      λ e. absurd (true_is_not_false (sym e)),
     )
 
 pub start_spec : {M : Type 1} → statement M

@@ -1,7 +1,7 @@
 -- `tiny_relaxed` meets its contract: it lends `relax_and_write` a mark for each event, and no index.
 mod Tie
 use native.Mathlib.Nat.{le_of_lt}
-use Rattle.finish.proofs.StageAnswers.{marks-short}
+use Rattle.finish.proofs.StageAnswers.{marks_short}
 use borrow.Author.Rules.{rules}
 use Rattle.finish.proofs.pooled.tiny_relaxed.Statement.{statement}
 use Rattle.finish.proofs.pooled.tiny_relaxed.Proof.Tie as tie
@@ -19,7 +19,7 @@ tiny-relaxed-spec =
     (λ c. search rules)
     (λ c. search rules)
     (λ c. search rules)
-    (λ c κs. let s : tie.Start = search in (s.pre.0, marks-short _ 24 (le_of_lt s.pre.1)))
+    (λ c κs. let s : tie.Start = search in (s.pre.0, marks_short _ 24 (le_of_lt s.pre.1)))
     (λ c. search rules)
     (λ c. search rules)
     (λ c. search rules)

@@ -2,7 +2,7 @@
 use mathlib.Core.Path.{refl}
 use mathlib.Core.List.{[]}
 use native.Mathlib.Omega.{arith}
-use Rattle.finish.proofs.StageAnswers.{kept-refused, copying, kept-done}
+use Rattle.finish.proofs.StageAnswers.{kept_refused, copying, kept_done}
 use borrow.Author.Rules.{rules}
 use Rattle.finish.proofs.pooled.unrelaxed.Statement.{statement}
 use Rattle.finish.proofs.pooled.unrelaxed.Tie as tie
@@ -21,7 +21,7 @@ returns c =
     let after-why-not-in-place : tie.After-why-not-in-place = search in
     let after-pool-end : tie.After-pool-end = search in
     let start = entered after-pool-end in
-    λ es rs. kept-refused _ _ _ _ _ start.args.b.arch _ _ _ _ es rs start.pre _ _ _ after-pool-end.pool-end.ensures.0 after-why-not-in-place.why-not-in-place.ensures _ then1.if1.taken c.refused.ensures
+    λ es rs. kept_refused _ _ _ _ _ start.args.b.arch _ _ _ _ es rs start.pre _ _ _ after-pool-end.pool-end.ensures.0 after-why-not-in-place.why-not-in-place.ensures _ then1.if1.taken c.refused.ensures
 
 write-in-place-requires : tie.Need-write-in-place-requires
 write-in-place-requires c κs =
@@ -38,7 +38,7 @@ returns-2 c =
     let after-why-not-in-place : tie.After-why-not-in-place = search in
     let after-pool-end : tie.After-pool-end = search in
     let start = entered after-pool-end in
-    λ es rs. kept-done _ _ _ _ _ start.args.b.arch _ _ _ _ es rs start.pre _ _ _ after-pool-end.pool-end.ensures.0 after-why-not-in-place.why-not-in-place.ensures else1.if1.left _ _ refl after-write-in-place.write-in-place.ensures
+    λ es rs. kept_done _ _ _ _ _ start.args.b.arch _ _ _ _ es rs start.pre _ _ _ after-pool-end.pool-end.ensures.0 after-why-not-in-place.why-not-in-place.ensures else1.if1.left _ _ refl after-write-in-place.write-in-place.ensures
 
 pub unrelaxed-spec : {M : Type 1} → statement M
 unrelaxed-spec =

@@ -4,8 +4,8 @@ use mathlib.Core.Path.{◌∙◌}
 use native.Mathlib.Omega.{arith}
 use borrow.Author.Rules.{rules}
 use lib.Dec.{lit≤}
-use Rattle.lookup.proofs.Index.{indexed-none}
-use Rattle.finish.proofs.FinishedCode.{written-in-order}
+use Rattle.lookup.proofs.Index.{indexed_none}
+use Rattle.finish.proofs.FinishedCode.{written_in_order}
 use Rattle.finish.proofs.pooled.write_relaxed.Statement.{statement}
 use Rattle.finish.proofs.pooled.write_relaxed.Proof.Tie as tie
 
@@ -29,7 +29,7 @@ map-requires : tie.Need-map-requires
 map-requires c κs =
     let placed : tie.After-emit-events = search in
     let p = (entered placed).pre in
-    (p.1.rising, (indexed-none _ _ _ _ p.0.few_bits (lit≤ tt), λ bound. omega (arith, p.1.small)))
+    (p.1.rising, (indexed_none _ _ _ _ p.0.few_bits (lit≤ tt), λ bound. omega (arith, p.1.small)))
 
 patch-refs-requires : tie.Need-patch-refs-requires
 patch-refs-requires c κs =
@@ -80,7 +80,7 @@ returns c =
     let placed : tie.After-emit-events = search in
     let s = entered placed in
     let a = s.args in
-    written-in-order a.output.now a.code.now a.labels.now a.events.now a.refs.now a.constants.now a.asked.now a.long.now a.segments.now
+    written_in_order a.output.now a.code.now a.labels.now a.events.now a.refs.now a.constants.now a.asked.now a.long.now a.segments.now
     a.b.arch a.b.code a.b.events a.b.asked a.b.refs placed.emit-events.ensures (mapped.map.ensures ∙ s.pre.1.ends) pooled.emit.ensures
     filled.patch-refs.ensures jumped.patch-jumps.ensures written.write.ensures
 

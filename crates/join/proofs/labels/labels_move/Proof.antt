@@ -1,22 +1,22 @@
 -- `labels_move` meets its contract: all the labels passed move.
 use Rattle.std.proofs.Common.{ℕ, ◌+◌, ◌-◌, arith, rules}
-use Rattle.seqs.proofs.Scans.{AllPassed, pass-none, pass-one, pass-fails, pass_all}
+use Rattle.seqs.proofs.Scans.{AllPassed, pass_none, pass_one, pass_fails, pass_all}
 use Rattle.words.specs.Words.{word_at}
-use Rattle.join.specs.Join.{labelMoves, labelsMove}
+use Rattle.join.specs.Join.{label_moves, labels_move}
 use Rattle.join.proofs.labels.labels_move.Statement.{statement}
 use Rattle.join.proofs.labels.labels_move.Tie as tie
 
 abbrev invariant-loop : tie.invariant-loop
-invariant-loop labels cursor base m j₀ j = AllPassed (λ (i : ℕ). labelMoves base (word_at labels (cursor.labels + i))) m j
+invariant-loop labels cursor base m j₀ j = AllPassed (λ (i : ℕ). label_moves base (word_at labels (cursor.labels + i))) m j
 
 abbrev decreases-loop : tie.decreases-loop
 decreases-loop labels cursor base m j₀ j = m - j
 
 loop-holds : tie.Need-loop-init invariant-loop decreases-loop
-loop-holds c = pass-none _ _
+loop-holds c = pass_none _ _
 
 returns : tie.Need-returns invariant-loop decreases-loop
-unfolding labelsMove
+unfolding labels_move
 returns c =
     let after-label-moves : tie.After-label-moves invariant-loop decreases-loop = search in
     let after-word-at : tie.After-word-at invariant-loop decreases-loop = search in
@@ -24,7 +24,7 @@ returns c =
     let at-loop : tie.At-loop invariant-loop decreases-loop = search in
     let in-loop : tie.In-loop invariant-loop decreases-loop = search in
     rw (← after-base.base.ensures.0)
-    (pass-fails at-loop.loop.inv in-loop.loop-test.taken (rw after-word-at.word-at.ensures at after-label-moves.label-moves.ensures) c.if1.true)
+    (pass_fails at-loop.loop.inv in-loop.loop-test.taken (rw after-word-at.word-at.ensures at after-label-moves.label-moves.ensures) c.if1.true)
 
 loop-again : tie.Need-loop-preserved invariant-loop decreases-loop
 loop-again c =
@@ -33,10 +33,10 @@ loop-again c =
     let after-word-at : tie.After-word-at invariant-loop decreases-loop = search in
     let at-loop : tie.At-loop invariant-loop decreases-loop = search in
     let in-loop : tie.In-loop invariant-loop decreases-loop = search in
-    pass-one at-loop.loop.inv in-loop.loop-test.taken (rw after-word-at.word-at.ensures at after-label-moves.label-moves.ensures) else1.if1.left
+    pass_one at-loop.loop.inv in-loop.loop-test.taken (rw after-word-at.word-at.ensures at after-label-moves.label-moves.ensures) else1.if1.left
 
 returns-2 : tie.Need-returns-2 invariant-loop decreases-loop
-unfolding labelsMove
+unfolding labels_move
 returns-2 c =
     let after-base : tie.After-base invariant-loop decreases-loop = search in
     let at-loop : tie.At-loop invariant-loop decreases-loop = search in

@@ -1,11 +1,11 @@
 -- `boundary` meets its contract.
 use Rattle.std.proofs.Common.{sym}
-use Rattle.seqs.proofs.Picking.{yes-eq, no_eq}
+use Rattle.seqs.proofs.Picking.{yes_eq, no_eq}
 use Rattle.join.proofs.pieces.boundary.Statement.{statement}
 use Rattle.join.proofs.pieces.boundary.Tie as tie
 
 returns : tie.Need-returns
-returns c = sym (yes-eq _ _ _ _ c.if1.true)
+returns c = sym (yes_eq _ _ _ _ c.if1.true)
 
 returns-2 : tie.Need-returns-2
 returns-2 c = sym (no_eq _ _ _ _ c.if1.false)

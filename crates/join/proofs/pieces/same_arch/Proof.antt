@@ -1,6 +1,6 @@
 -- `same_arch` meets its contract.
 use Rattle.std.proofs.Common.{arith, rules}
-use Rattle.join.specs.Pieces.{sameArch}
+use Rattle.join.specs.Pieces.{same_arch}
 use Rattle.join.proofs.pieces.same_arch.Statement.{statement}
 use Rattle.join.proofs.pieces.same_arch.Tie as tie
 
@@ -8,7 +8,7 @@ piece-at-requires : tie.Need-piece-at-requires
 piece-at-requires c κs = omega arith
 
 returns : tie.Need-returns
-unfolding sameArch
+unfolding same_arch
 returns c =
     let after-piece-at : tie.After-piece-at = search in
     rw (← after-piece-at.piece-at.ensures) c.all-have-arch.ensures

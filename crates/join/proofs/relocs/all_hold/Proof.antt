@@ -1,22 +1,22 @@
 -- `all_hold` meets its contract: the test holds of all the relocations of the pieces passed.
 use Rattle.std.proofs.Common.{◌≡◌, ℕ, ◌-◌, sym, arith, rules}
-use Rattle.seqs.proofs.Scans.{AllPassed, pass-none, pass-one, pass-fails, pass_all}
-use Rattle.join.specs.Pieces.{piece_at, cursorAt}
-use Rattle.join.proofs.Cursors.{cursor-none}
+use Rattle.seqs.proofs.Scans.{AllPassed, pass_none, pass_one, pass_fails, pass_all}
+use Rattle.join.specs.Pieces.{piece_at, cursor_at}
+use Rattle.join.proofs.Cursors.{cursor_none}
 use Rattle.join.specs.Symbols.{find}
-use Rattle.join.specs.Join.{relocsHold, allHold}
-use Rattle.join.proofs.Turns.{Turn, next-cursor, turn-placed, turn-relocating}
+use Rattle.join.specs.Join.{relocs_hold, all_hold}
+use Rattle.join.proofs.Turns.{Turn, next_cursor, turn_placed, turn_relocating}
 use Rattle.join.proofs.relocs.all_hold.Statement.{statement}
 use Rattle.join.proofs.relocs.all_hold.Tie as tie
 
 abbrev invariant-loop : tie.invariant-loop
-invariant-loop test table pieces labels relocs definitions n cursor₀ k₀ cursor k = AllPassed (λ (i : ℕ). relocsHold test (find pieces labels definitions n) relocs (piece_at pieces i) (cursorAt pieces i) (piece_at pieces i).relocs) n k × (cursor ≡ cursorAt pieces k)
+invariant-loop test table pieces labels relocs definitions n cursor₀ k₀ cursor k = AllPassed (λ (i : ℕ). relocs_hold test (find pieces labels definitions n) relocs (piece_at pieces i) (cursor_at pieces i) (piece_at pieces i).relocs) n k × (cursor ≡ cursor_at pieces k)
 
 abbrev decreases-loop : tie.decreases-loop
 decreases-loop test table pieces labels relocs definitions n cursor₀ k₀ cursor k = n - k
 
 loop-holds : tie.Need-loop-init invariant-loop decreases-loop
-loop-holds c = (pass-none _ _, sym (cursor-none _))
+loop-holds c = (pass_none _ _, sym (cursor_none _))
 
 piece-at-requires : tie.Need-piece-at-requires invariant-loop decreases-loop
 piece-at-requires c κs =
@@ -32,16 +32,16 @@ relocs-hold-requires c κs =
     let turn : Turn start.args.pieces.now at-loop.loop.k after-piece-at.piece-at.result at-loop.loop.cursor =
     record { piece = after-piece-at.piece-at.ensures; cursor = at-loop.loop.inv.1 } in
     let within = in-loop.loop-test.taken in
-    (start.pre.0, (turn-placed turn within start.pre.1.standing, turn-relocating turn within start.pre.1))
+    (start.pre.0, (turn_placed turn within start.pre.1.standing, turn_relocating turn within start.pre.1))
 
 returns : tie.Need-returns invariant-loop decreases-loop
-unfolding allHold
+unfolding all_hold
 returns c =
     let after-relocs-hold : tie.After-relocs-hold invariant-loop decreases-loop = search in
     let after-piece-at : tie.After-piece-at invariant-loop decreases-loop = search in
     let at-loop : tie.At-loop invariant-loop decreases-loop = search in
     let in-loop : tie.In-loop invariant-loop decreases-loop = search in
-    pass-fails at-loop.loop.inv.0 in-loop.loop-test.taken
+    pass_fails at-loop.loop.inv.0 in-loop.loop-test.taken
     (rw (after-piece-at.piece-at.ensures, at-loop.loop.inv.1) at after-relocs-hold.relocs-hold.ensures)
     c.if1.true
 
@@ -53,7 +53,7 @@ after-requires c κs =
     let start : tie.Start invariant-loop decreases-loop = search in
     let turn : Turn start.args.pieces.now at-loop.loop.k after-piece-at.piece-at.result at-loop.loop.cursor =
     record { piece = after-piece-at.piece-at.ensures; cursor = at-loop.loop.inv.1 } in
-    let placed = turn-placed turn in-loop.loop-test.taken start.pre.1.standing in
+    let placed = turn_placed turn in-loop.loop-test.taken start.pre.1.standing in
     (placed.fits, placed.near)
 
 loop-again : tie.Need-loop-preserved invariant-loop decreases-loop
@@ -65,14 +65,14 @@ loop-again c =
     let at-loop : tie.At-loop invariant-loop decreases-loop = search in
     let in-loop : tie.In-loop invariant-loop decreases-loop = search in
     let l = at-loop.loop in (
-      pass-one l.inv.0 in-loop.loop-test.taken
+      pass_one l.inv.0 in-loop.loop-test.taken
           (rw (after-piece-at.piece-at.ensures, l.inv.1) at after-relocs-hold.relocs-hold.ensures)
           else1.if1.left,
-      next-cursor _ l.k after-piece-at.piece-at.ensures l.inv.1 after-after.after.ensures.0,
+      next_cursor _ l.k after-piece-at.piece-at.ensures l.inv.1 after-after.after.ensures.0,
     )
 
 returns-2 : tie.Need-returns-2 invariant-loop decreases-loop
-unfolding allHold
+unfolding all_hold
 returns-2 c =
     let at-loop : tie.At-loop invariant-loop decreases-loop = search in
     pass_all at-loop.loop.inv.0 (omega arith)

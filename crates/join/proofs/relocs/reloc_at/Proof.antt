@@ -1,11 +1,11 @@
 -- `reloc_at` meets its contract.
-use Rattle.join.specs.Join.{relocOf}
+use Rattle.join.specs.Join.{reloc_of}
 use Rattle.std.proofs.Common.{rules}
 use Rattle.join.proofs.relocs.reloc_at.Statement.{statement}
 use Rattle.join.proofs.relocs.reloc_at.Tie as tie
 
 returns : tie.Need-returns
-unfolding relocOf
+unfolding reloc_of
 returns c =
     let after-word-at4 : tie.After-word-at4 = search in
     let after-word-at3 : tie.After-word-at3 = search in

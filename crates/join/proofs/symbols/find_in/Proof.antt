@@ -1,12 +1,12 @@
 -- `find_in` meets its contract: none of the definitions passed is the symbol's.
 use Rattle.std.proofs.Common.{◌-◌, arith, rules}
 use Rattle.seqs.proofs.Scans.{NoneRefused, refusing}
-use Rattle.join.specs.Symbols.{definedAs, findIn}
+use Rattle.join.specs.Symbols.{defined_as, find_in}
 use Rattle.join.proofs.symbols.find_in.Statement.{statement}
 use Rattle.join.proofs.symbols.find_in.Tie as tie
 
 abbrev invariant-loop : tie.invariant-loop
-invariant-loop labels definitions piece cursor m symbol j₀ j = NoneRefused (definedAs labels definitions piece cursor symbol) m j
+invariant-loop labels definitions piece cursor m symbol j₀ j = NoneRefused (defined_as labels definitions piece cursor symbol) m j
 
 abbrev decreases-loop : tie.decreases-loop
 decreases-loop labels definitions piece cursor m symbol j₀ j = m - j
@@ -20,14 +20,14 @@ defined-as-requires c κs =
     (start.pre.0, (start.pre.1.0, omega arith))
 
 returns : tie.Need-returns invariant-loop decreases-loop
-unfolding findIn
+unfolding find_in
 returns c = search refusing
 
 loop-again : tie.Need-loop-preserved invariant-loop decreases-loop
 loop-again c = search refusing
 
 returns-2 : tie.Need-returns-2 invariant-loop decreases-loop
-unfolding findIn
+unfolding find_in
 returns-2 c = search refusing
 
 pub find-in-spec : {M : Type 1} → statement M

@@ -1,19 +1,19 @@
 -- `settle` meets its contract: the definitions of the pieces passed are new, and noted.
 use Rattle.std.proofs.Common.{◌≡◌, ℕ, ◌-◌, length, sym, refl, ◌∙◌, arith, rules}
 use borrow.Author.Tests.{not-false}
-use Rattle.seqs.proofs.Booleans.{true-is-not-false}
-use Rattle.seqs.proofs.Scans.{AllPassed, pass-none, pass-one, pass-fails, pass_all}
-use Rattle.join.specs.Pieces.{piece_at, cursorAt}
-use Rattle.join.specs.Symbols.{newIn, definedOnce}
+use Rattle.seqs.proofs.Booleans.{true_is_not_false}
+use Rattle.seqs.proofs.Scans.{AllPassed, pass_none, pass_one, pass_fails, pass_all}
+use Rattle.join.specs.Pieces.{piece_at, cursor_at}
+use Rattle.join.specs.Symbols.{new_in, defined_once}
 use Rattle.join.specs.steps.Tables.{Settled}
-use Rattle.join.proofs.Cursors.{cursor-none}
+use Rattle.join.proofs.Cursors.{cursor_none}
 use Rattle.join.proofs.Tables.{begun_all}
-use Rattle.join.proofs.Turns.{Turn, next-cursor, fewer-symbols, turn-placed, turn-labelled, turn-defining}
+use Rattle.join.proofs.Turns.{Turn, next_cursor, fewer_symbols, turn_placed, turn_labelled, turn_defining}
 use Rattle.join.proofs.symbols.settle.Statement.{statement}
 use Rattle.join.proofs.symbols.settle.Tie as tie
 
 abbrev invariant-loop : tie.invariant-loop
-invariant-loop table₀ pieces labels definitions n cursor₀ k₀ table cursor k = AllPassed (λ (i : ℕ). newIn pieces labels definitions i (piece_at pieces i) (cursorAt pieces i) (piece_at pieces i).definitions) n k × (cursor ≡ cursorAt pieces k) × Settled table pieces labels definitions k × (length table ≡ length table₀)
+invariant-loop table₀ pieces labels definitions n cursor₀ k₀ table cursor k = AllPassed (λ (i : ℕ). new_in pieces labels definitions i (piece_at pieces i) (cursor_at pieces i) (piece_at pieces i).definitions) n k × (cursor ≡ cursor_at pieces k) × Settled table pieces labels definitions k × (length table ≡ length table₀)
 
 abbrev decreases-loop : tie.decreases-loop
 decreases-loop table₀ pieces labels definitions n cursor₀ k₀ table cursor k = n - k
@@ -21,7 +21,7 @@ decreases-loop table₀ pieces labels definitions n cursor₀ k₀ table cursor 
 loop-holds : tie.Need-loop-init invariant-loop decreases-loop
 loop-holds c =
     let start : tie.Start invariant-loop decreases-loop = search in
-    (pass-none _ _, sym (cursor-none _), start.pre.1, refl)
+    (pass_none _ _, sym (cursor_none _), start.pre.1, refl)
 
 piece-at-requires : tie.Need-piece-at-requires invariant-loop decreases-loop
 piece-at-requires c κs =
@@ -38,10 +38,10 @@ settle-piece-requires c κs =
     record { piece = after-piece-at.piece-at.ensures; cursor = at-loop.loop.inv.1 } in
     let within = in-loop.loop-test.taken in
     let symbols = start.pre.0 in (
-      fewer-symbols at-loop.loop.k (omega arith) symbols,
+      fewer_symbols at-loop.loop.k (omega arith) symbols,
       (
-        turn-placed turn within symbols.labelled.standing,
-        (turn-labelled turn within symbols.labelled, (turn-defining turn within symbols, at-loop.loop.inv.2)),
+        turn_placed turn within symbols.labelled.standing,
+        (turn_labelled turn within symbols.labelled, (turn_defining turn within symbols, at-loop.loop.inv.2)),
       ),
     )
 
@@ -52,16 +52,16 @@ same_length c =
     after-settle-piece.settle-piece.ensures.2 ∙ at-loop.loop.inv.3
 
 returns : tie.Need-returns invariant-loop decreases-loop
-unfolding definedOnce
+unfolding defined_once
 returns c =
     let after-settle-piece : tie.After-settle-piece invariant-loop decreases-loop = search in
     let after-piece-at : tie.After-piece-at invariant-loop decreases-loop = search in
     let at-loop : tie.At-loop invariant-loop decreases-loop = search in
     let in-loop : tie.In-loop invariant-loop decreases-loop = search in (
-      pass-fails at-loop.loop.inv.0 in-loop.loop-test.taken
+      pass_fails at-loop.loop.inv.0 in-loop.loop-test.taken
           (rw (after-piece-at.piece-at.ensures, at-loop.loop.inv.1) at after-settle-piece.settle-piece.ensures.0)
           c.if1.true,
-      λ e. absurd (true-is-not-false (sym e)),
+      λ e. absurd (true_is_not_false (sym e)),
     )
 
 after-requires : tie.Need-after-requires invariant-loop decreases-loop
@@ -72,7 +72,7 @@ after-requires c κs =
     let start : tie.Start invariant-loop decreases-loop = search in
     let turn : Turn start.args.pieces.now at-loop.loop.k after-piece-at.piece-at.result at-loop.loop.cursor =
     record { piece = after-piece-at.piece-at.ensures; cursor = at-loop.loop.inv.1 } in
-    let placed = turn-placed turn in-loop.loop-test.taken start.pre.0.labelled.standing in
+    let placed = turn_placed turn in-loop.loop-test.taken start.pre.0.labelled.standing in
     (placed.fits, placed.near)
 
 loop-again : tie.Need-loop-preserved invariant-loop decreases-loop
@@ -84,10 +84,10 @@ loop-again c =
     let at-loop : tie.At-loop invariant-loop decreases-loop = search in
     let in-loop : tie.In-loop invariant-loop decreases-loop = search in
     let l = at-loop.loop in (
-      pass-one l.inv.0 in-loop.loop-test.taken
+      pass_one l.inv.0 in-loop.loop-test.taken
           (rw (after-piece-at.piece-at.ensures, l.inv.1) at after-settle-piece.settle-piece.ensures.0)
           else1.if1.left,
-      next-cursor _ l.k after-piece-at.piece-at.ensures l.inv.1 after-after.after.ensures.0,
+      next_cursor _ l.k after-piece-at.piece-at.ensures l.inv.1 after-after.after.ensures.0,
       begun_all (record { piece = after-piece-at.piece-at.ensures; cursor = l.inv.1 }) (after-settle-piece.settle-piece.ensures.1 (not-false _ else1.if1.left)),
       after-settle-piece.settle-piece.ensures.2 ∙ l.inv.3,
     )
@@ -98,7 +98,7 @@ same-length-2 c =
     at-loop.loop.inv.3
 
 returns-2 : tie.Need-returns-2 invariant-loop decreases-loop
-unfolding definedOnce
+unfolding defined_once
 returns-2 c =
     let at-loop : tie.At-loop invariant-loop decreases-loop = search in
     let start : tie.Start invariant-loop decreases-loop = search in

@@ -1,15 +1,15 @@
 -- `settle_piece` meets its contract: the definitions passed are new, and noted.
 use Rattle.std.proofs.Common.{◌≡◌, ℕ, ◌-◌, true, false, eqb, length, sym, refl, ◌∙◌, arith, length-set, rules, eq-eqb, ne_eqb}
-use Rattle.seqs.proofs.Booleans.{true-is-not-false}
-use Rattle.seqs.proofs.Scans.{AllPassed, pass-none, pass-one, pass-fails, pass_all}
-use Rattle.join.specs.Symbols.{undefined, symbol_at, findBefore, newIn}
+use Rattle.seqs.proofs.Booleans.{true_is_not_false}
+use Rattle.seqs.proofs.Scans.{AllPassed, pass_none, pass_one, pass_fails, pass_all}
+use Rattle.join.specs.Symbols.{undefined, symbol_at, find_before, new_in}
 use Rattle.join.specs.steps.Tables.{Begun}
-use Rattle.join.proofs.Tables.{begun-none, begun-next}
+use Rattle.join.proofs.Tables.{begun_none, begun_next}
 use Rattle.join.proofs.symbols.settle_piece.Statement.{statement}
 use Rattle.join.proofs.symbols.settle_piece.Tie as tie
 
 abbrev invariant-loop : tie.invariant-loop
-invariant-loop table₀ pieces labels definitions k piece cursor m j₀ table j = AllPassed (λ (i : ℕ). eqb (findBefore pieces labels definitions k piece cursor i (symbol_at definitions cursor i)) undefined) m j × Begun table pieces labels definitions k piece cursor j × (length table ≡ length table₀)
+invariant-loop table₀ pieces labels definitions k piece cursor m j₀ table j = AllPassed (λ (i : ℕ). eqb (find_before pieces labels definitions k piece cursor i (symbol_at definitions cursor i)) undefined) m j × Begun table pieces labels definitions k piece cursor j × (length table ≡ length table₀)
 
 abbrev decreases-loop : tie.decreases-loop
 decreases-loop table₀ pieces labels definitions k piece cursor m j₀ table j = m - j
@@ -17,7 +17,7 @@ decreases-loop table₀ pieces labels definitions k piece cursor m j₀ table j 
 loop-holds : tie.Need-loop-init invariant-loop decreases-loop
 loop-holds c =
     let start : tie.Start invariant-loop decreases-loop = search in
-    (pass-none _ _, begun-none _ _ start.pre.1.1.1.1, refl)
+    (pass_none _ _, begun_none _ _ start.pre.1.1.1.1, refl)
 
 symbol-at-requires : tie.Need-symbol-at-requires invariant-loop decreases-loop
 symbol-at-requires c κs = omega arith
@@ -34,15 +34,15 @@ same_length c =
     at-loop.loop.inv.2
 
 returns : tie.Need-returns invariant-loop decreases-loop
-unfolding newIn
+unfolding new_in
 returns c =
     let after-find-before : tie.After-find-before invariant-loop decreases-loop = search in
     let after-symbol-at : tie.After-symbol-at invariant-loop decreases-loop = search in
     let at-loop : tie.At-loop invariant-loop decreases-loop = search in
     let in-loop : tie.In-loop invariant-loop decreases-loop = search in
     let found = rw after-symbol-at.symbol-at.ensures at after-find-before.find-before.ensures in (
-      pass-fails {t = false} at-loop.loop.inv.0 in-loop.loop-test.taken (sym (ne_eqb _ _ (λ e. c.if1.true (found ∙ e)))) refl,
-      λ e. absurd (true-is-not-false (sym e)),
+      pass_fails {t = false} at-loop.loop.inv.0 in-loop.loop-test.taken (sym (ne_eqb _ _ (λ e. c.if1.true (found ∙ e)))) refl,
+      λ e. absurd (true_is_not_false (sym e)),
       at-loop.loop.inv.2,
     )
 
@@ -62,8 +62,8 @@ loop-again c =
     let in-loop : tie.In-loop invariant-loop decreases-loop = search in
     let l = at-loop.loop in
     let none = sym after-find-before.find-before.ensures ∙ else1.if1.left in (
-      pass-one {t = true} l.inv.0 in-loop.loop-test.taken (sym (eq-eqb _ _ (rw after-symbol-at.symbol-at.ensures at none))) refl,
-      rw after-note.note.ensures (begun-next l.inv.1 after-symbol-at.symbol-at.ensures none after-defined.defined.ensures),
+      pass_one {t = true} l.inv.0 in-loop.loop-test.taken (sym (eq-eqb _ _ (rw after-symbol-at.symbol-at.ensures at none))) refl,
+      rw after-note.note.ensures (begun_next l.inv.1 after-symbol-at.symbol-at.ensures none after-defined.defined.ensures),
       rw after-note.note.ensures (length-set l.table _ _ ∙ l.inv.2),
     )
 
@@ -73,7 +73,7 @@ same-length-2 c =
     at-loop.loop.inv.2
 
 returns-2 : tie.Need-returns-2 invariant-loop decreases-loop
-unfolding newIn
+unfolding new_in
 returns-2 c =
     let at-loop : tie.At-loop invariant-loop decreases-loop = search in
     let start : tie.Start invariant-loop decreases-loop = search in

@@ -1,10 +1,10 @@
 -- `lent_fits` meets its contract: each test of 1 in turn.
 use Rattle.std.proofs.Common.{◌≡◌, true, sym, refl, ◌∙◌, arith, rules, eq-eqb, ne_eqb, le-leb}
 use borrow.Author.Tests.{lt-leb, not-false}
-use Rattle.seqs.proofs.Booleans.{test-fails, test-holds}
-use Rattle.join.specs.Pieces.{Lent, lent_of, pieceCount, cursorAt, sumsFit, piecesFit}
-use Rattle.join.proofs.Cursors.{sums-summed, symbols-within, relocs-within}
-use Rattle.join.proofs.Tables.{settled-empty}
+use Rattle.seqs.proofs.Booleans.{test_fails, test_holds_lem}
+use Rattle.join.specs.Pieces.{Lent, lent_of, piece_count, cursor_at, sums_fit, pieces_fit}
+use Rattle.join.proofs.Cursors.{sums_summed, symbols_within, relocs_within}
+use Rattle.join.proofs.Tables.{settled_empty}
 use Rattle.join.proofs.why.lent_fits.Statement.{statement}
 use Rattle.join.proofs.why.lent_fits.Tie as tie
 
@@ -21,7 +21,7 @@ returns-3 c =
     let else1 : tie.Else1 = search in
     let else2 : tie.Else2 = search in
     let after-pieces-fit : tie.After-pieces-fit = search in
-    rw (ne_eqb _ _ else1.if1.left, le-leb _ _ else2.if2.left) (test-fails _ after-pieces-fit.pieces-fit.ensures c.if3.true)
+    rw (ne_eqb _ _ else1.if1.left, le-leb _ _ else2.if2.left) (test_fails _ after-pieces-fit.pieces-fit.ensures c.if3.true)
 
 sum-requires : tie.Need-sum-requires
 sum-requires c κs =
@@ -39,8 +39,8 @@ returns-4 c =
     let after-sum : tie.After-sum = search in
     let after-sums-fit : tie.After-sums-fit = search in
     rw (ne_eqb _ _ else1.if1.left, le-leb _ _ else2.if2.left)
-    (test-holds after-pieces-fit.pieces-fit.ensures else3.if3.left
-    (test-fails _ (rw after-sum.sum.ensures.0 at (after-sums-fit.sums-fit.ensures start.args.pieces.now)) c.if4.true))
+    (test_holds_lem after-pieces-fit.pieces-fit.ensures else3.if3.left
+    (test_fails _ (rw after-sum.sum.ensures.0 at (after-sums-fit.sums-fit.ensures start.args.pieces.now)) c.if4.true))
 
 all-hold-requires : tie.Need-all-hold-requires
 all-hold-requires c κs =
@@ -52,14 +52,14 @@ all-hold-requires c κs =
     let else4 : tie.Else4 = search in
     let a = start.args in
     let l : Lent = lent_of a.pieces.now a.code.now a.labels.now a.relocs.now a.definitions.now in
-    let n = pieceCount l.pieces in
-    let fit : piecesFit l.pieces n ≡ true = sym after-pieces-fit.pieces-fit.ensures ∙ not-false _ else3.if3.left in
+    let n = piece_count l.pieces in
+    let fit : pieces_fit l.pieces n ≡ true = sym after-pieces-fit.pieces-fit.ensures ∙ not-false _ else3.if3.left in
     let near = rw after-sum.sum.ensures.0 at after-sum.sum.ensures.1 in
-    let sums : sumsFit l (cursorAt l.pieces n) ≡ true =
+    let sums : sums_fit l (cursor_at l.pieces n) ≡ true =
     sym (rw after-sum.sum.ensures.0 at (after-sums-fit.sums-fit.ensures a.pieces.now)) ∙ not-false _ else4.if4.left in
-    let summed = sums-summed l n sums in (
-      record { symbols = symbols-within l n (omega arith) fit near summed; settled = settled-empty _ _ _ _ },
-      relocs-within l n (omega arith) fit near summed,
+    let summed = sums_summed l n sums in (
+      record { symbols = symbols_within l n (omega arith) fit near summed; settled = settled_empty _ _ _ _ },
+      relocs_within l n (omega arith) fit near summed,
     )
 
 returns-5 : tie.Need-returns-5
@@ -74,8 +74,8 @@ returns-5 c =
     let else4 : tie.Else4 = search in
     let after-all-hold : tie.After-all-hold = search in
     rw (ne_eqb _ _ else1.if1.left, le-leb _ _ else2.if2.left)
-    (test-holds after-pieces-fit.pieces-fit.ensures else3.if3.left
-    (test-holds (rw after-sum.sum.ensures.0 at (after-sums-fit.sums-fit.ensures start.args.pieces.now)) else4.if4.left
+    (test_holds_lem after-pieces-fit.pieces-fit.ensures else3.if3.left
+    (test_holds_lem (rw after-sum.sum.ensures.0 at (after-sums-fit.sums-fit.ensures start.args.pieces.now)) else4.if4.left
     after-all-hold.all_hold.ensures))
 
 pub lent-fits-spec : {M : Type 1} → statement M

@@ -1,9 +1,9 @@
 -- `no_output` meets its contract: 23.
 use Rattle.std.proofs.Common.{refl, arith}
 use Rattle.join.specs.Pieces.{Lent, lent_of}
-use Rattle.join.specs.Join.{whyNoOutput}
+use Rattle.join.specs.Join.{why_no_output}
 use Rattle.join.proofs.Answers.{refuses, accepts, short, enough}
-use Rattle.join.proofs.Fits.{unfit-passed, fit-symbols, fit-labels, fit-relocs}
+use Rattle.join.proofs.Fits.{unfit_passed, fit_symbols, fit_labels, fit_relocs}
 use Rattle.join.proofs.why.no_output.Statement.{statement}
 use Rattle.join.proofs.why.no_output.Tie as tie
 
@@ -12,18 +12,18 @@ sum-requires c κs =
     let start : tie.Start = search in
     let a = start.args in
     let l : Lent = lent_of a.pieces.now a.code.now a.labels.now a.relocs.now a.definitions.now in
-    let fit = unfit-passed l start.pre.0 in
+    let fit = unfit_passed l start.pre.0 in
     (omega arith, (fit.most, fit.pieces))
 
 returns : tie.Need-returns
-unfolding whyNoOutput
+unfolding why_no_output
 returns c =
     let after-sum : tie.After-sum = search in
     let then1 : tie.Then1 = search in
     short _ _ _ _ (rw after-sum.sum.ensures.0 at then1.if1.taken)
 
 returns-2 : tie.Need-returns-2
-unfolding whyNoOutput
+unfolding why_no_output
 returns-2 c =
     let after-sum : tie.After-sum = search in
     let else1 : tie.Else1 = search in
@@ -35,10 +35,10 @@ all-labels-move-requires c κs =
     let start : tie.Start = search in
     let a = start.args in
     let l : Lent = lent_of a.pieces.now a.code.now a.labels.now a.relocs.now a.definitions.now in
-    fit-labels l (unfit-passed l start.pre.0)
+    fit_labels l (unfit_passed l start.pre.0)
 
 returns-3 : tie.Need-returns-3
-unfolding whyNoOutput
+unfolding why_no_output
 returns-3 c =
     let after-sum : tie.After-sum = search in
     let else1 : tie.Else1 = search in
@@ -53,11 +53,11 @@ all-hold-requires c κs =
     let start : tie.Start = search in
     let a = start.args in
     let l : Lent = lent_of a.pieces.now a.code.now a.labels.now a.relocs.now a.definitions.now in
-    let fit = unfit-passed l start.pre.0 in
-    (record { symbols = fit-symbols l fit; settled = start.pre.1 }, fit-relocs l fit)
+    let fit = unfit_passed l start.pre.0 in
+    (record { symbols = fit_symbols l fit; settled = start.pre.1 }, fit_relocs l fit)
 
 returns-4 : tie.Need-returns-4
-unfolding whyNoOutput
+unfolding why_no_output
 returns-4 c =
     let after-sum : tie.After-sum = search in
     let else1 : tie.Else1 = search in
@@ -70,7 +70,7 @@ returns-4 c =
     (accepts _ after-labels-move.all-labels-move.ensures else3.if3.left (refuses _ after-all-hold.all_hold.ensures c.if4.true)))
 
 returns-5 : tie.Need-returns-5
-unfolding whyNoOutput
+unfolding why_no_output
 returns-5 c =
     let after-sum : tie.After-sum = search in
     let else1 : tie.Else1 = search in

@@ -1,5 +1,5 @@
 -- `no_room` meets its contract: 11, 17, 18 and 23.
-use Rattle.join.specs.Join.{whyNoRoom}
+use Rattle.join.specs.Join.{why_no_room}
 use Rattle.join.proofs.Answers.{answers, leaves}
 use Rattle.join.proofs.why.no_room.Statement.{statement}
 use Rattle.join.proofs.why.no_room.Tie as tie
@@ -10,7 +10,7 @@ no-table-requires c κs =
     start.pre.0
 
 returns : tie.Need-returns
-unfolding whyNoRoom
+unfolding why_no_room
 returns c =
     let after-no-table : tie.After-no-table = search in
     answers _ after-no-table.no_table.ensures c.if1.true
@@ -21,7 +21,7 @@ no-field-requires c κs =
     start.pre
 
 returns-2 : tie.Need-returns-2
-unfolding whyNoRoom
+unfolding why_no_room
 returns-2 c =
     let after-no-table : tie.After-no-table = search in
     let else1 : tie.Else1 = search in
@@ -34,7 +34,7 @@ no-output-requires c κs =
     start.pre
 
 returns-3 : tie.Need-returns-3
-unfolding whyNoRoom
+unfolding why_no_room
 returns-3 c =
     let after-no-table : tie.After-no-table = search in
     let else1 : tie.Else1 = search in

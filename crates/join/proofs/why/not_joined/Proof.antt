@@ -1,12 +1,12 @@
 -- `not_joined` meets its contract: each part in its order.
 use Rattle.std.proofs.Common.{sym, ◌∙◌, rules}
-use Rattle.join.specs.Join.{whyNotJoined}
+use Rattle.join.specs.Join.{why_not_joined}
 use Rattle.join.proofs.Answers.{answers, leaves}
 use Rattle.join.proofs.why.not_joined.Statement.{statement}
 use Rattle.join.proofs.why.not_joined.Tie as tie
 
 returns : tie.Need-returns
-unfolding whyNotJoined
+unfolding why_not_joined
 returns c =
     let after-unfit : tie.After-unfit = search in
     (answers _ after-unfit.unfit.ensures c.if1.true, λ e. absurd (c.if1.true e))
@@ -19,7 +19,7 @@ undefined-requires c κs =
     (sym after-unfit.unfit.ensures ∙ else1.if1.left, start.pre)
 
 returns-2 : tie.Need-returns-2
-unfolding whyNotJoined
+unfolding why_not_joined
 returns-2 c =
     let after-unfit : tie.After-unfit = search in
     let else1 : tie.Else1 = search in
@@ -35,7 +35,7 @@ no-room-requires c κs =
     (sym after-unfit.unfit.ensures ∙ else1.if1.left, after-undefined.undefined.ensures.1 else2.if2.left)
 
 returns-3 : tie.Need-returns-3
-unfolding whyNotJoined
+unfolding why_not_joined
 returns-3 c =
     let after-unfit : tie.After-unfit = search in
     let else1 : tie.Else1 = search in

@@ -2,9 +2,9 @@
 use Rattle.std.proofs.Common.{refl, arith, rules}
 use borrow.Author.Tests.{not-false}
 use Rattle.join.specs.Pieces.{Lent, lent_of}
-use Rattle.join.specs.Join.{whyUndefined}
+use Rattle.join.specs.Join.{why_undefined}
 use Rattle.join.proofs.Answers.{refuses, accepts}
-use Rattle.join.proofs.Fits.{unfit-passed, fit-symbols, fit-relocs}
+use Rattle.join.proofs.Fits.{unfit_passed, fit_symbols, fit_relocs}
 use Rattle.join.proofs.why.undefined.Statement.{statement}
 use Rattle.join.proofs.why.undefined.Tie as tie
 
@@ -13,10 +13,10 @@ settle-requires c κs =
     let start : tie.Start = search in
     let a = start.args in
     let l : Lent = lent_of a.pieces.now a.code.now a.labels.now a.relocs.now a.definitions.now in
-    (fit-symbols l (unfit-passed l start.pre.0), start.pre.1)
+    (fit_symbols l (unfit_passed l start.pre.0), start.pre.1)
 
 returns : tie.Need-returns
-unfolding whyUndefined
+unfolding why_undefined
 returns c =
     let after-settle : tie.After-settle = search in
     (refuses _ after-settle.settle.ensures.0 c.if1.true, λ e. absurd (omega arith))
@@ -28,11 +28,11 @@ all-hold-requires c κs =
     let else1 : tie.Else1 = search in
     let a = start.args in
     let l : Lent = lent_of a.pieces.now a.code.now a.labels.now a.relocs.now a.definitions.now in
-    let fit = unfit-passed l start.pre.0 in
-    (record { symbols = fit-symbols l fit; settled = after-settle.settle.ensures.1 (not-false _ else1.if1.left) }, fit-relocs l fit)
+    let fit = unfit_passed l start.pre.0 in
+    (record { symbols = fit_symbols l fit; settled = after-settle.settle.ensures.1 (not-false _ else1.if1.left) }, fit_relocs l fit)
 
 returns-2 : tie.Need-returns-2
-unfolding whyUndefined
+unfolding why_undefined
 returns-2 c =
     let after-settle : tie.After-settle = search in
     let else1 : tie.Else1 = search in
@@ -40,7 +40,7 @@ returns-2 c =
     (accepts _ after-settle.settle.ensures.0 else1.if1.left (refuses _ after-all-hold.all_hold.ensures c.if2.true), λ e. absurd (omega arith))
 
 returns-3 : tie.Need-returns-3
-unfolding whyUndefined
+unfolding why_undefined
 returns-3 c =
     let after-settle : tie.After-settle = search in
     let else1 : tie.Else1 = search in

@@ -2,20 +2,20 @@
 use Rattle.std.proofs.Common.{sym, refl, ◌∙◌, arith, rules}
 use borrow.Author.Tests.{not-false}
 use Rattle.join.specs.Pieces.{Lent, lent_of}
-use Rattle.join.specs.Join.{whyUnfit}
+use Rattle.join.specs.Join.{why_unfit}
 use Rattle.join.proofs.Answers.{refuses, accepts}
-use Rattle.join.proofs.Fits.{fits-some}
+use Rattle.join.proofs.Fits.{fits_some}
 use Rattle.join.proofs.why.unfit.Statement.{statement}
 use Rattle.join.proofs.why.unfit.Tie as tie
 
 returns : tie.Need-returns
-unfolding whyUnfit
+unfolding why_unfit
 returns c =
     let after-lent-fits : tie.After-lent-fits = search in
     refuses _ after-lent-fits.lent-fits.ensures c.if1.true
 
 returns-2 : tie.Need-returns-2
-unfolding whyUnfit
+unfolding why_unfit
 returns-2 c =
     let after-lent-fits : tie.After-lent-fits = search in
     let else1 : tie.Else1 = search in
@@ -29,10 +29,10 @@ same-arch-requires c κs =
     let else1 : tie.Else1 = search in
     let a = start.args in
     let l : Lent = lent_of a.pieces.now a.code.now a.labels.now a.relocs.now a.definitions.now in
-    (omega arith, fits-some l (sym after-lent-fits.lent-fits.ensures ∙ not-false _ else1.if1.left))
+    (omega arith, fits_some l (sym after-lent-fits.lent-fits.ensures ∙ not-false _ else1.if1.left))
 
 returns-3 : tie.Need-returns-3
-unfolding whyUnfit
+unfolding why_unfit
 returns-3 c =
     let after-lent-fits : tie.After-lent-fits = search in
     let else1 : tie.Else1 = search in
@@ -43,7 +43,7 @@ returns-3 c =
     (accepts _ after-within-limits.within-limits.ensures else2.if2.left (refuses _ after-same-arch.same-arch.ensures c.if3.true))
 
 returns-4 : tie.Need-returns-4
-unfolding whyUnfit
+unfolding why_unfit
 returns-4 c =
     let after-lent-fits : tie.After-lent-fits = search in
     let else1 : tie.Else1 = search in

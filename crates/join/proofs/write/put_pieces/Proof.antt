@@ -1,19 +1,19 @@
 -- `put_pieces` meets its contract: the pieces passed stand in the outputs.
 use Rattle.std.proofs.Common.{◌≡◌, ◌-◌, ◌≤◌, length, sym, refl, arith}
-use Rattle.seqs.proofs.Overwrites.{over-nil}
-use Rattle.join.specs.Pieces.{lent_of, cursorAt}
+use Rattle.seqs.proofs.Overwrites.{over_nil}
+use Rattle.join.specs.Pieces.{lent_of, cursor_at}
 use Rattle.join.specs.steps.Writes.{Puts, Joins}
 use Rattle.join.specs.Symbols.{find}
-use Rattle.join.specs.Join.{joinedLabels, remaining, countRemaining, image}
-use Rattle.join.proofs.Cursors.{cursor-none}
-use Rattle.join.proofs.Turns.{next-cursor}
-use Rattle.join.proofs.Putting.{Stands, output-length, labels_length, relocs-length, next-placed, next-puts, next-count, next-stands}
+use Rattle.join.specs.Join.{labels_joined, remaining, count_remaining, image}
+use Rattle.join.proofs.Cursors.{cursor_none}
+use Rattle.join.proofs.Turns.{next_cursor}
+use Rattle.join.proofs.Putting.{Stands, output_length, labels_length, relocs_length, next_placed, next_puts, next_count, next_stands}
 use Rattle.join.proofs.write.put_pieces.Statement.{statement}
 use Rattle.join.proofs.write.put_pieces.Tie as tie
 
 abbrev invariant-loop : tie.invariant-loop
 invariant-loop output₀ joined-labels₀ joined-relocs₀ table pieces code labels relocs definitions n cursor₀ at₀ k₀ output joined-labels joined-relocs cursor at k =
-    (k ≤ n) × (cursor ≡ cursorAt pieces k) × (at ≡ countRemaining pieces relocs k)
+    (k ≤ n) × (cursor ≡ cursor_at pieces k) × (at ≡ count_remaining pieces relocs k)
     × Stands (find pieces labels definitions n) (lent_of pieces code labels relocs definitions) output₀ joined-labels₀ joined-relocs₀ k output joined-labels joined-relocs
     × Joins (lent_of pieces code labels relocs definitions) n (length output₀) (length joined-labels₀) (length joined-relocs₀)
 
@@ -21,13 +21,13 @@ abbrev decreases-loop : tie.decreases-loop
 decreases-loop output₀ joined-labels₀ joined-relocs₀ table pieces code labels relocs definitions n cursor₀ at₀ k₀ output joined-labels joined-relocs cursor at k = n - k
 
 loop-holds : tie.Need-loop-init invariant-loop decreases-loop
-unfolding image joinedLabels remaining countRemaining
+unfolding image labels_joined remaining count_remaining
 loop-holds c =
     let start : tie.Start invariant-loop decreases-loop = search in (
       omega arith,
-      sym (cursor-none _),
+      sym (cursor_none _),
       refl,
-      record { coded = sym (over-nil _ 0); labelled = sym (over-nil _ 0); listed = sym (over-nil _ 0) },
+      record { coded = sym (over_nil _ 0); labelled = sym (over_nil _ 0); listed = sym (over_nil _ 0) },
       start.pre.0,
     )
 
@@ -64,13 +64,13 @@ puts : (c : tie.After-piece-at invariant-loop decreases-loop) → let a = (enter
     Puts (find a.pieces.now a.labels.now a.definitions.now a.n) (lent_of a.pieces.now a.code.now a.labels.now a.relocs.now a.definitions.now) c.piece-at.result (looped c).loop.cursor (looped c).loop.at (length a.output.now) (length a.joined-labels.now) (length a.joined-relocs.now)
 puts c =
     let v = (looped c).loop in
-    next-puts v.inv.4 (record { piece = c.piece-at.ensures; cursor = v.inv.1 }) (turned c).loop-test.true v.inv.2
+    next_puts v.inv.4 (record { piece = c.piece-at.ensures; cursor = v.inv.1 }) (turned c).loop-test.true v.inv.2
 
 put-filled-requires : tie.Need-put-filled-requires invariant-loop decreases-loop
 put-filled-requires c κs =
     let piece : tie.After-piece-at invariant-loop decreases-loop = search in
     let p = puts piece in
-    ((entered (looped piece)).pre.1, (p.placed, ((p.code, p.relocs), (omega (arith, p.output-room, output-length (looped piece).loop.inv.3), p.inside))))
+    ((entered (looped piece)).pre.1, (p.placed, ((p.code, p.relocs), (omega (arith, p.output-room, output_length (looped piece).loop.inv.3), p.inside))))
 
 put-labels-requires : tie.Need-put-labels-requires invariant-loop decreases-loop
 put-labels-requires c κs =
@@ -82,7 +82,7 @@ put-relocs-requires : tie.Need-put-relocs-requires invariant-loop decreases-loop
 put-relocs-requires c κs =
     let piece : tie.After-piece-at invariant-loop decreases-loop = search in
     let p = puts piece in
-    (p.placed, (p.relocs, (omega (arith, p.relocs-room, relocs-length (looped piece).loop.inv.3), p.relocs-move)))
+    (p.placed, (p.relocs, (omega (arith, p.relocs-room, relocs_length (looped piece).loop.inv.3), p.relocs-move)))
 
 after-requires : tie.Need-after-requires invariant-loop decreases-loop
 after-requires c κs =
@@ -90,7 +90,7 @@ after-requires c κs =
     let in-loop : tie.In-loop invariant-loop decreases-loop = search in
     let after-piece-at : tie.After-piece-at invariant-loop decreases-loop = search in
     let v = at-loop.loop in
-    let placed = next-placed v.inv.4 (record { piece = after-piece-at.piece-at.ensures; cursor = v.inv.1 }) in-loop.loop-test.taken in
+    let placed = next_placed v.inv.4 (record { piece = after-piece-at.piece-at.ensures; cursor = v.inv.1 }) in-loop.loop-test.taken in
     (placed.fits, placed.near)
 
 add-k : tie.Need-overflow-add-k invariant-loop decreases-loop
@@ -119,16 +119,16 @@ loop-again c =
     let within = in-loop.loop-test.taken in
     let put = after-put-relocs.put-relocs.ensures in (
       omega (arith, within),
-      next-cursor _ v.k piece v.inv.1 after-after.after.ensures.0,
-      next-count joins (record { piece = piece; cursor = v.inv.1 }) within v.inv.2 put.0,
-      next-stands joins (record { piece = piece; cursor = v.inv.1 }) within v.inv.3 v.inv.2 after-put-filled.put-filled.ensures after-put-labels.put-labels.ensures put.1,
+      next_cursor _ v.k piece v.inv.1 after-after.after.ensures.0,
+      next_count joins (record { piece = piece; cursor = v.inv.1 }) within v.inv.2 put.0,
+      next_stands joins (record { piece = piece; cursor = v.inv.1 }) within v.inv.3 v.inv.2 after-put-filled.put-filled.ensures after-put-labels.put-labels.ensures put.1,
       joins,
     )
 
 same_length : tie.Need-same-length invariant-loop decreases-loop
 same_length c =
     let at-loop : tie.At-loop invariant-loop decreases-loop = search in
-    output-length at-loop.loop.inv.3
+    output_length at-loop.loop.inv.3
 
 same-length-2 : tie.Need-same-length-2 invariant-loop decreases-loop
 same-length-2 c =
@@ -138,7 +138,7 @@ same-length-2 c =
 same-length-3 : tie.Need-same-length-3 invariant-loop decreases-loop
 same-length-3 c =
     let at-loop : tie.At-loop invariant-loop decreases-loop = search in
-    relocs-length at-loop.loop.inv.3
+    relocs_length at-loop.loop.inv.3
 
 returns : tie.Need-returns invariant-loop decreases-loop
 returns c =

@@ -1,33 +1,33 @@
 -- `put_relocs` meets its contract: those passed that remain stand there, moved.
 use Rattle.std.proofs.Common.{◌≡◌, ℕ, ◌+◌, ◌-◌, ◌*◌, ◌≤◌, not, length, sym, ap, ◌∙◌, arith, rules}
 use Rattle.seqs.specs.Over.{over}
-use Rattle.seqs.proofs.Counting.{none-counted, one-counted}
-use Rattle.seqs.proofs.Overwrites.{length_over, over-nil}
-use Rattle.words.specs.Words.{bytesOfAll}
-use Rattle.buffer.specs.Tables.{relocSize}
-use Rattle.join.specs.Join.{isFilled, pieceReloc, remainingIn, countRemainingIn}
-use Rattle.join.proofs.Writing.{one-reloc-more, count-grows}
+use Rattle.seqs.proofs.Counting.{none_counted, one_counted}
+use Rattle.seqs.proofs.Overwrites.{length_over, over_nil}
+use Rattle.words.specs.Words.{bytes_of_all}
+use Rattle.buffer.specs.Tables.{reloc_size}
+use Rattle.join.specs.Join.{is_filled, piece_reloc, remaining_in, count_remaining_in}
+use Rattle.join.proofs.Writing.{one_reloc_more, count_grows}
 use Rattle.join.proofs.write.put_relocs.Statement.{statement}
 use Rattle.join.proofs.write.put_relocs.Tie as tie
 
 abbrev invariant-loop : tie.invariant-loop
-invariant-loop joined₀ relocs piece cursor at m i₀ j₀ joined i j = (j ≤ m) × (i ≡ at + countRemainingIn relocs piece cursor j) × (joined ≡ over joined₀ (at * relocSize) (bytesOfAll (remainingIn relocs piece cursor j)))
+invariant-loop joined₀ relocs piece cursor at m i₀ j₀ joined i j = (j ≤ m) × (i ≡ at + count_remaining_in relocs piece cursor j) × (joined ≡ over joined₀ (at * reloc_size) (bytes_of_all (remaining_in relocs piece cursor j)))
 
 abbrev decreases-loop : tie.decreases-loop
 decreases-loop joined₀ relocs piece cursor at m i₀ j₀ joined i j = m - j
 
 loop-holds : tie.Need-loop-init invariant-loop decreases-loop
-unfolding countRemainingIn remainingIn
+unfolding count_remaining_in remaining_in
 loop-holds c =
     let start : tie.Start invariant-loop decreases-loop = search in
     let a = start.args in
-    (omega arith, omega (arith, none-counted (λ (i : ℕ). not (isFilled a.piece.arch (pieceReloc a.relocs.now a.cursor i)))), sym (over-nil _ _))
+    (omega arith, omega (arith, none_counted (λ (i : ℕ). not (is_filled a.piece.arch (piece_reloc a.relocs.now a.cursor i)))), sym (over_nil _ _))
 
 reloc-at-requires : tie.Need-reloc-at-requires invariant-loop decreases-loop
 reloc-at-requires c κs = omega arith
 
 put-remaining-requires : tie.Need-put-remaining-requires invariant-loop decreases-loop
-unfolding countRemainingIn
+unfolding count_remaining_in
 put-remaining-requires c κs =
     let after-reloc-at : tie.After-reloc-at invariant-loop decreases-loop = search in
     let at-loop : tie.At-loop invariant-loop decreases-loop = search in
@@ -35,9 +35,9 @@ put-remaining-requires c κs =
     let start : tie.Start invariant-loop decreases-loop = search in
     let a = start.args in
     let l = at-loop.loop in
-    let more = one-counted (λ (i : ℕ). not (isFilled a.piece.arch (pieceReloc a.relocs.now a.cursor i))) l.j in
-    let grows = count-grows a.relocs.now a.piece a.cursor (l.j + 1) a.piece.relocs (omega arith) in
-    let size = ap length l.inv.2 ∙ length_over a.joined.now (a.at * relocSize) (bytesOfAll (remainingIn a.relocs.now a.piece a.cursor l.j)) in (
+    let more = one_counted (λ (i : ℕ). not (is_filled a.piece.arch (piece_reloc a.relocs.now a.cursor i))) l.j in
+    let grows = count_grows a.relocs.now a.piece a.cursor (l.j + 1) a.piece.relocs (omega arith) in
+    let size = ap length l.inv.2 ∙ length_over a.joined.now (a.at * reloc_size) (bytes_of_all (remaining_in a.relocs.now a.piece a.cursor l.j)) in (
       start.pre.0,
       (
         rw after-reloc-at.reloc-at.ensures (omega (arith, size, more, grows, l.inv.1, start.pre.1.1.0)),
@@ -46,7 +46,7 @@ put-remaining-requires c κs =
     )
 
 loop-again : tie.Need-loop-preserved invariant-loop decreases-loop
-unfolding countRemainingIn
+unfolding count_remaining_in
 loop-again c =
     let after-put-remaining : tie.After-put-remaining invariant-loop decreases-loop = search in
     let after-reloc-at : tie.After-reloc-at invariant-loop decreases-loop = search in
@@ -54,12 +54,12 @@ loop-again c =
     let start : tie.Start invariant-loop decreases-loop = search in
     let a = start.args in
     let l = at-loop.loop in
-    let more = one-counted (λ (i : ℕ). not (isFilled a.piece.arch (pieceReloc a.relocs.now a.cursor i))) l.j in
+    let more = one_counted (λ (i : ℕ). not (is_filled a.piece.arch (piece_reloc a.relocs.now a.cursor i))) l.j in
     let counted = rw after-reloc-at.reloc-at.ensures at after-put-remaining.put-remaining.ensures.0 in (
       omega arith,
       omega (arith, counted, more, l.inv.1),
       rw (after-put-remaining.put-remaining.ensures.1, after-reloc-at.reloc-at.ensures, l.inv.2, l.inv.1)
-          (one-reloc-more a.joined.now a.relocs.now a.piece a.cursor a.at l.j),
+          (one_reloc_more a.joined.now a.relocs.now a.piece a.cursor a.at l.j),
     )
 
 same_length : tie.Need-same-length invariant-loop decreases-loop

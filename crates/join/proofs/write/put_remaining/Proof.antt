@@ -1,7 +1,7 @@
 -- `put_remaining` meets its contract: nothing is written of one that is filled.
 use Rattle.std.proofs.Common.{ℕ, sym, ◌∙◌, arith, rules}
-use Rattle.seqs.proofs.Picking.{yes-not, no-not}
-use Rattle.join.proofs.Writing.{filled-left, remaining-put}
+use Rattle.seqs.proofs.Picking.{yes_not, no_not}
+use Rattle.join.proofs.Writing.{filled_left, remaining_put}
 use Rattle.join.proofs.write.put_remaining.Statement.{statement}
 use Rattle.join.proofs.write.put_remaining.Tie as tie
 
@@ -11,7 +11,7 @@ returns c =
     let start : tie.Start = search in
     let a = start.args in
     let filled = sym after-is-filled.is-filled.ensures ∙ c.if1.true in
-    (omega (arith, no-not {A = ℕ} _ 1 0 filled), filled-left a.joined.now a.i a.piece a.cursor a.reloc filled)
+    (omega (arith, no_not {A = ℕ} _ 1 0 filled), filled_left a.joined.now a.i a.piece a.cursor a.reloc filled)
 
 cast-offset-2 : tie.Need-overflow-cast-offset-2
 cast-offset-2 c =
@@ -35,7 +35,7 @@ put-reloc-requires c κs =
     let after-is-filled : tie.After-is-filled = search in
     let start : tie.Start = search in
     let remains = sym after-is-filled.is-filled.ensures ∙ else1.if1.left in
-    omega (arith, start.pre.1.0, yes-not {A = ℕ} _ 1 0 remains)
+    omega (arith, start.pre.1.0, yes_not {A = ℕ} _ 1 0 remains)
 
 returns-2 : tie.Need-returns-2
 returns-2 c =
@@ -47,9 +47,9 @@ returns-2 c =
     let start : tie.Start = search in
     let a = start.args in
     let remains = sym after-is-filled.is-filled.ensures ∙ else1.if1.left in (
-      omega (arith, yes-not {A = ℕ} _ 1 0 remains),
+      omega (arith, yes_not {A = ℕ} _ 1 0 remains),
       after-put-reloc.put-reloc.ensures
-          ∙ remaining-put a.joined.now a.i a.piece a.cursor a.reloc remains after-base.base.result after-moved-target.moved-target.result
+          ∙ remaining_put a.joined.now a.i a.piece a.cursor a.reloc remains after-base.base.result after-moved-target.moved-target.result
           after-base.base.ensures.0
           after-moved-target.moved-target.ensures,
     )

@@ -63,4 +63,4 @@ module _ {M : Type 1} where
 
   pub close : Lts.Closed (Reads''.Asked, Reads''.Learnt, Reads'3.Asked, Reads'3.Learnt, Reads'.Asked, Reads'.Learnt) Reads.Pre Reads.Post M → Statement.statement M
   unfolding Code.routine Running.tables_of
-  close = λ closed 𝓤 𝓛 𝓜 𝓡. Written.close 2 Kinds.ps Kinds.r Reads.Ghost Reads.requires Reads.ensures Reads.pre_read Reads.Pinned Reads.Owned Reads.post_read record { M = M; 𝓤 = 𝓤; 𝓛 = 𝓛; 𝓜 = 𝓜; 𝓡 = 𝓡 } Code.env Key.name Code.function (Code.unfolded 𝓤 𝓛.H 𝓜 𝓡) (λ κs a g. tt) (λ κs. Reads.owns κs record { M = M; 𝓤 = 𝓤; 𝓛 = 𝓛; 𝓜 = 𝓜; 𝓡 = 𝓡 }) (Reads.passes record { M = M; 𝓤 = 𝓤; 𝓛 = 𝓛; 𝓜 = 𝓜; 𝓡 = 𝓡 }) λ g. closed 𝓤 𝓛 (Run.Over 𝓛 𝓜 𝓡 Code.env) (Reads''.known record { M = M; 𝓤 = 𝓤; 𝓛 = 𝓛; 𝓜 = 𝓜; 𝓡 = 𝓡 } Code.env Symbol'.name Symbol'.routine Code.calls-relax::event-at (Met'.met 𝓤 𝓛 𝓜 𝓡)) (Reads'3.known record { M = M; 𝓤 = 𝓤; 𝓛 = 𝓛; 𝓜 = 𝓜; 𝓡 = 𝓡 } Code.env Symbol''.name Symbol''.routine Code.calls-relax::event-end (Met''.met 𝓤 𝓛 𝓜 𝓡)) (Reads'.known record { M = M; 𝓤 = 𝓤; 𝓛 = 𝓛; 𝓜 = 𝓜; 𝓡 = 𝓡 } Code.env Symbol.name Symbol.routine Code.calls-layout::segment-at (Met.met 𝓤 𝓛 𝓜 𝓡))
+  close = λ closed 𝓤 𝓛 𝓜 𝓡. Written.close 2 Kinds.ps Kinds.r Reads.Ghost Reads.requires Reads.ensures Reads.pre_read Reads.Pinned Reads.Owned Reads.post_read record { M = M; 𝓤 = 𝓤; 𝓛 = 𝓛; 𝓜 = 𝓜; 𝓡 = 𝓡 } Code.env Key.name Code.function (Code.unfolded 𝓤 𝓛.H 𝓜 𝓡) (λ κs a g. tt) (λ κs. Reads.owns κs record { M = M; 𝓤 = 𝓤; 𝓛 = 𝓛; 𝓜 = 𝓜; 𝓡 = 𝓡 }) (Reads.passes record { M = M; 𝓤 = 𝓤; 𝓛 = 𝓛; 𝓜 = 𝓜; 𝓡 = 𝓡 }) λ g. closed 𝓤 𝓛 (Run.Over 𝓛 𝓜 𝓡 Code.env) (Reads''.known record { M = M; 𝓤 = 𝓤; 𝓛 = 𝓛; 𝓜 = 𝓜; 𝓡 = 𝓡 } Code.env Symbol'.name Symbol'.routine Code.calls-relax::event_at_lem (Met'.met 𝓤 𝓛 𝓜 𝓡)) (Reads'3.known record { M = M; 𝓤 = 𝓤; 𝓛 = 𝓛; 𝓜 = 𝓜; 𝓡 = 𝓡 } Code.env Symbol''.name Symbol''.routine Code.calls-relax::event-end (Met''.met 𝓤 𝓛 𝓜 𝓡)) (Reads'.known record { M = M; 𝓤 = 𝓤; 𝓛 = 𝓛; 𝓜 = 𝓜; 𝓡 = 𝓡 } Code.env Symbol.name Symbol.routine Code.calls-layout::segment_at_lem (Met.met 𝓤 𝓛 𝓜 𝓡))

@@ -1,6 +1,6 @@
 -- `call` meets its contract: every kind is in one of the five groups.
 use mathlib.Core.Path.{sym, ◌∙◌}
-use Rattle.sheet.proofs.Calling.{either_is, neither-is}
+use Rattle.sheet.proofs.Calling.{either_is, neither_is}
 use borrow.Author.Rules.{rules}
 use Rattle.sheet.proofs.calls.call.Statement.{statement}
 use Rattle.sheet.proofs.calls.call.Tie as tie
@@ -60,9 +60,9 @@ call-fields-requires c κs =
     let else1 : tie.Else1 = search in
     let after-is-code : tie.After-is-code = search in
     let start = start-from-after-is-code after-is-code in
-    let code = neither-is _ 1 4 (sym after-is-code.is_code.ensures ∙ else1.if1.left) in
-    let label = neither-is _ 2 7 (sym after-is-label.is-label.ensures ∙ else2.if2.left) in
-    let constant = neither-is _ 8 9 (sym after-is-constant.is-constant.ensures ∙ else4.if4.left) in
+    let code = neither_is _ 1 4 (sym after-is-code.is_code.ensures ∙ else1.if1.left) in
+    let label = neither_is _ 2 7 (sym after-is-label.is-label.ensures ∙ else2.if2.left) in
+    let constant = neither_is _ 8 9 (sym after-is-constant.is-constant.ensures ∙ else4.if4.left) in
     (start.pre.0, (code.0, label.0, else3.if3.left, code.1, label.1, constant.0, constant.1))
 
 returns-5 : tie.Need-returns-5

@@ -1,7 +1,7 @@
 -- `call_code` meets its contract.
 use mathlib.Core.Path.{sym, ◌∙◌}
 use native.Mathlib.Omega.{arith}
-use Rattle.sheet.proofs.Calling.{the-other, as-word, counted-bytes, as-default, as-most, bytes-called, align-called}
+use Rattle.sheet.proofs.Calling.{the_other, as_word, counted_bytes, as_default, as_most, bytes_called, align_called}
 use borrow.Author.Rules.{rules}
 use Rattle.sheet.proofs.calls.call_code.Statement.{statement}
 use Rattle.sheet.proofs.calls.call_code.Tie as tie
@@ -13,7 +13,7 @@ returns c =
     let then1 : tie.Then1 = search in
     let start : tie.Start = search in
     let a = start.args in
-    λ labels uses refs constants asked relocs. bytes-called a.b a.kind a.arguments.now a.code.now labels a.events.now uses refs constants asked relocs then1.if1.taken (counted-bytes _ _ start.pre.0 after-count-in.count-in.ensures) after-put-bytes.put-bytes.ensures
+    λ labels uses refs constants asked relocs. bytes_called a.b a.kind a.arguments.now a.code.now labels a.events.now uses refs constants asked relocs then1.if1.taken (counted_bytes _ _ start.pre.0 after-count-in.count-in.ensures) after-put-bytes.put-bytes.ensures
 
 returns-2 : tie.Need-returns-2
 returns-2 c =
@@ -24,7 +24,7 @@ returns-2 c =
     let else1 : tie.Else1 = search in
     let start : tie.Start = search in
     let a = start.args in
-    λ labels uses refs constants asked relocs. align-called a.b a.kind a.arguments.now a.code.now labels a.events.now uses refs constants asked relocs (the-other start.pre.1 else1.if1.left) (as-word multiple.word-at.result _ 0 multiple.word-at.ensures (omega arith)) (as-default a.arguments.now (sym most.word-at2.ensures ∙ default.if2.taken)) padded.try-align-to.ensures
+    λ labels uses refs constants asked relocs. align_called a.b a.kind a.arguments.now a.code.now labels a.events.now uses refs constants asked relocs (the_other start.pre.1 else1.if1.left) (as_word multiple.word-at.result _ 0 multiple.word-at.ensures (omega arith)) (as_default a.arguments.now (sym most.word-at2.ensures ∙ default.if2.taken)) padded.try-align-to.ensures
 
 returns-3 : tie.Need-returns-3
 returns-3 c =
@@ -35,7 +35,7 @@ returns-3 c =
     let else1 : tie.Else1 = search in
     let start : tie.Start = search in
     let a = start.args in
-    λ labels uses refs constants asked relocs. align-called a.b a.kind a.arguments.now a.code.now labels a.events.now uses refs constants asked relocs (the-other start.pre.1 else1.if1.left) (as-word multiple.word-at.result _ 0 multiple.word-at.ensures (omega arith)) (as-most most.word-at2.result a.arguments.now most.word-at2.ensures said.if2.left (omega arith)) padded.try-align-to-within.ensures
+    λ labels uses refs constants asked relocs. align_called a.b a.kind a.arguments.now a.code.now labels a.events.now uses refs constants asked relocs (the_other start.pre.1 else1.if1.left) (as_word multiple.word-at.result _ 0 multiple.word-at.ensures (omega arith)) (as_most most.word-at2.result a.arguments.now most.word-at2.ensures said.if2.left (omega arith)) padded.try-align-to-within.ensures
 
 pub call-code-spec : {M : Type 1} → statement M
 call-code-spec =

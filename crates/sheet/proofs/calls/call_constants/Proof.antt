@@ -1,6 +1,6 @@
 -- `call_constants` meets its contract.
 use native.Mathlib.Omega.{arith}
-use Rattle.sheet.proofs.Calling.{the-other, as-word, counted-bytes, constant-called, constant-label-called}
+use Rattle.sheet.proofs.Calling.{the_other, as_word, counted_bytes, constant_called, constant_label_called}
 use borrow.Author.Rules.{rules}
 use Rattle.sheet.proofs.calls.call_constants.Statement.{statement}
 use Rattle.sheet.proofs.calls.call_constants.Tie as tie
@@ -12,7 +12,7 @@ returns c =
     let then1 : tie.Then1 = search in
     let start : tie.Start = search in
     let a = start.args in
-    λ code events uses refs relocs. rw c.recorded.ensures (constant-called a.b a.kind a.arguments.now code a.labels.now events uses refs a.constants.now a.asked.now relocs then1.if1.taken (counted-bytes _ _ start.pre.0 after-count-in.count-in.ensures) after-add-constant.add-constant.ensures)
+    λ code events uses refs relocs. rw c.recorded.ensures (constant_called a.b a.kind a.arguments.now code a.labels.now events uses refs a.constants.now a.asked.now relocs then1.if1.taken (counted_bytes _ _ start.pre.0 after-count-in.count-in.ensures) after-add-constant.add-constant.ensures)
 
 returns-2 : tie.Need-returns-2
 returns-2 c =
@@ -21,7 +21,7 @@ returns-2 c =
     let else1 : tie.Else1 = search in
     let start : tie.Start = search in
     let a = start.args in
-    λ code events uses refs relocs. rw c.recorded2.ensures (constant-label-called a.b a.kind a.arguments.now code a.labels.now events uses refs a.constants.now a.asked.now relocs (the-other start.pre.1 else1.if1.left) (as-word after-word-at.word-at.result _ 0 after-word-at.word-at.ensures (omega arith)) after-get-label-for-constant.get-label-for-constant.ensures)
+    λ code events uses refs relocs. rw c.recorded2.ensures (constant_label_called a.b a.kind a.arguments.now code a.labels.now events uses refs a.constants.now a.asked.now relocs (the_other start.pre.1 else1.if1.left) (as_word after-word-at.word-at.result _ 0 after-word-at.word-at.ensures (omega arith)) after-get-label-for-constant.get-label-for-constant.ensures)
 
 pub call-constants-spec : {M : Type 1} → statement M
 call-constants-spec =

@@ -1,6 +1,6 @@
 -- `call_fields` meets its contract.
 use native.Mathlib.Omega.{arith}
-use Rattle.sheet.proofs.Calling.{as-word, as-signed, use-called, ref-called, relocation-called}
+use Rattle.sheet.proofs.Calling.{as_word, as_signed, use_called, ref_called, relocation_called}
 use borrow.Author.Rules.{rules}
 use Rattle.sheet.proofs.calls.call_fields.Statement.{statement}
 use Rattle.sheet.proofs.calls.call_fields.Tie as tie
@@ -14,7 +14,7 @@ returns c =
     let after-word-at : tie.After-word-at = search in
     let start : tie.Start = search in
     let a = start.args in
-    λ code events constants asked. use-called a.b a.kind a.arguments.now code a.labels.now events a.uses.now a.refs.now constants asked a.relocs.now then1.if1.taken (as-word after-word-at.word-at.result _ 0 after-word-at.word-at.ensures (omega arith)) (as-word after-word-at2.word-at2.result _ 1 after-word-at2.word-at2.ensures (omega arith)) (as-word after-word-at3.word-at3.result _ 2 after-word-at3.word-at3.ensures (omega arith)) after-use-label-at-offset.use-label-at-offset.ensures
+    λ code events constants asked. use_called a.b a.kind a.arguments.now code a.labels.now events a.uses.now a.refs.now constants asked a.relocs.now then1.if1.taken (as_word after-word-at.word-at.result _ 0 after-word-at.word-at.ensures (omega arith)) (as_word after-word-at2.word-at2.result _ 1 after-word-at2.word-at2.ensures (omega arith)) (as_word after-word-at3.word-at3.result _ 2 after-word-at3.word-at3.ensures (omega arith)) after-use-label-at-offset.use-label-at-offset.ensures
 
 returns-2 : tie.Need-returns-2
 returns-2 c =
@@ -26,7 +26,7 @@ returns-2 c =
     let after-word-at : tie.After-word-at = search in
     let start : tie.Start = search in
     let a = start.args in
-    λ code events constants asked. ref-called a.b a.kind a.arguments.now code a.labels.now events a.uses.now a.refs.now constants asked a.relocs.now then2.if2.taken (as-word after-word-at.word-at.result _ 0 after-word-at.word-at.ensures (omega arith)) (as-word after-word-at2.word-at2.result _ 1 after-word-at2.word-at2.ensures (omega arith)) (as-word after-word-at3.word-at3.result _ 2 after-word-at3.word-at3.ensures (omega arith)) (as-word after-word-at4.word-at4.result _ 3 after-word-at4.word-at4.ensures (omega arith)) after-record-label-ref.record-label-ref.ensures
+    λ code events constants asked. ref_called a.b a.kind a.arguments.now code a.labels.now events a.uses.now a.refs.now constants asked a.relocs.now then2.if2.taken (as_word after-word-at.word-at.result _ 0 after-word-at.word-at.ensures (omega arith)) (as_word after-word-at2.word-at2.result _ 1 after-word-at2.word-at2.ensures (omega arith)) (as_word after-word-at3.word-at3.result _ 2 after-word-at3.word-at3.ensures (omega arith)) (as_word after-word-at4.word-at4.result _ 3 after-word-at4.word-at4.ensures (omega arith)) after-record-label-ref.record-label-ref.ensures
 
 abbrev entered : tie.After-word-at → tie.Start
 entered c = search
@@ -43,7 +43,7 @@ returns-3 c =
     let after-word-at : tie.After-word-at = search in
     let start = entered after-word-at in
     let a = start.args in
-    λ code events constants asked. relocation-called a.b a.kind a.arguments.now code a.labels.now events a.uses.now a.refs.now constants asked a.relocs.now start.pre.1 else1.if1.left else2.if2.left (as-word after-word-at.word-at.result _ 0 after-word-at.word-at.ensures (omega arith)) (as-word after-word-at2.word-at2.result _ 1 after-word-at2.word-at2.ensures (omega arith)) (as-word after-word-at3.word-at3.result _ 2 after-word-at3.word-at3.ensures (omega arith)) (as-signed after-sign-extend-32.sign-extend-32.result after-word-at4.word-at4.result _ 3 after-sign-extend-32.sign-extend-32.ensures after-word-at4.word-at4.ensures (omega arith)) after-add-reloc-at-offset.add-reloc-at-offset.ensures
+    λ code events constants asked. relocation_called a.b a.kind a.arguments.now code a.labels.now events a.uses.now a.refs.now constants asked a.relocs.now start.pre.1 else1.if1.left else2.if2.left (as_word after-word-at.word-at.result _ 0 after-word-at.word-at.ensures (omega arith)) (as_word after-word-at2.word-at2.result _ 1 after-word-at2.word-at2.ensures (omega arith)) (as_word after-word-at3.word-at3.result _ 2 after-word-at3.word-at3.ensures (omega arith)) (as_signed after-sign-extend-32.sign-extend-32.result after-word-at4.word-at4.result _ 3 after-sign-extend-32.sign-extend-32.ensures after-word-at4.word-at4.ensures (omega arith)) after-add-reloc-at-offset.add-reloc-at-offset.ensures
 
 pub call-fields-spec : {M : Type 1} → statement M
 call-fields-spec =

@@ -4,19 +4,19 @@ use mathlib.Core.Path.{◌≡◌, refl, ◌∙◌}
 use Prim.Native.Nat.{◌-◌, ◌≤◌}
 use native.Mathlib.Omega.{arith}
 use Rattle.buffer.specs.State.{none}
-use Rattle.buffer.specs.steps.Below.{greatestBelow}
+use Rattle.buffer.specs.steps.Below.{greatest_below}
 use Rattle.buffer.proofs.Below.{below_step}
 use Rattle.sheet_form.proofs.bound.greatest_of.Statement.{statement}
 use Rattle.sheet_form.proofs.bound.greatest_of.Tie as tie
 
 abbrev invariant-loop : tie.invariant-loop
-invariant-loop labels n most₀ i₀ most i = (i ≤ n) × (most ≡ greatestBelow labels i none)
+invariant-loop labels n most₀ i₀ most i = (i ≤ n) × (most ≡ greatest_below labels i none)
 
 abbrev decreases-loop : tie.decreases-loop
 decreases-loop labels n most₀ i₀ most i = n - i
 
 loop-holds : tie.Need-loop-init invariant-loop decreases-loop
-unfolding greatestBelow
+unfolding greatest_below
 loop-holds c = (omega arith, refl)
 
 loop-again : tie.Need-loop-preserved invariant-loop decreases-loop

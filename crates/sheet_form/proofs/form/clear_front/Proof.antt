@@ -8,7 +8,7 @@ use lib.Dec.{eqb}
 use lib.ListN.{length, get_or}
 use Rattle.seqs.specs.Every.{all}
 use Rattle.seqs.proofs.Every.{all_none}
-use Rattle.sheet_form.proofs.Forming.{word-clear}
+use Rattle.sheet_form.proofs.Forming.{word_clear}
 use Rattle.sheet_form.proofs.form.clear_front.Statement.{statement}
 use Rattle.sheet_form.proofs.form.clear_front.Tie as tie
 
@@ -26,7 +26,7 @@ loop-again c =
     let read : tie.After-word-at invariant-loop decreases-loop = search in
     let at-loop : tie.At-loop invariant-loop decreases-loop = search in
     let start : tie.Start invariant-loop decreases-loop = search in
-    (omega arith, word-clear start.args.part.now at-loop.loop.i (omega arith) (sym read.word-at.ensures ∙ c.if1.false) at-loop.loop.inv.1)
+    (omega arith, word_clear start.args.part.now at-loop.loop.i (omega arith) (sym read.word-at.ensures ∙ c.if1.false) at-loop.loop.inv.1)
 
 pub clear-front-spec : {M : Type 1} → statement M
 clear-front-spec =

@@ -1,6 +1,6 @@
 -- `in_range` meets its contract.
 use mathlib.Core.Path.{sym, ◌∙◌}
-use Rattle.seqs.proofs.Picking.{pick_yes, pick_no, yes-eq, no_eq}
+use Rattle.seqs.proofs.Picking.{pick_yes, pick_no, yes_eq, no_eq}
 use Rattle.sheet_form.specs.Form.{in_range}
 use borrow.Author.Rules.{rules}
 use Rattle.sheet_form.proofs.form.in_range.Statement.{statement}
@@ -30,7 +30,7 @@ returns-3 c =
     let after-has-code : tie.After-has-code = search in
     let else1 : tie.Else1 = search in
     let after-is-counted : tie.After-is-counted = search in
-    rw c.word-at3.ensures (sym (pick_no _ _ _ (sym after-is-counted.is-counted.ensures ∙ else1.if1.left) ∙ (pick_no _ _ _ (sym after-has-code.has_code.ensures ∙ else2.if2.left) ∙ yes-eq _ 10 _ _ then3.if3.taken)))
+    rw c.word-at3.ensures (sym (pick_no _ _ _ (sym after-is-counted.is-counted.ensures ∙ else1.if1.left) ∙ (pick_no _ _ _ (sym after-has-code.has_code.ensures ∙ else2.if2.left) ∙ yes_eq _ 10 _ _ then3.if3.taken)))
 
 returns-4 : tie.Need-returns-4
 unfolding in_range

@@ -6,8 +6,8 @@ use native.Mathlib.Omega.{arith}
 use lib.Dec.{eqb}
 use lib.ListN.{length, get_or}
 use borrow.Author.Tests.{eq-eqb, ne_eqb}
-use Rattle.seqs.proofs.Every.{every-all}
-use Rattle.seqs.proofs.Scans.{AllPassed, pass-one, pass-fails, pass_all}
+use Rattle.seqs.proofs.Every.{every_all}
+use Rattle.seqs.proofs.Scans.{AllPassed, pass_one, pass_fails, pass_all}
 use borrow.Author.Rules.{rules}
 use Rattle.sheet_form.proofs.form.is_clear.Statement.{statement}
 use Rattle.sheet_form.proofs.form.is_clear.Tie as tie
@@ -24,17 +24,17 @@ loop-holds c = record { within = c.clear-front.ensures.0; holds = c.clear-front.
 returns : tie.Need-returns invariant-loop decreases-loop
 returns c =
     let at-loop : tie.At-loop invariant-loop decreases-loop = search in
-    rw (every-all (λ (x : ℕ). eqb x 0) _ 0) (pass-fails at-loop.loop.inv (omega arith) refl (ap not (ne_eqb _ 0 c.if1.true)))
+    rw (every_all (λ (x : ℕ). eqb x 0) _ 0) (pass_fails at-loop.loop.inv (omega arith) refl (ap not (ne_eqb _ 0 c.if1.true)))
 
 loop-again : tie.Need-loop-preserved invariant-loop decreases-loop
 loop-again c =
     let at-loop : tie.At-loop invariant-loop decreases-loop = search in
-    pass-one at-loop.loop.inv (omega arith) refl (ap not (eq-eqb _ 0 c.if1.false))
+    pass_one at-loop.loop.inv (omega arith) refl (ap not (eq-eqb _ 0 c.if1.false))
 
 returns-2 : tie.Need-returns-2 invariant-loop decreases-loop
 returns-2 c =
     let at-loop : tie.At-loop invariant-loop decreases-loop = search in
-    rw (every-all (λ (x : ℕ). eqb x 0) _ 0) (pass_all at-loop.loop.inv (omega arith))
+    rw (every_all (λ (x : ℕ). eqb x 0) _ 0) (pass_all at-loop.loop.inv (omega arith))
 
 pub is-clear-spec : {M : Type 1} → statement M
 is-clear-spec =

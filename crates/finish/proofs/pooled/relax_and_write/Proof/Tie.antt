@@ -288,4 +288,4 @@ module _ {M : Type 1} where
 
   pub close : Lts.Closed (Reads'8.Asked, Reads'8.Learnt, Reads'7.Asked, Reads'7.Learnt, Reads'6.Asked, Reads'6.Learnt, Reads'.Asked, Reads'.Learnt, Reads'4.Asked, Reads'4.Learnt, Reads''.Asked, Reads''.Learnt, Reads.Asked, Reads.Learnt, Reads'5.Asked, Reads'5.Learnt) Reads'3.Pre Reads'3.Post M → Statement.statement M
   unfolding Code.routine Running.tables_of
-  close = λ closed 𝓤 𝓛 𝓜 𝓡. Written.close 11 Kinds.ps Kinds.r Reads'3.Ghost Reads'3.requires Reads'3.ensures Reads'3.pre_read Reads'3.Pinned Reads'3.Owned Reads'3.post_read record { M = M; 𝓤 = 𝓤; 𝓛 = 𝓛; 𝓜 = 𝓜; 𝓡 = 𝓡 } Code.env Key.name Code.function (Code.unfolded 𝓤 𝓛.H 𝓜 𝓡) (λ κs a g. tt) (λ κs. Reads'3.owns κs record { M = M; 𝓤 = 𝓤; 𝓛 = 𝓛; 𝓜 = 𝓜; 𝓡 = 𝓡 }) (Reads'3.passes record { M = M; 𝓤 = 𝓤; 𝓛 = 𝓛; 𝓜 = 𝓜; 𝓡 = 𝓡 }) λ g. closed 𝓤 𝓛 (Run.Over 𝓛 𝓜 𝓡 Code.env) (Reads'8.known record { M = M; 𝓤 = 𝓤; 𝓛 = 𝓛; 𝓜 = 𝓜; 𝓡 = 𝓡 } Code.env Symbol'7.name Symbol'7.routine Code.calls-pool::pool-end (Met'7.met 𝓤 𝓛 𝓜 𝓡)) (Reads'7.known record { M = M; 𝓤 = 𝓤; 𝓛 = 𝓛; 𝓜 = 𝓜; 𝓡 = 𝓡 } Code.env Symbol'6.name Symbol'6.routine Code.calls-lookup::shift-for (Met'6.met 𝓤 𝓛 𝓜 𝓡)) (Reads'6.known record { M = M; 𝓤 = 𝓤; 𝓛 = 𝓛; 𝓜 = 𝓜; 𝓡 = 𝓡 } Code.env Symbol'5.name Symbol'5.routine Code.calls-layout::relax-jumps (Met'5.met 𝓤 𝓛 𝓜 𝓡)) (Reads'.known record { M = M; 𝓤 = 𝓤; 𝓛 = 𝓛; 𝓜 = 𝓜; 𝓡 = 𝓡 } Code.env Symbol'.name Symbol'.routine Code.calls-emit::refs-reach (Met'.met 𝓤 𝓛 𝓜 𝓡)) (Reads'4.known record { M = M; 𝓤 = 𝓤; 𝓛 = 𝓛; 𝓜 = 𝓜; 𝓡 = 𝓡 } Code.env Symbol'3.name Symbol'3.routine Code.calls-finish::pooled::why-not-written (Met'3.met 𝓤 𝓛 𝓜 𝓡)) (Reads''.known record { M = M; 𝓤 = 𝓤; 𝓛 = 𝓛; 𝓜 = 𝓜; 𝓡 = 𝓡 } Code.env Symbol''.name Symbol''.routine Code.calls-finish::pooled::refused (Met''.met 𝓤 𝓛 𝓜 𝓡)) (Reads.known record { M = M; 𝓤 = 𝓤; 𝓛 = 𝓛; 𝓜 = 𝓜; 𝓡 = 𝓡 } Code.env Symbol.name Symbol.routine Code.calls-emit::map-words (Met.met 𝓤 𝓛 𝓜 𝓡)) (Reads'5.known record { M = M; 𝓤 = 𝓤; 𝓛 = 𝓛; 𝓜 = 𝓜; 𝓡 = 𝓡 } Code.env Symbol'4.name Symbol'4.routine Code.calls-finish::pooled::write-relaxed (Met'4.met 𝓤 𝓛 𝓜 𝓡))
+  close = λ closed 𝓤 𝓛 𝓜 𝓡. Written.close 11 Kinds.ps Kinds.r Reads'3.Ghost Reads'3.requires Reads'3.ensures Reads'3.pre_read Reads'3.Pinned Reads'3.Owned Reads'3.post_read record { M = M; 𝓤 = 𝓤; 𝓛 = 𝓛; 𝓜 = 𝓜; 𝓡 = 𝓡 } Code.env Key.name Code.function (Code.unfolded 𝓤 𝓛.H 𝓜 𝓡) (λ κs a g. tt) (λ κs. Reads'3.owns κs record { M = M; 𝓤 = 𝓤; 𝓛 = 𝓛; 𝓜 = 𝓜; 𝓡 = 𝓡 }) (Reads'3.passes record { M = M; 𝓤 = 𝓤; 𝓛 = 𝓛; 𝓜 = 𝓜; 𝓡 = 𝓡 }) λ g. closed 𝓤 𝓛 (Run.Over 𝓛 𝓜 𝓡 Code.env) (Reads'8.known record { M = M; 𝓤 = 𝓤; 𝓛 = 𝓛; 𝓜 = 𝓜; 𝓡 = 𝓡 } Code.env Symbol'7.name Symbol'7.routine Code.calls-pool::pool_end (Met'7.met 𝓤 𝓛 𝓜 𝓡)) (Reads'7.known record { M = M; 𝓤 = 𝓤; 𝓛 = 𝓛; 𝓜 = 𝓜; 𝓡 = 𝓡 } Code.env Symbol'6.name Symbol'6.routine Code.calls-lookup::shift-for (Met'6.met 𝓤 𝓛 𝓜 𝓡)) (Reads'6.known record { M = M; 𝓤 = 𝓤; 𝓛 = 𝓛; 𝓜 = 𝓜; 𝓡 = 𝓡 } Code.env Symbol'5.name Symbol'5.routine Code.calls-layout::relax-jumps (Met'5.met 𝓤 𝓛 𝓜 𝓡)) (Reads'.known record { M = M; 𝓤 = 𝓤; 𝓛 = 𝓛; 𝓜 = 𝓜; 𝓡 = 𝓡 } Code.env Symbol'.name Symbol'.routine Code.calls-emit::refs-reach (Met'.met 𝓤 𝓛 𝓜 𝓡)) (Reads'4.known record { M = M; 𝓤 = 𝓤; 𝓛 = 𝓛; 𝓜 = 𝓜; 𝓡 = 𝓡 } Code.env Symbol'3.name Symbol'3.routine Code.calls-finish::pooled::why-not-written (Met'3.met 𝓤 𝓛 𝓜 𝓡)) (Reads''.known record { M = M; 𝓤 = 𝓤; 𝓛 = 𝓛; 𝓜 = 𝓜; 𝓡 = 𝓡 } Code.env Symbol''.name Symbol''.routine Code.calls-finish::pooled::refused (Met''.met 𝓤 𝓛 𝓜 𝓡)) (Reads.known record { M = M; 𝓤 = 𝓤; 𝓛 = 𝓛; 𝓜 = 𝓜; 𝓡 = 𝓡 } Code.env Symbol.name Symbol.routine Code.calls-emit::map-words (Met.met 𝓤 𝓛 𝓜 𝓡)) (Reads'5.known record { M = M; 𝓤 = 𝓤; 𝓛 = 𝓛; 𝓜 = 𝓜; 𝓡 = 𝓡 } Code.env Symbol'4.name Symbol'4.routine Code.calls-finish::pooled::write-relaxed (Met'4.met 𝓤 𝓛 𝓜 𝓡))
