@@ -54,8 +54,8 @@ impl CodeBuffer {
 
     // How many entries name the label.
     fn named(self, events: &[u8], uses: &[u8], refs: &[u8], relocs: &[u8], label: u32) -> u32
-        requires fact_1 { NamersFit self events.now uses.now refs.now relocs.now }
-        requires fact_2 { label < label_target }
+        requires namers_fit { NamersFit self events.now uses.now refs.now relocs.now }
+        requires in_range { label < label_target }
         ensures { result ≡ named self events.now uses.now refs.now relocs.now label }
     {
         let used = naming::naming(uses, self.uses as usize, USE_WORDS, 1, label);
@@ -75,8 +75,8 @@ impl CodeBuffer {
         relocs: &[u8],
         label: u32,
     ) -> u32
-        requires fact_1 { NamersFit self events.now uses.now refs.now relocs.now }
-        requires fact_2 { label < label_target }
+        requires namers_fit { NamersFit self events.now uses.now refs.now relocs.now }
+        requires in_range { label < label_target }
         ensures { result ≡ self.unresolved - settled self events.now uses.now refs.now relocs.now label }
     {
         if self.unresolved == 0 {
@@ -101,8 +101,8 @@ impl CodeBuffer {
         refs: &[u8],
         relocs: &[u8],
     ) -> u32
-        requires fact_1 { NamersFit self events.now uses.now refs.now relocs.now }
-        requires fact_2 { self.labels * label_size ≤ length labels.now }
+        requires namers_fit { NamersFit self events.now uses.now refs.now relocs.now }
+        requires labels_within { self.labels * label_size ≤ length labels.now }
         ensures { result ≡ open_count self labels.now events.now uses.now refs.now relocs.now }
     {
         let known = self.labels as usize;

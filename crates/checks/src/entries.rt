@@ -94,10 +94,10 @@ fn label_fits(
     shift: u32,
     i: usize,
 ) -> bool
-    requires fact_1 { i * label_size + label_size ≤ length labels.now }
-    requires fact_2 { n * event_size ≤ length events.now }
-    requires fact_3 { Ordered (start_at events.now) (end_at events.now) n }
-    requires fact_4 { Indexed index.now (start_at events.now) n shift }
+    requires labels_within { i * label_size + label_size ≤ length labels.now }
+    requires events_within { n * event_size ≤ length events.now }
+    requires ordered { Ordered (start_at events.now) (end_at events.now) n }
+    requires indexed { Indexed index.now (start_at events.now) n shift }
     ensures { result ≡ label_fits events.now n code (word_at labels.now i) }
 {
     let offset = words::word_at(labels, i);
@@ -119,10 +119,10 @@ fn each_label_fits(
     index: &[u32],
     shift: u32,
 ) -> bool
-    requires fact_1 { n * label_size ≤ length labels.now }
-    requires fact_2 { m * event_size ≤ length events.now }
-    requires fact_3 { Ordered (start_at events.now) (end_at events.now) m }
-    requires fact_4 { Indexed index.now (start_at events.now) m shift }
+    requires labels_within { n * label_size ≤ length labels.now }
+    requires events_within { m * event_size ≤ length events.now }
+    requires ordered { Ordered (start_at events.now) (end_at events.now) m }
+    requires indexed { Indexed index.now (start_at events.now) m shift }
     ensures { result ≡ labels_fit labels.now n events.now m code }
 {
     let mut i: usize = 0;
@@ -144,9 +144,9 @@ fn labels_fit_by(
     code: u32,
     index: &mut [u32],
 ) -> bool
-    requires fact_1 { n * label_size ≤ length labels.now }
-    requires fact_2 { (m * event_size ≤ length events.now) × (m ≤ most_keys) × (index_size ≤ length index.old) }
-    requires fact_3 { Ordered (start_at events.now) (end_at events.now) m }
+    requires labels_within { n * label_size ≤ length labels.now }
+    requires within { (m * event_size ≤ length events.now) × (m ≤ most_keys) × (index_size ≤ length index.old) }
+    requires ordered { Ordered (start_at events.now) (end_at events.now) m }
     ensures { result ≡ labels_fit labels.now n events.now m code }
 {
     let shift = lookup::shift_for(code, index.len());
@@ -181,9 +181,9 @@ fn many_labels_fit(
 
 // An index pays where there are many events and many labels, and a large one where there are very many.
 pub fn labels_fit(labels: &[u8], n: usize, events: &[u8], m: usize, code: u32) -> bool
-    requires fact_1 { n * label_size ≤ length labels.now }
-    requires fact_2 { m * event_size ≤ length events.now }
-    requires fact_3 { Ordered (start_at events.now) (end_at events.now) m }
+    requires labels_within { n * label_size ≤ length labels.now }
+    requires events_within { m * event_size ≤ length events.now }
+    requires ordered { Ordered (start_at events.now) (end_at events.now) m }
     ensures { result ≡ labels_fit labels.now n events.now m code }
 {
     if !lookup::pays(m, n) {
@@ -331,8 +331,8 @@ fn is_new(
     seen: &[bool],
     taken: &[bool],
 ) -> bool
-    requires fact_1 { i * asked_size + asked_size ≤ length asked.now }
-    requires fact_2 { Marking asked.now constants.now known i seen.now taken.now }
+    requires asked_within { i * asked_size + asked_size ≤ length asked.now }
+    requires marking { Marking asked.now constants.now known i seen.now taken.now }
     ensures { result ≡ new_at asked.now constants.now known i }
 {
     let constant = words::word_at(asked, i);
@@ -357,10 +357,10 @@ fn mark_asked(
     seen: &mut [bool],
     taken: &mut [bool],
 ) -> bool
-    requires fact_1 { n * asked_size ≤ length asked.now }
-    requires fact_2 { Marking asked.now constants.now known 0 seen.old taken.old }
-    ensures fact_1 { result ≡ all (new_at asked.now constants.now known) n }
-    ensures fact_2 { (result ≡ true → Marking asked.now constants.now known n seen.new taken.new) }
+    requires asked_within { n * asked_size ≤ length asked.now }
+    requires marking { Marking asked.now constants.now known 0 seen.old taken.old }
+    ensures value { result ≡ all (new_at asked.now constants.now known) n }
+    ensures marking { (result ≡ true → Marking asked.now constants.now known n seen.new taken.new) }
 {
     let mut i: usize = 0;
     while i < n {
@@ -378,8 +378,8 @@ fn mark_asked(
 
 // Whether constant `i` has no label or is marked.
 fn is_marked(constants: &[u8], seen: &[bool], i: usize) -> bool
-    requires fact_1 { i * constant_size + constant_size ≤ length constants.now }
-    requires fact_2 { i < length seen.now }
+    requires constants_within { i * constant_size + constant_size ≤ length constants.now }
+    requires seen_within { i < length seen.now }
     ensures { result ≡ unlabelled_or constants.now seen.now i }
 {
     let label = words::word_at(constants, i * buffer::CONSTANT_WORDS + 1);
@@ -388,8 +388,8 @@ fn is_marked(constants: &[u8], seen: &[bool], i: usize) -> bool
 
 // Whether every constant that has a label is marked.
 fn is_each_marked(constants: &[u8], n: u32, seen: &[bool]) -> bool
-    requires fact_1 { n * constant_size ≤ length constants.now }
-    requires fact_2 { n ≤ length seen.now }
+    requires constants_within { n * constant_size ≤ length constants.now }
+    requires seen_within { n ≤ length seen.now }
     ensures { result ≡ all (unlabelled_or constants.now seen.now) n }
 {
     let count = n as usize;
@@ -412,8 +412,8 @@ fn order_fits_by(
     seen: &mut [bool],
     taken: &mut [bool],
 ) -> bool
-    requires fact_1 { n * asked_size ≤ length asked.now }
-    requires fact_2 { Marking asked.now constants.now known 0 seen.old taken.old }
+    requires asked_within { n * asked_size ≤ length asked.now }
+    requires marking { Marking asked.now constants.now known 0 seen.old taken.old }
     ensures { result ≡ order_fits asked.now n constants.now known }
 {
     if !mark_asked(asked, n, constants, known, seen, taken) {
@@ -424,8 +424,8 @@ fn order_fits_by(
 
 // With few constants and labels a few marks are enough.
 fn small_order_fits(asked: &[u8], n: usize, constants: &[u8], known: u32) -> bool
-    requires fact_1 { (n * asked_size ≤ length asked.now) × (known ≤ few_marks) }
-    requires fact_2 { Labelled constants.now known few_marks }
+    requires within { (n * asked_size ≤ length asked.now) × (known ≤ few_marks) }
+    requires labelled { Labelled constants.now known few_marks }
     ensures { result ≡ order_fits asked.now n constants.now known }
 {
     let mut seen = [false; FEW_MARKS];
@@ -476,8 +476,8 @@ fn is_each_unlabelled(constants: &[u8], n: u32) -> bool
 // Whether the order of asking fits the constants. Where nothing is asked for nothing is marked, and clearing marks for 65,536 entries takes longer than all
 // else that a small recording asks.
 pub fn order_fits(asked: &[u8], n: usize, constants: &[u8], known: u32, labels: u32) -> bool
-    requires fact_1 { (n * asked_size ≤ length asked.now) × (known ≤ most_entries) × (labels ≤ most_entries) }
-    requires fact_2 { Labelled constants.now known labels }
+    requires within { (n * asked_size ≤ length asked.now) × (known ≤ most_entries) × (labels ≤ most_entries) }
+    requires labelled { Labelled constants.now known labels }
     ensures { result ≡ order_fits asked.now n constants.now known }
 {
     if n == 0 {

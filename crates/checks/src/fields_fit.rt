@@ -74,9 +74,9 @@ fn ref_clear(
     len: u32,
     i: usize,
 ) -> bool
-    requires fact_1 { (i * ref_size + ref_size ≤ length refs.now) × (n * event_size ≤ length events.now) × (len ≡ pool_start code constants.now asked.now m) }
-    requires fact_2 { Ordered (start_at events.now) (end_at events.now) n }
-    requires fact_3 { Placed labels.now constants.now asked.now code m }
+    requires within { (i * ref_size + ref_size ≤ length refs.now) × (n * event_size ≤ length events.now) × (len ≡ pool_start code constants.now asked.now m) }
+    requires ordered { Ordered (start_at events.now) (end_at events.now) n }
+    requires placed { Placed labels.now constants.now asked.now code m }
     ensures { result ≡ ref_clear refs.now events.now n code constants.now asked.now m i }
 {
     let offset = words::word_at(refs, i * buffer::REF_WORDS);
@@ -104,9 +104,9 @@ pub fn refs_clear(
     code: u32,
     len: u32,
 ) -> bool
-    requires fact_1 { (count * ref_size ≤ length refs.now) × (n * event_size ≤ length events.now) × (len ≡ pool_start code constants.now asked.now m) }
-    requires fact_2 { Ordered (start_at events.now) (end_at events.now) n }
-    requires fact_3 { Placed labels.now constants.now asked.now code m }
+    requires within { (count * ref_size ≤ length refs.now) × (n * event_size ≤ length events.now) × (len ≡ pool_start code constants.now asked.now m) }
+    requires ordered { Ordered (start_at events.now) (end_at events.now) n }
+    requires placed { Placed labels.now constants.now asked.now code m }
     ensures { result ≡ refs_clear refs.now count events.now n code constants.now asked.now m }
 {
     let mut i: usize = 0;
@@ -136,8 +136,8 @@ fn why_unreached(uses: &[u8], labels: &[u8], len: u32, i: usize) -> u32
 
 // The refusal of the first use that has one, or 0.
 pub fn why_uses(uses: &[u8], n: usize, labels: &[u8], len: u32) -> u32
-    requires fact_1 { n * use_size ≤ length uses.now }
-    requires fact_2 { Named (use_label uses.now) n labels.now }
+    requires uses_within { n * use_size ≤ length uses.now }
+    requires named { Named (use_label uses.now) n labels.now }
     ensures { result ≡ why_uses uses.now labels.now len n }
 {
     let mut i: usize = 0;

@@ -29,9 +29,9 @@ pub fn end_at(events: &[u8], j: usize) -> u64
 
 // How many of the first `n` events start before `to`: `first` of them do at least, and `last` at most.
 fn events_before(events: &[u8], n: usize, to: u64, first: usize, last: usize) -> usize
-    requires fact_1 { n * event_size ≤ length events.now }
-    requires fact_2 { Ordered (start_at events.now) (end_at events.now) n }
-    requires fact_3 { Halved (start_at events.now) n to first last }
+    requires events_within { n * event_size ≤ length events.now }
+    requires ordered { Ordered (start_at events.now) (end_at events.now) n }
+    requires halved { Halved (start_at events.now) n to first last }
     ensures { Before (start_at events.now) n to result }
 {
     let mut low = first;
@@ -50,9 +50,9 @@ fn events_before(events: &[u8], n: usize, to: u64, first: usize, last: usize) ->
 
 // Whether none of the first `n` events overlaps what lies between two offsets. Of the events `first` at least start before the second, and `last` at most.
 fn clear_among(events: &[u8], n: usize, from: u64, to: u64, first: usize, last: usize) -> bool
-    requires fact_1 { n * event_size ≤ length events.now }
-    requires fact_2 { Ordered (start_at events.now) (end_at events.now) n }
-    requires fact_3 { Halved (start_at events.now) n to first last }
+    requires events_within { n * event_size ≤ length events.now }
+    requires ordered { Ordered (start_at events.now) (end_at events.now) n }
+    requires halved { Halved (start_at events.now) n to first last }
     ensures { result ≡ clear_of_events events.now n from to }
 {
     let k = events_before(events, n, to, first, last);
@@ -64,8 +64,8 @@ fn clear_among(events: &[u8], n: usize, from: u64, to: u64, first: usize, last: 
 
 // The same, by a search among all the events.
 pub fn clear_of_events(events: &[u8], n: usize, from: u64, to: u64) -> bool
-    requires fact_1 { n * event_size ≤ length events.now }
-    requires fact_2 { Ordered (start_at events.now) (end_at events.now) n }
+    requires events_within { n * event_size ≤ length events.now }
+    requires ordered { Ordered (start_at events.now) (end_at events.now) n }
     ensures { result ≡ clear_of_events events.now n from to }
 {
     clear_among(events, n, from, to, 0, n)
@@ -73,8 +73,8 @@ pub fn clear_of_events(events: &[u8], n: usize, from: u64, to: u64) -> bool
 
 // Fills an index of the starts of the first `n` events.
 pub fn index_events(index: &mut [u32], shift: u32, events: &[u8], n: usize)
-    requires fact_1 { (index_size ≤ length index.old) × (shift < 32) × (n ≤ most_keys) × (n * event_size ≤ length events.now) }
-    requires fact_2 { Ordered (start_at events.now) (end_at events.now) n }
+    requires within { (index_size ≤ length index.old) × (shift < 32) × (n ≤ most_keys) × (n * event_size ≤ length events.now) }
+    requires ordered { Ordered (start_at events.now) (end_at events.now) n }
     ensures { Indexed index.new (start_at events.now) n shift }
 {
     let mut next: usize = 0;
@@ -90,9 +90,9 @@ pub fn index_events(index: &mut [u32], shift: u32, events: &[u8], n: usize)
 // Whether an offset lies strictly inside none of the events: the empty piece at the offset is clear of them. The index, if there is one, is that of their
 // starts.
 pub fn is_outside(events: &[u8], n: usize, index: &[u32], shift: u32, offset: u32) -> bool
-    requires fact_1 { n * event_size ≤ length events.now }
-    requires fact_2 { Ordered (start_at events.now) (end_at events.now) n }
-    requires fact_3 { Indexed index.now (start_at events.now) n shift }
+    requires events_within { n * event_size ≤ length events.now }
+    requires ordered { Ordered (start_at events.now) (end_at events.now) n }
+    requires indexed { Indexed index.now (start_at events.now) n shift }
     ensures { result ≡ outside events.now n offset }
 {
     let span = lookup::narrow(index, shift, n, offset);

@@ -74,8 +74,8 @@ fn rela_at(relas: &[u8], i: usize) -> Rela
 
 // Reads the first `n` entries into `table`.
 pub fn put_entries(table: &mut [u8], relas: &[u8], n: usize)
-    requires fact_1 { n * reloc_size ≤ length table.old }
-    requires fact_2 { n * rela_size ≤ length relas.now }
+    requires table_within { n * reloc_size ≤ length table.old }
+    requires relas_within { n * rela_size ≤ length relas.now }
     ensures { table.new ≡ over_words table.old (words_of_entries relas.now n) }
 {
     let mut i: usize = 0;

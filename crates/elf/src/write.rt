@@ -31,8 +31,8 @@ fn is_target_bound(labels: &[u8], count: u32, target: u32) -> bool
 }
 
 fn all_targets_bound(labels: &[u8], count: u32, relocs: &[u8], n: usize) -> bool
-    requires fact_1 { count * label_size ≤ length labels.now }
-    requires fact_2 { n * reloc_size ≤ length relocs.now }
+    requires labels_within { count * label_size ≤ length labels.now }
+    requires relocs_within { n * reloc_size ≤ length relocs.now }
     ensures { result ≡ all_targets_bound labels.now count relocs.now n }
 {
     let mut i: usize = 0;
@@ -77,8 +77,8 @@ fn leaves_signed(addend: u64, offset: u32) -> bool
 
 // 24 and 25, of entry `i`.
 fn why_no_rela(arch: u32, labels: &[u8], relocs: &[u8], i: usize) -> u32
-    requires fact_1 { i * reloc_size + reloc_size ≤ length relocs.now }
-    requires fact_2 { (label_target ≤ word_at relocs.now (i * reloc_words + 2) → (word_at relocs.now (i * reloc_words + 2) - label_target) * label_size + label_size ≤ length labels.now) }
+    requires relocs_within { i * reloc_size + reloc_size ≤ length relocs.now }
+    requires labels_within { (label_target ≤ word_at relocs.now (i * reloc_words + 2) → (word_at relocs.now (i * reloc_words + 2) - label_target) * label_size + label_size ≤ length labels.now) }
     ensures { result ≡ why_no_rela arch labels.now (reloc_at relocs.now i) }
 {
     let k = i * buffer::RELOC_WORDS;
@@ -94,8 +94,8 @@ fn why_no_rela(arch: u32, labels: &[u8], relocs: &[u8], i: usize) -> u32
 
 // The first of these numbers, of the first `n` entries.
 fn why_no_relas(arch: u32, labels: &[u8], relocs: &[u8], n: usize) -> u32
-    requires fact_1 { n * reloc_size ≤ length relocs.now }
-    requires fact_2 { TargetsNamed relocs.now n labels.now }
+    requires relocs_within { n * reloc_size ≤ length relocs.now }
+    requires targets_named { TargetsNamed relocs.now n labels.now }
     ensures { result ≡ why_no_relas arch labels.now relocs.now n }
 {
     let mut i: usize = 0;
@@ -176,8 +176,8 @@ fn symbol_of(target: u32, section: u32) -> u32
 
 // Relocation `i` as an entry.
 fn rela_of(arch: u32, labels: &[u8], section: u32, relocs: &[u8], i: usize) -> Rela
-    requires fact_1 { i * reloc_size + reloc_size ≤ length relocs.now }
-    requires fact_2 { (label_target ≤ word_at relocs.now (i * reloc_words + 2) → (word_at relocs.now (i * reloc_words + 2) - label_target) * label_size + label_size ≤ length labels.now) }
+    requires relocs_within { i * reloc_size + reloc_size ≤ length relocs.now }
+    requires labels_within { (label_target ≤ word_at relocs.now (i * reloc_words + 2) → (word_at relocs.now (i * reloc_words + 2) - label_target) * label_size + label_size ≤ length labels.now) }
     ensures { result ≡ rela_of arch labels.now section (reloc_at relocs.now i) }
 {
     let k = i * buffer::RELOC_WORDS;
@@ -208,9 +208,9 @@ fn put_rela(output: &mut [u8], i: usize, rela: Rela)
 
 // Writes the first `n` relocations.
 pub fn put_relas(output: &mut [u8], arch: u32, labels: &[u8], section: u32, relocs: &[u8], n: usize)
-    requires fact_1 { n * rela_size ≤ length output.old }
-    requires fact_2 { n * reloc_size ≤ length relocs.now }
-    requires fact_3 { TargetsNamed relocs.now n labels.now }
+    requires output_within { n * rela_size ≤ length output.old }
+    requires relocs_within { n * reloc_size ≤ length relocs.now }
+    requires targets_named { TargetsNamed relocs.now n labels.now }
     ensures { output.new ≡ over_words output.old (words_of_relas arch labels.now section relocs.now n) }
 {
     let mut i: usize = 0;

@@ -33,8 +33,8 @@ fn short_opcode(cc: Condition) -> u8
 }
 
 fn put_short(part: &mut [u8], cc: Condition)
-    requires fact_1 { Encodes cc }
-    requires fact_2 { length part.old ≡ length (short_form cc) }
+    requires encodes { Encodes cc }
+    requires part_length { length part.old ≡ length (short_form cc) }
     ensures { part.new ≡ short_form cc }
 {
     buffer::bytes::clear(part);
@@ -42,8 +42,8 @@ fn put_short(part: &mut [u8], cc: Condition)
 }
 
 fn put_long(part: &mut [u8], cc: Condition)
-    requires fact_1 { Encodes cc }
-    requires fact_2 { length part.old ≡ length (long_form cc) }
+    requires encodes { Encodes cc }
+    requires part_length { length part.old ≡ length (long_form cc) }
     ensures { part.new ≡ long_form cc }
 {
     buffer::bytes::clear(part);
@@ -60,8 +60,8 @@ fn put_long(part: &mut [u8], cc: Condition)
 
 // Fills `part` with a jump whose displacement is 0.
 pub fn put_jump(part: &mut [u8], cc: Condition, long: bool)
-    requires fact_1 { Encodes cc }
-    requires fact_2 { length part.old ≡ length (jump_form cc long) }
+    requires encodes { Encodes cc }
+    requires part_length { length part.old ≡ length (jump_form cc long) }
     ensures { part.new ≡ jump_form cc long }
 {
     if long {
@@ -86,8 +86,8 @@ fn put_branch(part: &mut [u8], code: u32, word: u32, long: bool)
 
 // Fills `part` with what an event takes, whatever its recorded bytes; of a branch these are `word`.
 fn put_event(part: &mut [u8], event: LayoutEvent, word: u32, long: bool, at: u32, arch: u32)
-    requires fact_1 { Writes event }
-    requires fact_2 { length part.old ≡ width event long at }
+    requires writes { Writes event }
+    requires part_length { length part.old ≡ width event long at }
     ensures { (bytes : List ℕ) → Keeps event word bytes → part.new ≡ form arch event bytes long at }
 {
     match event {
@@ -138,8 +138,8 @@ fn emit_event(
     segment: Segment,
     arch: u32,
 )
-    requires fact_1 { Writes event }
-    requires fact_2 { (segment.new_end ≡ segment.new_start + width event long segment.new_start) × (segment.new_end ≤ length output.old) }
+    requires writes { Writes event }
+    requires within { (segment.new_end ≡ segment.new_start + width event long segment.new_start) × (segment.new_end ≤ length output.old) }
     ensures { (bytes : List ℕ) → Keeps event word bytes → output.new ≡ over output.old segment.new_start (form arch event bytes long segment.new_start) }
 {
     let start = segment.new_start;
@@ -166,9 +166,9 @@ fn emit_segment(
     new: usize,
     arch: u32,
 )
-    requires fact_1 { (i * event_size + event_size ≤ length events.now) × Writes (event_at events.now i) × (end_of (event_at events.now i) ≤ length code.now) }
-    requires fact_2 { (old ≤ segment.old_start) × (segment.old_start ≤ length code.now) × (new + (segment.old_start - old) ≤ length output.old) }
-    requires fact_3 { (segment.new_end ≡ segment.new_start + width (event_at events.now i) long segment.new_start) × (segment.new_end ≤ length output.old) }
+    requires within { (i * event_size + event_size ≤ length events.now) × Writes (event_at events.now i) × (end_of (event_at events.now i) ≤ length code.now) }
+    requires within_2 { (old ≤ segment.old_start) × (segment.old_start ≤ length code.now) × (new + (segment.old_start - old) ≤ length output.old) }
+    requires within_3 { (segment.new_end ≡ segment.new_start + width (event_at events.now i) long segment.new_start) × (segment.new_end ≤ length output.old) }
     ensures { output.new ≡ over (over output.old new (take (segment.old_start - old) (drop old code.now))) segment.new_start (form_at arch code.now (event_at events.now i) long segment.new_start) }
 {
     let event = relax::event_at(events, i);
@@ -285,9 +285,9 @@ pub fn patch_refs(
     count: usize,
     n: usize,
 )
-    requires fact_1 { Rising segments.now n }
-    requires fact_2 { Indexed index.now (start_at segments.now) n shift }
-    requires fact_3 { RefsFit (length output.old) refs.now labels.now segments.now n count }
+    requires rising { Rising segments.now n }
+    requires indexed { Indexed index.now (start_at segments.now) n shift }
+    requires refs_fit { RefsFit (length output.old) refs.now labels.now segments.now n count }
     ensures { output.new ≡ refs_filled output.old refs.now labels.now segments.now n count }
 {
     let mut i: usize = 0;
@@ -336,9 +336,9 @@ pub fn refs_reach(
     count: usize,
     n: usize,
 ) -> bool
-    requires fact_1 { Rising segments.now n }
-    requires fact_2 { Indexed index.now (start_at segments.now) n shift }
-    requires fact_3 { RefsKnown refs.now labels.now count }
+    requires rising { Rising segments.now n }
+    requires indexed { Indexed index.now (start_at segments.now) n shift }
+    requires refs_known { RefsKnown refs.now labels.now count }
     ensures { result ≡ refs_reach refs.now labels.now segments.now n count }
 {
     let mut i: usize = 0;
@@ -361,8 +361,8 @@ pub fn refs_reach(
 
 // A jump's displacement is a field: its last byte where it is short, else its last four. `start` is the jump's.
 fn patch_displacement(output: &mut [u8], jump: RelaxableJump, long: bool, start: u32, label: u32)
-    requires fact_1 { start + (field_of (branch_of jump) long).place + patch_size (field_of (branch_of jump) long).kind ≤ length output.old }
-    requires fact_2 { start ≤ offset_bound }
+    requires output_within { start + (field_of (branch_of jump) long).place + patch_size (field_of (branch_of jump) long).kind ≤ length output.old }
+    requires in_bound { start ≤ offset_bound }
     ensures { output.new ≡ fill_field (Use (field_of (branch_of jump) long).kind) (start + (field_of (branch_of jump) long).place) label 0 output.old }
 {
     if long {
@@ -376,8 +376,8 @@ fn patch_displacement(output: &mut [u8], jump: RelaxableJump, long: bool, start:
 
 // A branch's displacement is in its word, or in the B after its inverse. `start` is the branch's.
 fn patch_branch(output: &mut [u8], branch: FarBranch, long: bool, start: u32, label: u32)
-    requires fact_1 { start + (field_of (far_branch_of branch) long).place + patch_size (field_of (far_branch_of branch) long).kind ≤ length output.old }
-    requires fact_2 { start ≤ offset_bound }
+    requires output_within { start + (field_of (far_branch_of branch) long).place + patch_size (field_of (far_branch_of branch) long).kind ≤ length output.old }
+    requires in_bound { start ≤ offset_bound }
     ensures { output.new ≡ fill_field (Use (field_of (far_branch_of branch) long).kind) (start + (field_of (far_branch_of branch) long).place) label 0 output.old }
 {
     if long {
@@ -449,9 +449,9 @@ pub fn map_words(
     count: usize,
     n: usize,
 )
-    requires fact_1 { Rising segments.now n }
-    requires fact_2 { Indexed index.now (start_at segments.now) n shift }
-    requires fact_3 { WordsFit table.old stride count }
+    requires rising { Rising segments.now n }
+    requires indexed { Indexed index.now (start_at segments.now) n shift }
+    requires words_fit { WordsFit table.old stride count }
     ensures { table.new ≡ mapped_words (map_offset (take n segments.now)) table.old stride count }
 {
     let mut i: usize = 0;

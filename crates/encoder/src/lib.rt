@@ -1,4 +1,6 @@
 // x86 padding: NOP instructions, and how many bytes an alignment takes. After asmkit's x86/encoder.rs (see NOTICE).
+#![tactic(auto)]
+
 ghost use Rattle.std.specs.Prelude.{◌≡◌, ◌≤◌, length, take};
 ghost use Rattle.encoder.specs.Nops.{form, nops};
 ghost use Rattle.encoder.specs.Padding.{padding_length, padding_within};

@@ -141,8 +141,8 @@ fn conclude(
     asked: &[u8],
     placed: Outcome,
 ) -> Finished
-    requires fact_1 { PoolFits constants.now asked.now b.asked }
-    requires fact_2 { PoolLabels labels.old constants.now asked.now b.asked }
+    requires pool_fits { PoolFits constants.now asked.now b.asked }
+    requires pool_labels { PoolLabels labels.old constants.now asked.now b.asked }
     ensures { (result, labels.new) ≡ concluded b constants.now asked.now placed labels.old }
 {
     if placed.refusal != 0 {

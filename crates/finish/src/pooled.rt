@@ -40,9 +40,9 @@ fn all_bound(
     refs: &[u8],
     relocs: &[u8],
 ) -> bool
-    requires fact_1 { b.labels * label_size ≤ length labels.now }
-    requires fact_2 { NamersFit b events.now uses.now refs.now relocs.now }
-    requires fact_3 { (b.unresolved ≡ 0 → open_count b labels.now events.now uses.now refs.now relocs.now ≡ 0) }
+    requires labels_within { b.labels * label_size ≤ length labels.now }
+    requires namers_fit { NamersFit b events.now uses.now refs.now relocs.now }
+    requires none_open { (b.unresolved ≡ 0 → open_count b labels.now events.now uses.now refs.now relocs.now ≡ 0) }
     ensures { result ≡ eqb (open_count b labels.now events.now uses.now refs.now relocs.now) 0 }
 {
     if b.unresolved == 0 {
@@ -115,8 +115,8 @@ pub(crate) fn write_relaxed(
     index: &[u32],
     shift: u32,
 )
-    requires fact_1 { Indexed index.now (start_at segments.now) (b.events + b.asked) shift }
-    requires fact_2 { Writing output.old code.now labels.now events.now refs.now constants.now asked.now long.now segments.now b.arch b.code b.events b.asked b.refs (end_of_runs b.arch code.now events.now long.now b.code b.events) }
+    requires indexed { Indexed index.now (start_at segments.now) (b.events + b.asked) shift }
+    requires writing { Writing output.old code.now labels.now events.now refs.now constants.now asked.now long.now segments.now b.arch b.code b.events b.asked b.refs (end_of_runs b.arch code.now events.now long.now b.code b.events) }
     ensures { output.new ≡ code_written b.arch output.old code.now labels.now events.now refs.now constants.now asked.now long.now segments.now b.code b.events b.asked b.refs }
 {
     let recorded = b.events as usize;
@@ -164,8 +164,8 @@ pub(crate) fn relax_and_write(
     long: &mut [bool],
     index: &mut [u32],
 ) -> Outcome
-    requires fact_1 { Layable code.now labels.old events.now refs.now constants.now asked.now relocs.old output.old (length segments.old) b.arch b.code b.labels b.events b.asked b.refs b.relocs }
-    requires fact_2 { long.old ≡ replicate (b.events + b.asked) false }
+    requires layable { Layable code.now labels.old events.now refs.now constants.now asked.now relocs.old output.old (length segments.old) b.arch b.code b.labels b.events b.asked b.refs b.relocs }
+    requires none_long { long.old ≡ replicate (b.events + b.asked) false }
     ensures { (us : List tables.Use) → (result, (labels.new, (relocs.new, (segments.new, output.new)))) ≡ relaxed (laid_pooled b.arch b.code (take b.code code.now) (tables.entries (word_at labels.old) b.labels) (tables.entries (event_at events.now) b.events) us (tables.entries (tables.ref_at refs.now) b.refs) constants.now asked.now b.asked) b.relocs labels.old relocs.old segments.old output.old }
 {
     let recorded = b.events as usize;
@@ -224,8 +224,8 @@ pub(crate) fn tiny_relaxed(
     segments: &mut [Segment],
     output: &mut [u8],
 ) -> Outcome
-    requires fact_1 { Layable code.now labels.old events.now refs.now constants.now asked.now relocs.old output.old (length segments.old) b.arch b.code b.labels b.events b.asked b.refs b.relocs }
-    requires fact_2 { b.events + b.asked < 24 }
+    requires layable { Layable code.now labels.old events.now refs.now constants.now asked.now relocs.old output.old (length segments.old) b.arch b.code b.labels b.events b.asked b.refs b.relocs }
+    requires in_range { b.events + b.asked < 24 }
     ensures { (us : List tables.Use) → (result, (labels.new, (relocs.new, (segments.new, output.new)))) ≡ relaxed (laid_pooled b.arch b.code (take b.code code.now) (tables.entries (word_at labels.old) b.labels) (tables.entries (event_at events.now) b.events) us (tables.entries (tables.ref_at refs.now) b.refs) constants.now asked.now b.asked) b.relocs labels.old relocs.old segments.old output.old }
 {
     let all = b.events as usize + b.asked as usize;
@@ -260,8 +260,8 @@ pub(crate) fn small_relaxed(
     segments: &mut [Segment],
     output: &mut [u8],
 ) -> Outcome
-    requires fact_1 { Layable code.now labels.old events.now refs.now constants.now asked.now relocs.old output.old (length segments.old) b.arch b.code b.labels b.events b.asked b.refs b.relocs }
-    requires fact_2 { b.events + b.asked ≤ few_marks }
+    requires layable { Layable code.now labels.old events.now refs.now constants.now asked.now relocs.old output.old (length segments.old) b.arch b.code b.labels b.events b.asked b.refs b.relocs }
+    requires in_bound { b.events + b.asked ≤ few_marks }
     ensures { (us : List tables.Use) → (result, (labels.new, (relocs.new, (segments.new, output.new)))) ≡ relaxed (laid_pooled b.arch b.code (take b.code code.now) (tables.entries (word_at labels.old) b.labels) (tables.entries (event_at events.now) b.events) us (tables.entries (tables.ref_at refs.now) b.refs) constants.now asked.now b.asked) b.relocs labels.old relocs.old segments.old output.old }
 {
     let all = b.events as usize + b.asked as usize;
@@ -384,8 +384,8 @@ pub(crate) fn relaxed(
 
 // 19 to 22: a use's field passes the code's end, or it can't reach; 23: the code exceeds the output.
 fn why_not_in_place(b: CodeBuffer, labels: &[u8], uses: &[u8], end: u32, output: usize) -> u32
-    requires fact_1 { b.uses * use_size ≤ length uses.now }
-    requires fact_2 { Named (use_label uses.now) b.uses labels.now }
+    requires uses_within { b.uses * use_size ≤ length uses.now }
+    requires named { Named (use_label uses.now) b.uses labels.now }
     ensures { result ≡ or_else (why_uses uses.now labels.now end b.uses) (first ((ltb output end, refusals.output_too_small) ∷ [])) }
 {
     let why = checks::fields_fit::why_uses(uses, b.uses as usize, labels, end);

@@ -20,8 +20,8 @@ fn label_moves(base: u64, offset: u32) -> bool
 
 // Whether every label of a piece has an offset in the whole, or is not bound.
 fn labels_move(labels: &[u8], piece: Piece, cursor: Cursor) -> bool
-    requires fact_1 { Placed piece cursor }
-    requires fact_2 { Labelled labels.now piece cursor }
+    requires placed { Placed piece cursor }
+    requires labelled { Labelled labels.now piece cursor }
     ensures { result ≡ labels_move labels.now piece cursor piece.labels }
 {
     let base = pieces::base(piece, cursor);
@@ -66,10 +66,10 @@ fn moved(base: u64, offset: u32) -> u32
 
 // Writes the labels of a piece, in their order behind those of the pieces before it.
 pub fn put_labels(joined: &mut [u8], labels: &[u8], piece: Piece, cursor: Cursor)
-    requires fact_1 { Placed piece cursor }
-    requires fact_2 { Labelled labels.now piece cursor }
-    requires fact_3 { Labelled joined.old piece cursor }
-    requires fact_4 { labels_move labels.now piece cursor piece.labels ≡ true }
+    requires placed { Placed piece cursor }
+    requires labelled { Labelled labels.now piece cursor }
+    requires labelled_2 { Labelled joined.old piece cursor }
+    requires labels_move { labels_move labels.now piece cursor piece.labels ≡ true }
     ensures { joined.new ≡ over joined.old (cursor.labels * label_size) (bytes_of_all (moved_labels labels.now piece cursor piece.labels)) }
 {
     let base = pieces::base(piece, cursor);

@@ -99,8 +99,8 @@ pub fn base(piece: Piece, cursor: Cursor) -> u64
 
 // The cursor behind a piece.
 pub fn after(piece: Piece, cursor: Cursor) -> Cursor
-    requires fact_1 { piece_fits piece ≡ true }
-    requires fact_2 { Near cursor }
+    requires piece_fits { piece_fits piece ≡ true }
+    requires near { Near cursor }
     ensures { (result ≡ after piece cursor) × ((k : ℕ) → NearBy k cursor → NearBy (k + 1) result) }
 {
     let len = piece.len;
@@ -124,9 +124,9 @@ pub const START: Cursor = Cursor {
 
 // The cursor behind the first `n` pieces.
 pub fn sum(pieces: &[u8], n: usize) -> Cursor
-    requires fact_1 { n * piece_size ≤ length pieces.now }
-    requires fact_2 { n ≤ most_pieces }
-    requires fact_3 { pieces_fit pieces.now n ≡ true }
+    requires pieces_within { n * piece_size ≤ length pieces.now }
+    requires in_bound { n ≤ most_pieces }
+    requires pieces_fit { pieces_fit pieces.now n ≡ true }
     ensures { (result ≡ cursor_at pieces.now n) × Near result }
 {
     let mut cursor = START;
@@ -193,8 +193,8 @@ fn all_have_arch(pieces: &[u8], arch: u32, n: usize) -> bool
 
 // Whether the first `n` pieces have the architecture of the first.
 pub fn same_arch(pieces: &[u8], n: usize) -> bool
-    requires fact_1 { n * piece_size ≤ length pieces.now }
-    requires fact_2 { 0 < n }
+    requires pieces_within { n * piece_size ≤ length pieces.now }
+    requires in_range { 0 < n }
     ensures { result ≡ same_arch pieces.now n }
 {
     let first = piece_at(pieces, 0);

@@ -116,8 +116,8 @@ fn filled_holds(
     cursor: Cursor,
     reloc: AsmReloc,
 ) -> bool
-    requires fact_1 { Resolves table.now pieces.now labels.now definitions.now n }
-    requires fact_2 { Placed piece cursor }
+    requires resolves { Resolves table.now pieces.now labels.now definitions.now n }
+    requires placed { Placed piece cursor }
     ensures { result ≡ filled_holds test (find pieces.now labels.now definitions.now n) piece cursor reloc }
 {
     match test {
@@ -160,8 +160,8 @@ fn holds(
     cursor: Cursor,
     reloc: AsmReloc,
 ) -> bool
-    requires fact_1 { Resolves table.now pieces.now labels.now definitions.now n }
-    requires fact_2 { Placed piece cursor }
+    requires resolves { Resolves table.now pieces.now labels.now definitions.now n }
+    requires placed { Placed piece cursor }
     ensures { result ≡ holds test (find pieces.now labels.now definitions.now n) piece cursor reloc }
 {
     if is_filled(piece.arch, reloc) {
@@ -192,9 +192,9 @@ fn relocs_hold(
     piece: Piece,
     cursor: Cursor,
 ) -> bool
-    requires fact_1 { Resolves table.now pieces.now labels.now definitions.now n }
-    requires fact_2 { Placed piece cursor }
-    requires fact_3 { RelocsIn relocs.now piece cursor }
+    requires resolves { Resolves table.now pieces.now labels.now definitions.now n }
+    requires placed { Placed piece cursor }
+    requires relocs_in { RelocsIn relocs.now piece cursor }
     ensures { result ≡ relocs_hold test (find pieces.now labels.now definitions.now n) relocs.now piece cursor piece.relocs }
 {
     let m = piece.relocs as usize;
@@ -230,8 +230,8 @@ pub fn all_hold(
     definitions: &[u8],
     n: usize,
 ) -> bool
-    requires fact_1 { Resolves table.now pieces.now labels.now definitions.now n }
-    requires fact_2 { Relocations pieces.now relocs.now n }
+    requires resolves { Resolves table.now pieces.now labels.now definitions.now n }
+    requires relocations { Relocations pieces.now relocs.now n }
     ensures { result ≡ all_hold test (find pieces.now labels.now definitions.now n) pieces.now relocs.now n }
 {
     let mut cursor = pieces::START;
@@ -270,8 +270,8 @@ fn remains(arch: u32, reloc: AsmReloc) -> usize
 
 // How many relocations of a piece remain.
 fn count_remaining_in(relocs: &[u8], piece: Piece, cursor: Cursor) -> usize
-    requires fact_1 { Placed piece cursor }
-    requires fact_2 { RelocsIn relocs.now piece cursor }
+    requires placed { Placed piece cursor }
+    requires relocs_in { RelocsIn relocs.now piece cursor }
     ensures { result ≡ count_remaining_in relocs.now piece cursor piece.relocs }
 {
     let m = piece.relocs as usize;

@@ -27,8 +27,8 @@ fn symbol_at(definitions: &[u8], cursor: Cursor, j: usize) -> u32
 
 // What its label says: `UNBOUND`, or its place.
 fn label_place(labels: &[u8], piece: Piece, cursor: Cursor, label: u32) -> u64
-    requires fact_1 { Placed piece cursor }
-    requires fact_2 { Labelled labels.now piece cursor }
+    requires placed { Placed piece cursor }
+    requires labelled { Labelled labels.now piece cursor }
     ensures { result ≡ place labels.now piece cursor label }
 {
     if piece.labels <= label {
@@ -43,9 +43,9 @@ fn label_place(labels: &[u8], piece: Piece, cursor: Cursor, label: u32) -> u64
 
 // What definition `j` says of its symbol.
 fn defined(labels: &[u8], definitions: &[u8], piece: Piece, cursor: Cursor, j: usize) -> u64
-    requires fact_1 { Placed piece cursor }
-    requires fact_2 { Labelled labels.now piece cursor }
-    requires fact_3 { (cursor.definitions + j + 1) * definition_size ≤ length definitions.now }
+    requires placed { Placed piece cursor }
+    requires labelled { Labelled labels.now piece cursor }
+    requires definitions_within { (cursor.definitions + j + 1) * definition_size ≤ length definitions.now }
     ensures { result ≡ defined labels.now definitions.now piece cursor j }
 {
     let label = words::word_at(definitions, (cursor.definitions + j) * DEFINITION_WORDS + 1);
@@ -61,9 +61,9 @@ fn defined_as(
     symbol: u32,
     j: usize,
 ) -> u64
-    requires fact_1 { Placed piece cursor }
-    requires fact_2 { Labelled labels.now piece cursor }
-    requires fact_3 { (cursor.definitions + j + 1) * definition_size ≤ length definitions.now }
+    requires placed { Placed piece cursor }
+    requires labelled { Labelled labels.now piece cursor }
+    requires definitions_within { (cursor.definitions + j + 1) * definition_size ≤ length definitions.now }
     ensures { result ≡ defined_as labels.now definitions.now piece cursor symbol j }
 {
     if symbol_at(definitions, cursor, j) == symbol {
@@ -81,9 +81,9 @@ fn find_in(
     m: usize,
     symbol: u32,
 ) -> u64
-    requires fact_1 { Placed piece cursor }
-    requires fact_2 { Labelled labels.now piece cursor }
-    requires fact_3 { (cursor.definitions + m) * definition_size ≤ length definitions.now }
+    requires placed { Placed piece cursor }
+    requires labelled { Labelled labels.now piece cursor }
+    requires definitions_within { (cursor.definitions + m) * definition_size ≤ length definitions.now }
     ensures { result ≡ find_in labels.now definitions.now piece cursor m symbol }
 {
     let mut j: usize = 0;
@@ -135,11 +135,11 @@ fn find_before(
     j: usize,
     symbol: u32,
 ) -> u64
-    requires fact_1 { Symbols pieces.now labels.now definitions.now k }
-    requires fact_2 { Placed piece cursor }
-    requires fact_3 { Labelled labels.now piece cursor }
-    requires fact_4 { (cursor.definitions + j) * definition_size ≤ length definitions.now }
-    requires fact_5 { Begun table.now pieces.now labels.now definitions.now k piece cursor j }
+    requires symbols { Symbols pieces.now labels.now definitions.now k }
+    requires placed { Placed piece cursor }
+    requires labelled { Labelled labels.now piece cursor }
+    requires definitions_within { (cursor.definitions + j) * definition_size ≤ length definitions.now }
+    requires begun { Begun table.now pieces.now labels.now definitions.now k piece cursor j }
     ensures { result ≡ find_before pieces.now labels.now definitions.now k piece cursor j symbol }
 {
     if (symbol as usize) < table.len() {
@@ -171,11 +171,11 @@ fn settle_piece(
     piece: Piece,
     cursor: Cursor,
 ) -> bool
-    requires fact_1 { Symbols pieces.now labels.now definitions.now k }
-    requires fact_2 { Placed piece cursor }
-    requires fact_3 { Labelled labels.now piece cursor }
-    requires fact_4 { DefinitionsIn definitions.now piece cursor }
-    requires fact_5 { Settled table.old pieces.now labels.now definitions.now k }
+    requires symbols { Symbols pieces.now labels.now definitions.now k }
+    requires placed { Placed piece cursor }
+    requires labelled { Labelled labels.now piece cursor }
+    requires definitions_in { DefinitionsIn definitions.now piece cursor }
+    requires settled { Settled table.old pieces.now labels.now definitions.now k }
     ensures { (result ≡ new_in pieces.now labels.now definitions.now k piece cursor piece.definitions) × (result ≡ true → Begun table.new pieces.now labels.now definitions.now k piece cursor piece.definitions) × (length table.new ≡ length table.old) }
 {
     let m = piece.definitions as usize;
@@ -205,8 +205,8 @@ fn settle_piece(
 
 // Notes the definitions of the first `n` pieces, and gives whether no symbol is defined twice. `table` is clear.
 pub fn settle(table: &mut [u64], pieces: &[u8], labels: &[u8], definitions: &[u8], n: usize) -> bool
-    requires fact_1 { Symbols pieces.now labels.now definitions.now n }
-    requires fact_2 { Settled table.old pieces.now labels.now definitions.now 0 }
+    requires symbols { Symbols pieces.now labels.now definitions.now n }
+    requires settled { Settled table.old pieces.now labels.now definitions.now 0 }
     ensures { (result ≡ defined_once pieces.now labels.now definitions.now n) × (result ≡ true → Settled table.new pieces.now labels.now definitions.now n) }
 {
     let mut cursor = pieces::START;

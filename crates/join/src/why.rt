@@ -74,8 +74,8 @@ fn undefined(
     relocs: &[u8],
     definitions: &[u8],
 ) -> u32
-    requires fact_1 { why_unfit (lent_of pieces.now code.now labels.now relocs.now definitions.now) ≡ 0 }
-    requires fact_2 { Settled table.old pieces.now labels.now definitions.now 0 }
+    requires fits { why_unfit (lent_of pieces.now code.now labels.now relocs.now definitions.now) ≡ 0 }
+    requires settled { Settled table.old pieces.now labels.now definitions.now 0 }
     ensures { (result ≡ why_undefined (lent_of pieces.now code.now labels.now relocs.now definitions.now)) × (result ≡ 0 → Settled table.new pieces.now labels.now definitions.now (piece_count pieces.now)) }
 {
     let n = pieces.len() / PIECE_SIZE;
@@ -121,8 +121,8 @@ fn no_field(
     relocs: &[u8],
     definitions: &[u8],
 ) -> u32
-    requires fact_1 { why_unfit (lent_of pieces.now code.now labels.now relocs.now definitions.now) ≡ 0 }
-    requires fact_2 { Settled table.now pieces.now labels.now definitions.now (piece_count pieces.now) }
+    requires fits { why_unfit (lent_of pieces.now code.now labels.now relocs.now definitions.now) ≡ 0 }
+    requires settled { Settled table.now pieces.now labels.now definitions.now (piece_count pieces.now) }
     ensures { result ≡ why_no_field (lent_of pieces.now code.now labels.now relocs.now definitions.now) }
 {
     let n = pieces.len() / PIECE_SIZE;
@@ -145,8 +145,8 @@ fn no_output(
     definitions: &[u8],
     output: usize,
 ) -> u32
-    requires fact_1 { why_unfit (lent_of pieces.now code.now labels.now relocs.now definitions.now) ≡ 0 }
-    requires fact_2 { Settled table.now pieces.now labels.now definitions.now (piece_count pieces.now) }
+    requires fits { why_unfit (lent_of pieces.now code.now labels.now relocs.now definitions.now) ≡ 0 }
+    requires settled { Settled table.now pieces.now labels.now definitions.now (piece_count pieces.now) }
     ensures { result ≡ why_no_output (lent_of pieces.now code.now labels.now relocs.now definitions.now) output }
 {
     let n = pieces.len() / PIECE_SIZE;
@@ -178,8 +178,8 @@ fn no_room(
     joined_labels: usize,
     joined_relocs: usize,
 ) -> u32
-    requires fact_1 { why_unfit (lent_of pieces.now code.now labels.now relocs.now definitions.now) ≡ 0 }
-    requires fact_2 { Settled table.now pieces.now labels.now definitions.now (piece_count pieces.now) }
+    requires fits { why_unfit (lent_of pieces.now code.now labels.now relocs.now definitions.now) ≡ 0 }
+    requires settled { Settled table.now pieces.now labels.now definitions.now (piece_count pieces.now) }
     ensures { result ≡ why_no_room (lent_of pieces.now code.now labels.now relocs.now definitions.now) output joined_labels joined_relocs }
 {
     let full = no_table(

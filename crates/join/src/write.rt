@@ -34,9 +34,9 @@ fn fill_field(
     cursor: Cursor,
     reloc: AsmReloc,
 )
-    requires fact_1 { Resolves table.now pieces.now labels.now definitions.now n }
-    requires fact_2 { Placed piece cursor }
-    requires fact_3 { (is_filled piece.arch reloc ≡ true → reloc.offset + field_size ≤ length part.old) }
+    requires resolves { Resolves table.now pieces.now labels.now definitions.now n }
+    requires placed { Placed piece cursor }
+    requires part_within { (is_filled piece.arch reloc ≡ true → reloc.offset + field_size ≤ length part.old) }
     ensures { part.new ≡ field_filled (find pieces.now labels.now definitions.now n) piece cursor reloc part.old }
 {
     if relocs::is_filled(piece.arch, reloc) {
@@ -58,11 +58,11 @@ fn fill_fields(
     piece: Piece,
     cursor: Cursor,
 )
-    requires fact_1 { Resolves table.now pieces.now labels.now definitions.now n }
-    requires fact_2 { Placed piece cursor }
-    requires fact_3 { RelocsIn relocs.now piece cursor }
-    requires fact_4 { length part.old ≡ piece.len }
-    requires fact_5 { relocs_hold Inside (find pieces.now labels.now definitions.now n) relocs.now piece cursor piece.relocs ≡ true }
+    requires resolves { Resolves table.now pieces.now labels.now definitions.now n }
+    requires placed { Placed piece cursor }
+    requires relocs_in { RelocsIn relocs.now piece cursor }
+    requires part_length { length part.old ≡ piece.len }
+    requires relocs_hold { relocs_hold Inside (find pieces.now labels.now definitions.now n) relocs.now piece cursor piece.relocs ≡ true }
     ensures { part.new ≡ filled_with (find pieces.now labels.now definitions.now n) relocs.now piece cursor part.old piece.relocs }
 {
     let m = piece.relocs as usize;
@@ -86,9 +86,9 @@ fn fill_fields(
 
 // Writes a piece's code behind the zeros in front of it.
 fn put_code(output: &mut [u8], code: &[u8], piece: Piece, cursor: Cursor)
-    requires fact_1 { Placed piece cursor }
-    requires fact_2 { CodeIn code.now piece cursor }
-    requires fact_3 { base_of piece cursor + piece.len ≤ length output.old }
+    requires placed { Placed piece cursor }
+    requires code_in { CodeIn code.now piece cursor }
+    requires output_within { base_of piece cursor + piece.len ≤ length output.old }
     ensures { output.new ≡ over output.old cursor.end (replicate (gap piece cursor) 0 ++ piece_code code.now piece cursor) }
 {
     let base = pieces::base(piece, cursor) as usize;
@@ -111,11 +111,11 @@ fn put_filled(
     piece: Piece,
     cursor: Cursor,
 )
-    requires fact_1 { Resolves table.now pieces.now labels.now definitions.now n }
-    requires fact_2 { Placed piece cursor }
-    requires fact_3 { CodeIn code.now piece cursor × RelocsIn relocs.now piece cursor }
-    requires fact_4 { base_of piece cursor + piece.len ≤ length output.old }
-    requires fact_5 { relocs_hold Inside (find pieces.now labels.now definitions.now n) relocs.now piece cursor piece.relocs ≡ true }
+    requires resolves { Resolves table.now pieces.now labels.now definitions.now n }
+    requires placed { Placed piece cursor }
+    requires code_in { CodeIn code.now piece cursor × RelocsIn relocs.now piece cursor }
+    requires output_within { base_of piece cursor + piece.len ≤ length output.old }
+    requires relocs_hold { relocs_hold Inside (find pieces.now labels.now definitions.now n) relocs.now piece cursor piece.relocs ≡ true }
     ensures { output.new ≡ over output.old cursor.end (replicate (gap piece cursor) 0 ++ filled_code (find pieces.now labels.now definitions.now n) relocs.now code.now piece cursor) }
 {
     put_code(output, code, piece, cursor);
@@ -153,9 +153,9 @@ fn put_remaining(
     cursor: Cursor,
     reloc: AsmReloc,
 ) -> usize
-    requires fact_1 { Placed piece cursor }
-    requires fact_2 { (i + one (not (is_filled piece.arch reloc))) * reloc_size ≤ length joined.old }
-    requires fact_3 { RelocMoves piece cursor reloc }
+    requires placed { Placed piece cursor }
+    requires joined_within { (i + one (not (is_filled piece.arch reloc))) * reloc_size ≤ length joined.old }
+    requires reloc_moves { RelocMoves piece cursor reloc }
     ensures { (result ≡ i + one (not (is_filled piece.arch reloc))) × (joined.new ≡ over joined.old (i * reloc_size) (bytes_of_all (remaining_words piece cursor reloc))) }
 {
     if relocs::is_filled(piece.arch, reloc) {
@@ -169,10 +169,10 @@ fn put_remaining(
 
 // Writes the relocations of a piece that remain, from entry `at` on, and gives the entry behind them.
 fn put_relocs(joined: &mut [u8], relocs: &[u8], piece: Piece, cursor: Cursor, at: usize) -> usize
-    requires fact_1 { Placed piece cursor }
-    requires fact_2 { RelocsIn relocs.now piece cursor }
-    requires fact_3 { (at + count_remaining_in relocs.now piece cursor piece.relocs) * reloc_size ≤ length joined.old }
-    requires fact_4 { RelocsMove relocs.now piece cursor }
+    requires placed { Placed piece cursor }
+    requires relocs_in { RelocsIn relocs.now piece cursor }
+    requires joined_within { (at + count_remaining_in relocs.now piece cursor piece.relocs) * reloc_size ≤ length joined.old }
+    requires relocs_move { RelocsMove relocs.now piece cursor }
     ensures { (result ≡ at + count_remaining_in relocs.now piece cursor piece.relocs) × (joined.new ≡ over joined.old (at * reloc_size) (bytes_of_all (remaining_in relocs.now piece cursor piece.relocs))) }
 {
     let m = piece.relocs as usize;
@@ -199,8 +199,8 @@ pub fn put_pieces(
     definitions: &[u8],
     n: usize,
 )
-    requires fact_1 { Joins (lent_of pieces.now code.now labels.now relocs.now definitions.now) n (length output.old) (length joined_labels.old) (length joined_relocs.old) }
-    requires fact_2 { Resolves table.now pieces.now labels.now definitions.now n }
+    requires joins { Joins (lent_of pieces.now code.now labels.now relocs.now definitions.now) n (length output.old) (length joined_labels.old) (length joined_relocs.old) }
+    requires resolves { Resolves table.now pieces.now labels.now definitions.now n }
     ensures output_after { output.new ≡ over output.old 0 (image (find pieces.now labels.now definitions.now n) pieces.now relocs.now code.now n) }
     ensures joined_labels_after { joined_labels.new ≡ over_words joined_labels.old (labels_joined pieces.now labels.now n) }
     ensures joined_relocs_after { joined_relocs.new ≡ over_words joined_relocs.old (remaining pieces.now relocs.now n) }

@@ -45,8 +45,8 @@ pub fn put_segment(segments: &mut [Segment], i: usize, segment: Segment)
 
 // Fills an index of the recorded starts of the first `n` segments.
 fn fill_index(index: &mut [u32], shift: u32, segments: &[Segment], n: usize)
-    requires fact_1 { Sorted segments.now n }
-    requires fact_2 { (index_size ≤ length index.old) × (shift < 32) × (n ≤ most_keys) }
+    requires sorted { Sorted segments.now n }
+    requires within { (index_size ≤ length index.old) × (shift < 32) × (n ≤ most_keys) }
     ensures { Indexed index.new (start_at segments.now) n shift }
 {
     let mut next: usize = 0;
@@ -61,8 +61,8 @@ fn fill_index(index: &mut [u32], shift: u32, segments: &[Segment], n: usize)
 
 // The same where there is an index: a slice that is too short for one is left as it is.
 fn index_segments(index: &mut [u32], shift: u32, segments: &[Segment], n: usize)
-    requires fact_1 { Sorted segments.now n }
-    requires fact_2 { (shift < 32) × (n ≤ most_keys) }
+    requires sorted { Sorted segments.now n }
+    requires within { (shift < 32) × (n ≤ most_keys) }
     ensures { Indexed index.new (start_at segments.now) n shift }
 {
     if index.len() < lookup::SIZE {
@@ -73,8 +73,8 @@ fn index_segments(index: &mut [u32], shift: u32, segments: &[Segment], n: usize)
 
 // How many of the first `n` segments start at or before an offset. The index, if there is one, is that of their starts.
 fn find(segments: &[Segment], n: usize, index: &[u32], shift: u32, offset: u32) -> usize
-    requires fact_1 { Sorted segments.now n }
-    requires fact_2 { Indexed index.now (start_at segments.now) n shift }
+    requires sorted { Sorted segments.now n }
+    requires indexed { Indexed index.now (start_at segments.now) n shift }
     ensures { Between segments.now n offset result result }
 {
     let span = lookup::narrow(index, shift, n, offset);
@@ -105,9 +105,9 @@ fn place(segment: Segment, offset: u32) -> u32
 
 // The new offset of what was recorded at an offset.
 pub fn map(segments: &[Segment], n: usize, index: &[u32], shift: u32, offset: u32) -> u32
-    requires fact_1 { Rising segments.now n }
-    requires fact_2 { Indexed index.now (start_at segments.now) n shift }
-    requires fact_3 { (offset ≢ none → offset ≤ offset_bound) }
+    requires rising { Rising segments.now n }
+    requires indexed { Indexed index.now (start_at segments.now) n shift }
+    requires in_range { (offset ≢ none → offset ≤ offset_bound) }
     ensures { result ≡ map_offset (take n segments.now) offset }
 {
     if offset == buffer::NONE {
@@ -162,8 +162,8 @@ pub fn next_segment(event: LayoutEvent, long: bool, old: u32, new: u32) -> Segme
 
 // Fills the segments of the first `n` events; the last of them, all zeros where there is none.
 fn layout_events(segments: &mut [Segment], events: &[u8], long: &[bool], n: usize) -> Segment
-    requires fact_1 { Recorded events.now n most_code }
-    requires fact_2 { (n ≤ most_entries) × (n ≤ length segments.old) × (n ≤ length long.now) }
+    requires recorded { Recorded events.now n most_code }
+    requires within { (n ≤ most_entries) × (n ≤ length segments.old) × (n ≤ length long.now) }
     ensures { Laid segments.old segments.new (entries (event_at events.now) n) long.now result.old_end result.new_end }
 {
     let mut last = Segment {
@@ -192,8 +192,8 @@ fn layout_pool(
     old: u32,
     new: u32,
 ) -> u32
-    requires fact_1 { PoolFits constants.now asked.now m }
-    requires fact_2 { (n ≤ most_entries) × (n + m ≤ length segments.old) × (old ≤ offset_bound) × (new ≤ offset_bound) }
+    requires pool_fits { PoolFits constants.now asked.now m }
+    requires within { (n ≤ most_entries) × (n + m ≤ length segments.old) × (old ≤ offset_bound) × (new ≤ offset_bound) }
     ensures segments_after { segments.new ≡ over segments.old n (fresh.segments old new (entries (pool_event old constants.now asked.now) m) []) }
     ensures value { result ≡ end_from old new (entries (pool_event old constants.now asked.now) m) [] (pool_start old constants.now asked.now m) }
 {
@@ -233,9 +233,9 @@ pub fn layout(
     m: usize,
     code: u32,
 ) -> u32
-    requires fact_1 { Recorded events.now n code }
-    requires fact_2 { PoolFits constants.now asked.now m }
-    requires fact_3 { (n + m ≤ most_entries) × (n + m ≤ length segments.old) × (n ≤ length long.now) }
+    requires recorded { Recorded events.now n code }
+    requires pool_fits { PoolFits constants.now asked.now m }
+    requires within { (n + m ≤ most_entries) × (n + m ≤ length segments.old) × (n ≤ length long.now) }
     ensures segments_after { segments.new ≡ over segments.old 0 (fresh.segments 0 0 (all_events events.now n code constants.now asked.now m) long.now) }
     ensures value { result ≡ finished_length (all_events events.now n code constants.now asked.now m) long.now (pool_start code constants.now asked.now m) }
 {
@@ -318,9 +318,9 @@ fn locate(
     shift: u32,
     offset: u32,
 ) -> Target
-    requires fact_1 { ((es : List LayoutEvent) × Shown es segments.now events.now n all) }
-    requires fact_2 { Indexed index.now (start_at segments.now) all shift }
-    requires fact_3 { (offset ≢ none → offset ≤ offset_bound) }
+    requires shown { ((es : List LayoutEvent) × Shown es segments.now events.now n all) }
+    requires indexed { Indexed index.now (start_at segments.now) all shift }
+    requires in_range { (offset ≢ none → offset ≤ offset_bound) }
     ensures { (es : List LayoutEvent) → Shown es segments.now events.now n all → Finds es offset result.passed result.beyond }
 {
     if offset == buffer::NONE {
@@ -365,10 +365,10 @@ fn target_of(
     shift: u32,
     i: usize,
 ) -> Target
-    requires fact_1 { ((es : List LayoutEvent) × Shown es segments.now events.now n all) }
-    requires fact_2 { Indexed index.now (start_at segments.now) all shift }
-    requires fact_3 { Known (event_at events.now i) labels.now }
-    requires fact_4 { i < n }
+    requires shown { ((es : List LayoutEvent) × Shown es segments.now events.now n all) }
+    requires indexed { Indexed index.now (start_at segments.now) all shift }
+    requires known { Known (event_at events.now i) labels.now }
+    requires in_range { i < n }
     ensures { (es : List LayoutEvent) → Shown es segments.now events.now n all → Aims es (word_at labels.now) (event_at events.now i) result.passed result.beyond }
 {
     let event = relax::event_at(events, i);
@@ -416,10 +416,10 @@ fn find_targets(
     index: &[u32],
     shift: u32,
 )
-    requires fact_1 { ((es : List LayoutEvent) × Shown es segments.old events.now n all) }
-    requires fact_2 { Indexed index.now (start_at segments.old) all shift }
-    requires fact_3 { Labelled events.now labels.now n }
-    requires fact_4 { n ≤ all }
+    requires shown { ((es : List LayoutEvent) × Shown es segments.old events.now n all) }
+    requires indexed { Indexed index.now (start_at segments.old) all shift }
+    requires labelled { Labelled events.now labels.now n }
+    requires in_bound { n ≤ all }
     ensures aiming { (es : List LayoutEvent) → Shown es segments.old events.now n all → Aiming es (word_at labels.now) events.now n segments.new }
     ensures same_past { SamePast n segments.old segments.new }
 {
@@ -451,8 +451,8 @@ fn put_end(segments: &mut [Segment], i: usize, end: u32)
 
 // Writes the new ends of the first `n` events under a choice into their rows; the segment of the last of them, all zeros where there is none.
 fn end_events(segments: &mut [Segment], events: &[u8], long: &[bool], n: usize) -> Segment
-    requires fact_1 { Recorded events.now n most_code }
-    requires fact_2 { (n ≤ most_entries) × (n ≤ length segments.old) × (n ≤ length long.now) }
+    requires recorded { Recorded events.now n most_code }
+    requires within { (n ≤ most_entries) × (n ≤ length segments.old) × (n ≤ length long.now) }
     ensures { Ended segments.old segments.new (entries (event_at events.now) n) long.now n result.old_end result.new_end }
 {
     let mut last = Segment {
@@ -482,9 +482,9 @@ fn place_ends(
     m: usize,
     code: u32,
 )
-    requires fact_1 { Recorded events.now n code }
-    requires fact_2 { PoolFits constants.now asked.now m }
-    requires fact_3 { (n + m ≤ most_entries) × (n + m ≤ length segments.old) × (n ≤ length long.now) }
+    requires recorded { Recorded events.now n code }
+    requires pool_fits { PoolFits constants.now asked.now m }
+    requires within { (n + m ≤ most_entries) × (n + m ≤ length segments.old) × (n ≤ length long.now) }
     ensures { Placed segments.old segments.new (all_events events.now n code constants.now asked.now m) n long.now }
 {
     let last = end_events(segments, events, long, n);
@@ -506,8 +506,8 @@ fn end_before(segments: &[Segment], k: usize) -> u32
 
 // Whether event `i`, long or not, is a short jump or branch that does not reach its label.
 fn is_missed(segments: &[Segment], events: &[u8], long: bool, i: usize) -> bool
-    requires fact_1 { (i < length segments.now) × (i * event_size + event_size ≤ length events.now) }
-    requires fact_2 { Adds segments.now (get_or segments.now i zero_segment) }
+    requires within { (i < length segments.now) × (i * event_size + event_size ≤ length events.now) }
+    requires adds { Adds segments.now (get_or segments.now i zero_segment) }
     ensures { result ≡ is_missed_at segments.now events.now long i }
 {
     if long {
@@ -524,8 +524,8 @@ fn is_missed(segments: &[Segment], events: &[u8], long: bool, i: usize) -> bool
 
 // A round's scan: every short jump or branch of the first `n` events that does not reach becomes long. Whether there was one.
 fn lengthen(segments: &[Segment], events: &[u8], long: &mut [bool], n: usize) -> bool
-    requires fact_1 { (n ≤ length segments.now) × (n ≤ length long.old) × (n * event_size ≤ length events.now) }
-    requires fact_2 { ((i : ℕ) → i < n → Adds segments.now (get_or segments.now i zero_segment)) }
+    requires within { (n ≤ length segments.now) × (n ≤ length long.old) × (n * event_size ≤ length events.now) }
+    requires adds { ((i : ℕ) → i < n → Adds segments.now (get_or segments.now i zero_segment)) }
     ensures long_after { long.new ≡ over long.old 0 (join long.old (missed segments.now events.now long.old n)) }
     ensures value { result ≡ any (missed segments.now events.now long.old n) }
 {
@@ -557,10 +557,10 @@ pub fn relax_jumps(
     m: usize,
     code: u32,
 ) -> Summary
-    requires fact_1 { Recorded events.now n code }
-    requires fact_2 { PoolFits constants.now asked.now m }
-    requires fact_3 { Labelled events.now labels.now n }
-    requires fact_4 { (n + m ≤ most_entries) × (n + m ≤ length segments.old) × (length long.old ≡ n + m) × (shift < 32) }
+    requires recorded { Recorded events.now n code }
+    requires pool_fits { PoolFits constants.now asked.now m }
+    requires labelled { Labelled events.now labels.now n }
+    requires within { (n + m ≤ most_entries) × (n + m ≤ length segments.old) × (length long.old ≡ n + m) × (shift < 32) }
     ensures relaxed { Relaxed (all_events events.now n code constants.now asked.now m) (word_at labels.now) long.old (pool_start code constants.now asked.now m) segments.old segments.new long.new result.layouts result.len }
     ensures indexed { Indexed index.new (start_at segments.new) (n + m) shift }
 {

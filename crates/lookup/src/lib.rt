@@ -1,6 +1,8 @@
 // A coarse index into rising offsets, so that a search by halving starts from a few of them in the place of all. Offsets are told apart by their high
 // bits: a part is what lies between two multiples of 2 ^ shift, and the index has for each part how many offsets lie before it. It takes one pass to fill.
 // The offsets stand in tables of several forms, so that a user's own loop hands them to `mark`, in order, and then closes the index.
+#![tactic(auto)]
+
 ghost use Rattle.std.specs.Prelude.{◌≡◌, true, ◌+◌, ◌/◌, ◌^◌, ◌≤◌, ◌<◌, length, get_or};
 ghost use Rattle.lookup.specs.steps.Index.{parts, index_size, large_size, most_keys, part, Marked, Narrowed};
 
@@ -60,8 +62,8 @@ fn parts_of(size: usize) -> usize
 
 // The least shift by which offsets up to `end` lie in the parts that an index of a length tells apart.
 pub fn shift_for(end: u32, size: usize) -> u32
-    ensures fact_1 { result < 32 }
-    ensures fact_2 { (index_size ≤ size → end / 2 ^ result < parts size) }
+    ensures small { result < 32 }
+    ensures told_apart { (index_size ≤ size → end / 2 ^ result < parts size) }
 {
     let told = parts_of(size);
     let mut shift: u32 = 0;

@@ -38,8 +38,8 @@ pub fn label_at(constants: &[u8], asked: &[u8], j: usize) -> u32
 
 // Where the pool ends, if it starts at `from`.
 pub fn pool_end(from: u32, constants: &[u8], asked: &[u8], n: usize) -> u32
-    requires fact_1 { PoolFits constants.now asked.now n }
-    requires fact_2 { from ≤ offset_bound }
+    requires pool_fits { PoolFits constants.now asked.now n }
+    requires in_bound { from ≤ offset_bound }
     ensures { (result ≡ pool_start from constants.now asked.now n) × (result ≤ from + n * most_pooled) }
 {
     let mut at = from;
@@ -75,8 +75,8 @@ pub fn code_alignment(constants: &[u8], asked: &[u8], n: usize) -> u32
 
 // Whether the label of one of the constants is bound.
 pub fn is_any_bound(labels: &[u8], constants: &[u8], asked: &[u8], n: usize) -> bool
-    requires fact_1 { PoolFits constants.now asked.now n }
-    requires fact_2 { PoolLabels labels.now constants.now asked.now n }
+    requires pool_fits { PoolFits constants.now asked.now n }
+    requires pool_labels { PoolLabels labels.now constants.now asked.now n }
     ensures { result ≡ is_any_bound labels.now constants.now asked.now n }
 {
     let mut j: usize = 0;
@@ -92,9 +92,9 @@ pub fn is_any_bound(labels: &[u8], constants: &[u8], asked: &[u8], n: usize) -> 
 
 // Binds the constants' labels where the constants will stand.
 pub fn bind(from: u32, labels: &mut [u8], constants: &[u8], asked: &[u8], n: usize)
-    requires fact_1 { PoolFits constants.now asked.now n }
-    requires fact_2 { PoolLabels labels.old constants.now asked.now n }
-    requires fact_3 { from ≤ offset_bound }
+    requires pool_fits { PoolFits constants.now asked.now n }
+    requires pool_labels { PoolLabels labels.old constants.now asked.now n }
+    requires in_bound { from ≤ offset_bound }
     ensures { labels.new ≡ pool_bound from labels.old constants.now asked.now n }
 {
     let mut at = from;
@@ -111,8 +111,8 @@ pub fn bind(from: u32, labels: &mut [u8], constants: &[u8], asked: &[u8], n: usi
 
 // Takes that back.
 pub fn unbind(labels: &mut [u8], constants: &[u8], asked: &[u8], n: usize)
-    requires fact_1 { PoolFits constants.now asked.now n }
-    requires fact_2 { PoolLabels labels.old constants.now asked.now n }
+    requires pool_fits { PoolFits constants.now asked.now n }
+    requires pool_labels { PoolLabels labels.old constants.now asked.now n }
     ensures { labels.new ≡ pool_unbound labels.old constants.now asked.now n }
 {
     let mut j: usize = 0;
@@ -125,9 +125,9 @@ pub fn unbind(labels: &mut [u8], constants: &[u8], asked: &[u8], n: usize)
 
 // Writes the pool's padding, and zeros where the constants will stand.
 pub fn emit(output: &mut [u8], arch: u32, from: u32, constants: &[u8], asked: &[u8], n: usize)
-    requires fact_1 { PoolFits constants.now asked.now n }
-    requires fact_2 { from ≤ offset_bound }
-    requires fact_3 { pool_start from constants.now asked.now n ≤ length output.old }
+    requires pool_fits { PoolFits constants.now asked.now n }
+    requires in_bound { from ≤ offset_bound }
+    requires output_within { pool_start from constants.now asked.now n ≤ length output.old }
     ensures { output.new ≡ over output.old from (pool_bytes arch from constants.now asked.now n) }
 {
     let mut at = from;
@@ -145,9 +145,9 @@ pub fn emit(output: &mut [u8], arch: u32, from: u32, constants: &[u8], asked: &[
 
 // Writes the constants' bytes where their labels say.
 pub fn write(output: &mut [u8], labels: &[u8], constants: &[u8], asked: &[u8], n: usize)
-    requires fact_1 { PoolFits constants.now asked.now n }
-    requires fact_2 { PoolLabels labels.now constants.now asked.now n }
-    requires fact_3 { PoolRoom output.old labels.now constants.now asked.now n }
+    requires pool_fits { PoolFits constants.now asked.now n }
+    requires pool_labels { PoolLabels labels.now constants.now asked.now n }
+    requires pool_room { PoolRoom output.old labels.now constants.now asked.now n }
     ensures { output.new ≡ pool_written output.old labels.now constants.now asked.now n }
 {
     let mut j: usize = 0;

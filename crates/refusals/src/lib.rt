@@ -2,6 +2,8 @@
 // on have the order of their calls.
 
 // A sheet, an argument, a count or a table's entry that breaks its form.
+#![tactic(auto)]
+
 pub const MALFORMED: u32 = 1;
 
 // Start names an architecture other than X86, X64 and AArch64.

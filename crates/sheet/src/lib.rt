@@ -62,8 +62,8 @@ fn is_counted_after(
     refs: &[u8],
     relocs: &[u8],
 ) -> bool
-    requires fact_1 { NamersFit b events.now uses.now refs.now relocs.now }
-    requires fact_2 { b.labels * label_size ≤ length labels.now }
+    requires namers_fit { NamersFit b events.now uses.now refs.now relocs.now }
+    requires labels_within { b.labels * label_size ≤ length labels.now }
     ensures { result ≡ true → b.unresolved ≡ open_count b labels.now events.now uses.now refs.now relocs.now }
 {
     if !has_many_binds(kinds) {
@@ -99,8 +99,8 @@ fn run(
     asked: &mut [u8],
     relocs: &mut [u8],
 ) -> Ran
-    requires fact_1 { (length arguments.now ≡ length kinds.now * argument_size) × (length kinds.now < 4294967296) }
-    requires fact_2 { Going kept (recording_of b code.old labels.old events.old uses.old refs.old constants.old asked.old relocs.old) }
+    requires within { (length arguments.now ≡ length kinds.now * argument_size) × (length kinds.now < 4294967296) }
+    requires going { Going kept (recording_of b code.old labels.old events.old uses.old refs.old constants.old asked.old relocs.old) }
     ensures relocs_after { ((result.refusal, result.index), meant kept (recording_of result.buffer code.new labels.new events.new uses.new refs.new constants.new asked.new relocs.new)) ≡ run_calls (calls_of kinds.now arguments.now) 0 (meant kept (recording_of b code.old labels.old events.old uses.old refs.old constants.old asked.old relocs.old)) }
     ensures fitting { Fitting (recording_of result.buffer code.new labels.new events.new uses.new refs.new constants.new asked.new relocs.new) }
 {
@@ -160,8 +160,8 @@ fn counted(
     refs: &[u8],
     relocs: &[u8],
 ) -> CodeBuffer
-    requires fact_1 { NamersFit b events.now uses.now refs.now relocs.now }
-    requires fact_2 { b.labels * label_size ≤ length labels.now }
+    requires namers_fit { NamersFit b events.now uses.now refs.now relocs.now }
+    requires labels_within { b.labels * label_size ≤ length labels.now }
     ensures { result ≡ pick kept b (with_open b (open_count b labels.now events.now uses.now refs.now relocs.now)) }
 {
     if kept {

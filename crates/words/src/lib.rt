@@ -1,4 +1,6 @@
 // Little-endian 32-bit words in byte slices. Every table of a recording and every four-byte field is read and written through these two.
+#![tactic(auto)]
+
 ghost use Rattle.std.specs.Prelude.{◌≡◌, ◌+◌, ◌*◌, ◌≤◌, ◌<◌, length};
 ghost use Rattle.words.specs.Words.{word_at, set_word};
 

@@ -1,0 +1,12 @@
+-- `shift_for` meets its contract: 22 bits are enough.
+use Prim.Native.Nat.{◌-◌, ◌≤◌, ◌<◌}
+use native.Mathlib.Omega.{arith}
+use lib.Pow.{shr_le}
+use Rattle.lookup.proofs.Index.{shift_grows}
+use Rattle.lookup.proofs.shift_for.Given as goal
+
+abbrev pub invariant-loop-shift : goal.invariant-loop-shift
+invariant-loop-shift l = l.shift ≤ 22
+
+abbrev pub decreases-loop-shift : goal.decreases-loop-shift
+decreases-loop-shift l = 22 - l.shift

@@ -1,0 +1,14 @@
+-- `copy` meets its contract: after i turns, `dst` is overwritten by the first i bytes of `src`.
+use mathlib.Core.Path.{◌≡◌, refl, sym, ◌∙◌}
+use Prim.Native.Nat.{◌≤◌, ◌-◌, min}
+use native.Mathlib.Omega.{arith}
+use lib.ListN.{length, take, length-set}
+use Rattle.seqs.specs.Over.{over}
+use Rattle.seqs.proofs.Overwrites.{over_nil, over_copy, over_take}
+use Rattle.seqs.proofs.copy.Given as goal
+
+abbrev pub invariant-loop-i : goal.invariant-loop-i
+invariant-loop-i l = (l.i ≤ l.n) × (l.n ≡ min (length l.src) (length l.initial.dst)) × (l.dst ≡ over l.initial.dst 0 (take l.i l.src)) × (length l.dst ≡ length l.initial.dst)
+
+abbrev pub decreases-loop-i : goal.decreases-loop-i
+decreases-loop-i l = l.n - l.i
