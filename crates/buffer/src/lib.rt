@@ -63,7 +63,7 @@ pub const LAST_RELOC: u32 = 27;
 // A relocation's target from here on is a label's: its number, and this.
 pub const LABEL_TARGET: u32 = 1 << 31;
 
-#[derive(Drop)]
+#[derive(Clone, Copy)]
 pub struct CodeBuffer {
     // 1 X86, 2 X64, 6 AArch64.
     pub arch: u32,
@@ -87,14 +87,14 @@ pub struct CodeBuffer {
 }
 
 // The recording after a call, and 0 or the refusal's number.
-#[derive(Drop)]
+#[derive(Clone, Copy)]
 pub struct Recorded {
     pub buffer: CodeBuffer,
     pub refusal: u32,
 }
 
 // The same of a call for a label or a constant, with its number, or `NONE`.
-#[derive(Drop)]
+#[derive(Clone, Copy)]
 pub struct Made {
     pub buffer: CodeBuffer,
     pub refusal: u32,
@@ -102,7 +102,7 @@ pub struct Made {
 }
 
 // What an alignment spends, and 0 or the refusal's number.
-#[derive(Drop)]
+#[derive(Clone, Copy)]
 pub struct Spent {
     pub refusal: u32,
     pub len: u32,

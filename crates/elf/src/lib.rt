@@ -14,7 +14,7 @@ const RELA_WORDS: usize = 6;
 const RELA_SIZE: usize = 24;
 
 // What an entry says. The addend is a 64-bit two's complement word.
-#[derive(Drop)]
+#[derive(Clone, Copy)]
 pub struct Rela {
     pub offset: u32,
     pub elf_type: u32,

@@ -14,7 +14,7 @@ use relax::Segment;
 mod pooled;
 
 // What finish reports: asmkit's record of that name, with the number of layouts that relaxation made. A refused finish gives zeros.
-#[derive(Drop)]
+#[derive(Clone, Copy)]
 pub struct CodeBufferFinalized {
     pub arch: u32,
     // Bytes of finished code.
@@ -29,7 +29,7 @@ pub struct CodeBufferFinalized {
 }
 
 // The recording after a finish, 0 or the refusal's number, and the record.
-#[derive(Drop)]
+#[derive(Clone, Copy)]
 pub struct Finished {
     pub buffer: CodeBuffer,
     pub refusal: u32,
@@ -37,7 +37,7 @@ pub struct Finished {
 }
 
 // What becomes of a pooled recording: 0 or the refusal's number, bytes of finished code, rounds.
-#[derive(Drop)]
+#[derive(Clone, Copy)]
 pub struct Outcome {
     pub refusal: u32,
     pub len: u32,
@@ -45,14 +45,14 @@ pub struct Outcome {
 }
 
 // What becomes of it before a layout: whether one is to be made, and if none is, the outcome.
-#[derive(Drop)]
+#[derive(Clone, Copy)]
 pub struct Started {
     pub relax: bool,
     pub outcome: Outcome,
 }
 
 // What finish comes to before a layout: whether one is to be made, and if none is, what it answers.
-#[derive(Drop)]
+#[derive(Clone, Copy)]
 struct Begun {
     relax: bool,
     finished: Finished,

@@ -36,7 +36,7 @@ fn is_for_room(refusal: u32) -> bool {
 }
 
 // What the Rust answered: 0 or the error, and the index of the refused call, or the number of calls.
-#[derive(Drop)]
+#[derive(Clone, Copy)]
 struct Answer {
     error: u32,
     index: u32,

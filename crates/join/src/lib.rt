@@ -15,7 +15,7 @@ mod why;
 mod write;
 
 // Where the pieces before one end: in each slice that is lent, and in the whole.
-#[derive(Drop)]
+#[derive(Clone, Copy)]
 pub struct Cursor {
     pub code: usize,
     pub labels: usize,
@@ -25,7 +25,7 @@ pub struct Cursor {
 }
 
 // What is lent of a piece, but for the number of layouts, which join does not look at.
-#[derive(Drop)]
+#[derive(Clone, Copy)]
 pub struct Piece {
     pub arch: u32,
     // Bytes of code.
@@ -37,7 +37,7 @@ pub struct Piece {
 }
 
 // asmkit's record of that name. The target is a symbol, or a label + 2^31; the addend is a 64-bit two's complement word.
-#[derive(Drop)]
+#[derive(Clone, Copy)]
 pub struct AsmReloc {
     pub offset: u32,
     pub kind: u32,
@@ -47,7 +47,7 @@ pub struct AsmReloc {
 
 // What is asked of every relocation, in the order of the refusals: its label is one of its piece; its symbol is defined by a bound label; its field lies in its
 // piece; its value fits; it has an offset in the whole.
-#[derive(Drop)]
+#[derive(Clone, Copy)]
 pub enum Test {
     Known,
     Defined,
@@ -57,7 +57,7 @@ pub enum Test {
 }
 
 // 0 or the refusal's number, and the whole's record: of zeros where the join is refused.
-#[derive(Drop)]
+#[derive(Clone, Copy)]
 pub struct Joined {
     pub refusal: u32,
     pub code: CodeBufferFinalized,

@@ -21,7 +21,7 @@ ghost use Rattle.layout.specs.steps.Layout.{zero_segment, start_at, Rising, Sort
 use relax::{LayoutEvent, Segment};
 
 // What the rounds settle on: how many layouts were made, and the finished length.
-#[derive(Drop)]
+#[derive(Clone, Copy)]
 pub struct Summary {
     pub layouts: u32,
     pub len: u32,
@@ -302,7 +302,7 @@ fn recorded_end(segments: &[Segment], events: &[u8], n: usize, i: usize) -> u32
 }
 
 // Where the label of a jump is found, whatever the choice of long jumps: `beyond` bytes past the new end of the first `passed` events.
-#[derive(Drop)]
+#[derive(Clone, Copy)]
 pub struct Target {
     pub passed: u32,
     pub beyond: u32,

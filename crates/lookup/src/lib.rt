@@ -21,7 +21,7 @@ pub const FEW: usize = 24;
 pub const MOST_KEYS: usize = 4294967295;
 
 // Where a search by halving starts and ends.
-#[derive(Drop)]
+#[derive(Clone, Copy)]
 pub struct Span {
     pub low: usize,
     pub high: usize,

@@ -3,7 +3,7 @@ ghost use Rattle.std.specs.Prelude.{◌≡◌, ◌+◌, ◌*◌, ◌≤◌, leng
 ghost use Rattle.relax.specs.Events.{condition_of, names_label, long_len, event_at, set_event, start_of, end_of, event_size};
 
 // When a jump is taken.
-#[derive(Drop)]
+#[derive(Clone, Copy)]
 pub enum Condition {
     Always,
     // On a condition code, the low nibble of the opcode.
@@ -11,7 +11,7 @@ pub enum Condition {
 }
 
 // A `jmp` or `jcc` whose size relaxation may change.
-#[derive(Drop)]
+#[derive(Clone, Copy)]
 pub struct RelaxableJump {
     // Offset of the opcode.
     pub start: u32,
@@ -41,7 +41,7 @@ impl RelaxableJump {
 }
 
 // Padding up to a multiple of `align`, where that takes no more than `most` bytes; else none.
-#[derive(Drop)]
+#[derive(Clone, Copy)]
 pub struct Alignment {
     pub start: u32,
     // Bytes recorded.
@@ -51,7 +51,7 @@ pub struct Alignment {
 }
 
 // A conditional branch of A64, whose word relaxation may replace by its inverse and a B. What it branches on stands in its recorded word.
-#[derive(Drop)]
+#[derive(Clone, Copy)]
 pub struct FarBranch {
     pub start: u32,
     // Bytes recorded: `BRANCH_LEN`.
@@ -66,7 +66,7 @@ pub const BRANCH_LEN: u32 = 4;
 
 pub const FAR_LEN: u32 = 8;
 
-#[derive(Drop)]
+#[derive(Clone, Copy)]
 pub enum LayoutEvent {
     Jump(RelaxableJump),
     Align(Alignment),
@@ -75,7 +75,7 @@ pub enum LayoutEvent {
 
 // Where one `LayoutEvent` was recorded and where it ended up.
 #[repr(C)]
-#[derive(Drop)]
+#[derive(Clone, Copy)]
 pub struct Segment {
     pub old_start: u32,
     pub old_end: u32,

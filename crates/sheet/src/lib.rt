@@ -20,7 +20,7 @@ mod calls;
 const FEW_BINDS: usize = 4;
 
 // The recording after a sheet, 0 or the first refusal's number, and the index of the refused call, or the number of calls.
-#[derive(Drop)]
+#[derive(Clone, Copy)]
 pub struct Ran {
     pub buffer: CodeBuffer,
     pub refusal: u32,

@@ -10,7 +10,7 @@ use crate::kinds;
 use buffer::{CodeBuffer, LABEL_SIZE, NONE};
 
 // The greatest offset at which a label is bound, and the greatest below that; `NONE` where it is not known.
-#[derive(Drop)]
+#[derive(Clone, Copy)]
 pub struct Bound {
     pub greatest: u32,
     pub second: u32,

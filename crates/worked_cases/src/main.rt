@@ -7,7 +7,7 @@ use finish::Finished;
 const ZEROS: [u8; 128] = [0; 128];
 
 // The recordings of A to D.
-#[derive(Drop)]
+#[derive(Clone, Copy)]
 enum Recipe {
     // A jump at 0, zeros, its label at the end.
     Forward(u32),

@@ -1,0 +1,6 @@
+-- `insert_adr` meets its contract.
+use Rattle.std.proofs.Common.{rules}
+use Rattle.fields.proofs.insert_adr.Goals as goal
+
+pub returns : goal.returns
+returns c = cc

@@ -1,0 +1,7 @@
+-- `skipping` meets its contract.
+use Rattle.std.proofs.Common.{rules}
+use Rattle.fields.proofs.skipping.Goals as goal
+
+pub returns : goal.returns
+returns c =
+    rw (← c.field_kind-kind.ensures, ← c.inverse.ensures) c.patched_word.ensures
