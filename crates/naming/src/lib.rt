@@ -1,5 +1,7 @@
 // How many entries of a table name a label, and how many name one that is not bound. Each loop is a sum without an exit, so that it compiles to few
 // instructions an entry.
+#![tactic(auto)]
+
 ghost use Rattle.std.specs.Prelude.{◌≡◌, ◌&&◌, ◌+◌, ◌*◌, ◌≤◌, ◌<◌, eqb, length};
 ghost use Rattle.seqs.specs.Counting.{one};
 ghost use Rattle.words.specs.Words.{word_at};

@@ -1,4 +1,6 @@
 // `LayoutEvent`: the jumps and alignments of a recording, and the table of bytes that they stand in. After asmkit's core/relax.rs (see NOTICE).
+#![tactic(auto)]
+
 ghost use Rattle.std.specs.Prelude.{◌≡◌, ◌+◌, ◌*◌, ◌≤◌, length};
 ghost use Rattle.relax.specs.Events.{condition_of, names_label, long_len, event_at, set_event, start_of, end_of, event_size};
 
