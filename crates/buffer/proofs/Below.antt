@@ -119,6 +119,6 @@ module _ (labels : List ℕ) (limit : ℕ) (bounded : limit ≤ none) where
         was,
         e,
         word_at_same labels n code (omega arith) small,
-        below_same labels (set_word labels n code) n limit (λ i k. word_at_other labels n code i (λ q. omega arith)),
+        below_same labels (set_word labels l code) n limit (λ i k. word_at_other labels l code i (λ q. omega arith)),
       ) (omega arith))
       (lt_or_ge l n)

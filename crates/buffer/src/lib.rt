@@ -1,5 +1,7 @@
 // `CodeBuffer`: a recording's counts, and the calls that record. After asmkit's core/buffer.rs (see NOTICE).
 // The tables are lent by the caller as byte slices, whole entries of little-endian words; their lengths are their capacities.
+#![tactic(auto)]
+
 ghost use Rattle.std.specs.Prelude.{◌≡◌, ◌&&◌, ◌||◌, leb, ◌<◌, ◌≤◌};
 ghost use Rattle.buffer.specs.State.{keeps_events, turned_down, none_made};
 ghost use Rattle.buffer.specs.Refusals.{arch_occurs, refusal_occurs, standing};

@@ -33,11 +33,11 @@ use Rattle.recording.specs.Calls.{
   new_label,
   bind,
   align,
-  use_label_lem,
+  use_of_label,
   ref,
   jump,
   constant,
-  constant_label_lem,
+  label_of_constant,
   relocation,
   with_buffer,
   with_code_table,
@@ -118,7 +118,7 @@ call_begins (align m most) r =
     _ _
     (begins_over r.code (padding r.buffer.arch (padding_within r.buffer.code m.value most.value)) r.buffer.code (padding_within r.buffer.code m.value most.value))
     (refusing_begins r _)
-call_begins (use_label_lem o l c) r =
+call_begins (use_of_label o l c) r =
     either _ (λ (a : Recorded × List ℕ). Begins (view r).code (view (with_use_table r a.0.buffer a.1)).code) _ _
     (begins_same (view r).code) (refusing_begins r _)
 call_begins (ref o l c d) r =
@@ -130,7 +130,7 @@ call_begins (jump p n l c) r =
 call_begins (constant l) r =
     either _ (λ (a : Made × List ℕ). Begins (view r).code (view (with_constant_table r a.0.buffer a.1)).code) _ _
     (begins_same (view r).code) (refusing_begins r _)
-call_begins (constant_label_lem n) r =
+call_begins (label_of_constant n) r =
     let P : Made × (List ℕ × (List ℕ × List ℕ)) → Type 0 =
     λ a. Begins (view r).code (view (with_label_table (with_asked_table (with_constant_table r a.0.buffer a.1.0) a.1.1.0) a.0.buffer a.1.1.1)).code in
     either _ P _ _

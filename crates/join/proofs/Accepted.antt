@@ -102,7 +102,7 @@ module _ (l : Lent) (output labels relocs : List ℕ) (accepted : (join l output
   unfolding all_labels_move labels_move
   label_moves_lem k within j known =
       all_at (λ (i : ℕ). label_moves (base_of (piece k) (before k)) (word_at l.labels ((before k).labels + i))) (piece k).labels j
-      (all_at (λ (i : ℕ). labels_move l.labels (piece i) (before i) (piece i).labels) n k passed.1.labels_move_lem within)
+      (all_at (λ (i : ℕ). labels_move l.labels (piece i) (before i) (piece i).labels) n k passed.1.labels_moved within)
       known
 
   -- a byte of the whole

@@ -198,8 +198,8 @@ room_passed l output labels relocs h =
     let reaches = passed _ refusals.ref_out_of_reach 0 (λ e. omega arith) inside.1 in
     let end = passed _ refusals.output_too_small _ short fields.1 in
     let output_room = passed _ refusals.output_too_small _ short end.1 in
-    let labels_move_lem = passed _ refusals.output_too_small _ short output_room.1 in
-    let relocs_move = passed _ refusals.output_too_small 0 short labels_move_lem.1 in
+    let moves = passed _ refusals.output_too_small _ short output_room.1 in
+    let relocs_move = passed _ refusals.output_too_small 0 short moves.1 in
     record {
       label_room = ltb-false _ _ labelled.0;
       reloc_room = ltb-false _ _ listed.0;
@@ -207,7 +207,7 @@ room_passed l output labels relocs h =
       reaches = not-false _ reaches.0;
       end = ltb-false _ _ end.0;
       output_room = ltb-false _ _ output_room.0;
-      labels_move_lem = not-false _ labels_move_lem.0;
+      labels_moved = not-false _ moves.0;
       relocs_move = not-false _ relocs_move.0;
     }
 
@@ -244,7 +244,7 @@ module _ (l : Lent) (output labels relocs : ℕ) (fit : Fit l) (enough : Room l 
         relocations = fit_relocs l fit;
         code = code_within l (piece_count l.pieces) (room l fit) fit.pieces (whole_near l fit) fit.summed;
         inside = enough.inside;
-        labels_move_lem = enough.labels_move_lem;
+        labels_moved = enough.labels_moved;
         relocs_move = reloc_moves;
         output_room = enough.output_room;
         labels_room = omega (arith, enough.label_room);

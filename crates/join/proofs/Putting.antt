@@ -54,7 +54,7 @@ module _ {l : Lent} {n output label-bytes reloc-bytes : ℕ} (joins : Joins l n 
         labels = joins.labels.each k within;
         relocs = joins.relocations.each k within;
         inside = each_holds Inside _ l.pieces l.relocs n joins.inside k within;
-        labels_move_lem = all_at (λ (i : ℕ). labels_move l.labels (piece_at l.pieces i) (cursor_at l.pieces i) (piece_at l.pieces i).labels) n k joins.labels_move_lem within;
+        labels_moved = all_at (λ (i : ℕ). labels_move l.labels (piece_at l.pieces i) (cursor_at l.pieces i) (piece_at l.pieces i).labels) n k joins.labels_moved within;
         relocs_move = joins.relocs_move k within;
         output_room = omega (arith, ends.end, joins.output_room);
         labels_room = omega (arith, ends.labels, joins.labels_room);

@@ -21,7 +21,7 @@ use Rattle.buffer.specs.Calls.{put_bytes, get_label, bind_label, aligned_events,
 use Rattle.buffer.specs.steps.Below.{under, greatest_below}
 use Rattle.buffer.proofs.Accepted.{label_accepted, bind_accepted}
 use Rattle.buffer.proofs.Below.{below_new_label, below_bind}
-use Rattle.recording.specs.Calls.{Recording, Word, Call, bytes, new_label, bind, align, use_label_lem, ref, jump, constant, constant_label_lem, relocation, after, answered}
+use Rattle.recording.specs.Calls.{Recording, Word, Call, bytes, new_label, bind, align, use_of_label, ref, jump, constant, label_of_constant, relocation, after, answered}
 use Rattle.recording.proofs.Steps.{either, tested, unless}
 
 -- whether a call binds a label
@@ -30,11 +30,11 @@ binds (bytes l) = false
 binds new_label = false
 binds (bind l) = true
 binds (align m most) = false
-binds (use_label_lem o l c) = false
+binds (use_of_label o l c) = false
 binds (ref o l c d) = false
 binds (jump p n l c) = false
 binds (constant l) = false
-binds (constant_label_lem n) = false
+binds (label_of_constant n) = false
 binds (relocation o k t d) = false
 
 -- a bind that is not turned down
@@ -74,11 +74,11 @@ module _ (r : Recording) (limit : ℕ) (bounded : limit ≤ none) where
       either _ (λ (a : Recorded × (List ℕ × List ℕ)). Same r.labels a.0.buffer.labels) _ _
       (either _ (λ (a : CodeBuffer × List ℕ). Same r.labels a.0.labels) _ _ refl refl)
       (refused _)
-  below_kept (use_label_lem o l c) h = either _ Recorded·same _ _ refl (refused _)
+  below_kept (use_of_label o l c) h = either _ Recorded·same _ _ refl (refused _)
   below_kept (ref o l c d) h = either _ Recorded·same _ _ (either _ Recorded·same _ _ refl refl) (refused _)
   below_kept (jump p n l c) h = either _ Recorded·same _ _ (either _ Recorded·same _ _ refl refl) (refused _)
   below_kept (constant l) h = either _ (λ (a : Made × List ℕ). Same r.labels a.0.buffer.labels) _ _ refl (refused _)
-  below_kept (constant_label_lem n) h =
+  below_kept (label_of_constant n) h =
       let asked = length r.asked / asked_size in
       let labels = length r.labels / label_size in
       let P : Made × (List ℕ × (List ℕ × List ℕ)) → Type 0 = λ a. Same a.1.1.1 a.0.buffer.labels in

@@ -23,7 +23,7 @@ use Rattle.buffer.specs.Refusals.{why_label, why_align, why_use, why_ref, why_ju
 use Rattle.buffer.specs.Calls.{padding, put_bytes, get_label, bind_label, aligned_events, align_to, use_label, record_ref, record_jump, add_constant, asked_first, constant_label, add_reloc}
 use Rattle.buffer.specs.steps.Count.{NamersFit}
 use Rattle.buffer.proofs.Accepted.{label_accepted, align_accepted, use_accepted, ref_accepted, jump_accepted, reloc_accepted}
-use Rattle.recording.specs.Calls.{Recording, Word, Word64, Call, bytes, new_label, bind, align, use_label_lem, ref, jump, constant, constant_label_lem, relocation, with_buffer, with_code_table, with_label_table, with_event_table, with_use_table, with_ref_table, with_asked_table, with_constant_table, with_reloc_table, after}
+use Rattle.recording.specs.Calls.{Recording, Word, Word64, Call, bytes, new_label, bind, align, use_of_label, ref, jump, constant, label_of_constant, relocation, with_buffer, with_code_table, with_label_table, with_event_table, with_use_table, with_ref_table, with_asked_table, with_constant_table, with_reloc_table, after}
 use Rattle.recording.specs.View.{use_at, ref_at, reloc_at, view}
 use Rattle.recording.specs.Open.{is_open, open_of}
 use Rattle.recording.specs.steps.Righted.{Fitting}
@@ -156,7 +156,7 @@ module _ (r : Recording) (f : Fitting r) where
       (record { namers = namers_of _ refl refl refl refl; labels = f.labels }))
       (record { namers = (refused _).namers; labels = (refused _).labels })
 
-  fits_use : (o l c : Word) → Fitting (after (use_label_lem o l c) r)
+  fits_use : (o l c : Word) → Fitting (after (use_of_label o l c) r)
   unfolding use_label
   fits_use o l c =
       let k = b.uses * use_words in
@@ -203,7 +203,7 @@ module _ (r : Recording) (f : Fitting r) where
       either _ (λ (a : Made × List ℕ). Fitting (with_constant_table r a.0.buffer a.1)) _ _ (record { namers = namers_of _ refl refl refl refl; labels = f.labels })
       (record { namers = (refused _).namers; labels = (refused _).labels })
 
-  fits_asking : (n : Word) → Fitting (after (constant_label_lem n) r)
+  fits_asking : (n : Word) → Fitting (after (label_of_constant n) r)
   unfolding constant_label asked_first
   fits_asking n =
       let asked = length r.asked / asked_size in
@@ -240,9 +240,9 @@ call_fits (bytes l) r f = fits_bytes r f l
 call_fits new_label r f = fits_label r f
 call_fits (bind l) r f = fits_bind r f l
 call_fits (align m most) r f = fits_align r f m most
-call_fits (use_label_lem o l c) r f = fits_use r f o l c
+call_fits (use_of_label o l c) r f = fits_use r f o l c
 call_fits (ref o l c d) r f = fits_ref r f o l c d
 call_fits (jump p n l c) r f = fits_jump r f p n l c
 call_fits (constant l) r f = fits_constant r f l
-call_fits (constant_label_lem n) r f = fits_asking r f n
+call_fits (label_of_constant n) r f = fits_asking r f n
 call_fits (relocation o k t d) r f = fits_reloc r f o k t d

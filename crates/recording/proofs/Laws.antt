@@ -35,7 +35,7 @@ use Rattle.buffer.proofs.Accepted.{
   reloc_accepted,
 }
 use Rattle.buffer.specs.Tables.{label_size, use_words, use_size, ref_words, ref_size, constant_words, constant_size, constant_head, asked_size, reloc_words, reloc_size}
-use Rattle.recording.specs.Calls.{Recording, Word, Word64, bytes, new_label, bind, align, use_label_lem, ref, jump, constant, constant_label_lem, relocation, with_buffer, with_code_table, with_label_table, with_event_table, with_use_table, with_ref_table, with_constant_table, with_asked_table, with_reloc_table, after, Call, answered}
+use Rattle.recording.specs.Calls.{Recording, Word, Word64, bytes, new_label, bind, align, use_of_label, ref, jump, constant, label_of_constant, relocation, with_buffer, with_code_table, with_label_table, with_event_table, with_use_table, with_ref_table, with_constant_table, with_asked_table, with_reloc_table, after, Call, answered}
 use Rattle.recording.specs.Sound.{label_of, Sound}
 use Rattle.recording.specs.View.{constant_at, view, see_code, see_labels, see_events, see_uses, see_refs, see_constants, see_asked, see_relocs}
 use Rattle.recording.proofs.Steps.{either}
@@ -68,7 +68,7 @@ turned_down_unseen (align m most) r =
     either _
     (λ (a : Recorded × (List ℕ × List ℕ)). a.0.refusal ≢ 0 → view (with_event_table (with_code_table r a.0.buffer a.1.0) a.0.buffer a.1.1) ≡ view r)
     _ _ (λ ne. absurd (ne refl)) (λ ne. refusing_unseen r _)
-turned_down_unseen (use_label_lem o l c) r =
+turned_down_unseen (use_of_label o l c) r =
     either _ (λ (a : Recorded × List ℕ). a.0.refusal ≢ 0 → view (with_use_table r a.0.buffer a.1) ≡ view r) _ _ (λ ne. absurd (ne refl)) (λ ne. refusing_unseen r _)
 turned_down_unseen (ref o l c d) r =
     let P : Recorded × List ℕ → Type 0 = λ a. a.0.refusal ≢ 0 → view (with_ref_table r a.0.buffer a.1) ≡ view r in
@@ -78,7 +78,7 @@ turned_down_unseen (jump p n l c) r =
     either _ P _ _ (either _ P _ _ (λ ne. absurd (ne refl)) (λ ne. absurd (ne refl))) (λ ne. refusing_unseen r _)
 turned_down_unseen (constant l) r =
     either _ (λ (a : Made × List ℕ). a.0.refusal ≢ 0 → view (with_constant_table r a.0.buffer a.1) ≡ view r) _ _ (λ ne. absurd (ne refl)) (λ ne. refusing_unseen r _)
-turned_down_unseen (constant_label_lem n) r =
+turned_down_unseen (label_of_constant n) r =
     let P : Made × (List ℕ × (List ℕ × List ℕ)) → Type 0 =
     λ a. a.0.refusal ≢ 0 → view (with_label_table (with_asked_table (with_constant_table r a.0.buffer a.1.0) a.1.1.0) a.0.buffer a.1.1.1) ≡ view r in
     either _ P _ _ (either _ P _ _ (either _ P _ _ (λ ne. refusing_unseen r 11) (λ ne. absurd (ne refl))) (λ ne. absurd (ne refl))) (λ ne. refusing_unseen r _)
@@ -113,7 +113,7 @@ module _ (r : Recording) where
       ∙ rw (word_set r.labels l.value r.buffer.code r.buffer.labels f.known (omega arith) small)
 
   pub see_use : (o l c : Word) → why_use r.buffer (length r.labels / label_size) (length r.uses / use_size) l.value c.value ≡ 0
-      → view (after (use_label_lem o l c) r) ≡ see_uses (view r) ((view r).uses ++ (record { offset = o.value; label = l.value; code = c.value } ∷ []))
+      → view (after (use_of_label o l c) r) ≡ see_uses (view r) ((view r).uses ++ (record { offset = o.value; label = l.value; code = c.value } ∷ []))
   unfolding use_label
   see_use o l c h =
       let n = r.buffer.uses in
@@ -230,7 +230,7 @@ module _ (r : Recording) where
   -- asking again changes nothing
   pub see_asking_again : (n : Word)
       → why_constant_label r.buffer (length r.constants / constant_size) (length r.asked / asked_size) (length r.labels / label_size) n.value ≡ 0
-      → label_of r.constants n.value ≢ none → view (after (constant_label_lem n) r) ≡ view r
+      → label_of r.constants n.value ≢ none → view (after (label_of_constant n) r) ≡ view r
   unfolding constant_label
   see_asking_again n h labelled =
       ap
@@ -258,7 +258,7 @@ module _ (r : Recording) (s : Sound r) where
   pub see_first_asking : (n : Word)
       → why_constant_label r.buffer (length r.constants / constant_size) (length r.asked / asked_size) (length r.labels / label_size) n.value ≡ 0
       → label_of r.constants n.value ≡ none → no_room_to_ask r.buffer (length r.asked / asked_size) (length r.labels / label_size) ≡ false
-      → view (after (constant_label_lem n) r)
+      → view (after (label_of_constant n) r)
       ≡ see_constants (see_asked (see_labels (view r) ((view r).labels ++ (none ∷ []))) ((view r).asked ++ (n.value ∷ [])))
       (set (view r).constants n.value (record { bytes = (constant_at r.constants n.value).bytes; label = r.buffer.labels }))
   unfolding constant_label asked_first

@@ -26,7 +26,7 @@ use Rattle.buffer.specs.Open.{opened, target_opened, settled}
 use Rattle.buffer.specs.Calls.{started, put_bytes, get_label, bind_label, aligned_events, align_to, use_label, record_ref, record_jump, add_constant, asked_first, constant_label, add_reloc}
 use Rattle.buffer.proofs.Keeping.{keeps_or_not}
 use Rattle.buffer.proofs.Accepted.{label_accepted, bind_accepted, use_accepted, ref_accepted, jump_accepted, reloc_accepted, target_label}
-use Rattle.recording.specs.Calls.{Recording, Word, Word64, Call, bytes, new_label, bind, align, use_label_lem, ref, jump, constant, constant_label_lem, relocation, begun, with_buffer, with_label_table, with_event_table, with_use_table, with_ref_table, with_asked_table, with_constant_table, with_reloc_table, after, after_all}
+use Rattle.recording.specs.Calls.{Recording, Word, Word64, Call, bytes, new_label, bind, align, use_of_label, ref, jump, constant, label_of_constant, relocation, begun, with_buffer, with_label_table, with_event_table, with_use_table, with_ref_table, with_asked_table, with_constant_table, with_reloc_table, after, after_all}
 use Rattle.recording.specs.View.{entries, Relocation, view, see_labels}
 use Rattle.recording.specs.Open.{naming, is_open, open_of}
 use Rattle.recording.specs.Sequences.{Grown, Leads, here, calls, grows}
@@ -109,7 +109,7 @@ module _ (r : Recording) where
   unfolding add_constant naming
   kept_constant l = either _ (λ (a : Made × List ℕ). Kept r (with_constant_table r a.0.buffer a.1)) _ _ (unchanged refl refl) (refused r _)
 
-  kept_asking : (n : Word) → Kept r (after (constant_label_lem n) r)
+  kept_asking : (n : Word) → Kept r (after (label_of_constant n) r)
   unfolding constant_label asked_first naming
   kept_asking n =
       let asked = length r.asked / asked_size in
@@ -156,7 +156,7 @@ module _ (r : Recording) where
   kept_align : (m most : Word) → Kept r (after (align m most) r)
   kept_align m most = unchanged (align_unresolved m most) (align_sees m most)
 
-  kept_use : (o l c : Word) → Kept r (after (use_label_lem o l c) r)
+  kept_use : (o l c : Word) → Kept r (after (use_of_label o l c) r)
   unfolding use_label naming
   kept_use o l c =
       let b = r.buffer in
@@ -260,11 +260,11 @@ open_kept (bytes l) r small = (kept_bytes r l).change
 open_kept new_label r small = (kept_label r).change
 open_kept (bind l) r small = (kept_bind r l small).change
 open_kept (align m most) r small = (kept_align r m most).change
-open_kept (use_label_lem o l c) r small = (kept_use r o l c).change
+open_kept (use_of_label o l c) r small = (kept_use r o l c).change
 open_kept (ref o l c d) r small = (kept_ref r o l c d).change
 open_kept (jump p n l c) r small = (kept_jump r p n l c).change
 open_kept (constant l) r small = (kept_constant r l).change
-open_kept (constant_label_lem n) r small = (kept_asking r n).change
+open_kept (label_of_constant n) r small = (kept_asking r n).change
 open_kept (relocation o k t d) r small = (kept_reloc r o k t d).change
 
 -- the number is the count over the tables

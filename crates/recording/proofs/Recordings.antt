@@ -15,11 +15,11 @@ use Rattle.recording.specs.Calls.{
   new_label,
   bind,
   align,
-  use_label_lem,
+  use_of_label,
   ref,
   jump,
   constant,
-  constant_label_lem,
+  label_of_constant,
   relocation,
   after,
   after_all,
@@ -47,11 +47,11 @@ keeps_sound (bytes l) r s = keeps_bytes r l s
 keeps_sound new_label r s = keeps_new_label r s
 keeps_sound (bind l) r s = keeps_bind r l s
 keeps_sound (align m most) r s = keeps_align r m most s
-keeps_sound (use_label_lem o l c) r s = keeps_use r o l c s
+keeps_sound (use_of_label o l c) r s = keeps_use r o l c s
 keeps_sound (ref o l c d) r s = keeps_ref r o l c d s
 keeps_sound (jump p n l c) r s = keeps_jump r p n l c s
 keeps_sound (constant l) r s = keeps_constant r l s
-keeps_sound (constant_label_lem n) r s = keeps_constant_label r n s
+keeps_sound (label_of_constant n) r s = keeps_constant_label r n s
 keeps_sound (relocation o k t d) r s = keeps_reloc r o k t d s
 
 pub calls_sound : (cs : List Call) (r : Recording) → Sound r → Sound (after_all cs r)

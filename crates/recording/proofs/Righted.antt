@@ -19,7 +19,7 @@ use Rattle.buffer.specs.State.{keeps_events, with_code, with_open, refusing, tur
 use Rattle.buffer.specs.Tables.{most_entries, most_code, most_open, last_reloc, label_size, use_size, ref_size, constant_words, constant_size, asked_size, reloc_size}
 use Rattle.buffer.specs.Refusals.{standing, namers_fit, namers_within, jump_unfit, target_known, why_bytes, why_label, why_bind, why_align, why_use, why_ref, why_jump, why_constant, why_constant_label, no_room_to_ask, why_reloc}
 use Rattle.buffer.specs.Calls.{padding, put_bytes, get_label, bind_label, aligned_events, align_to, use_label, record_ref, record_jump, add_constant, asked_first, constant_label, add_reloc}
-use Rattle.recording.specs.Calls.{Recording, Word, Word64, Call, bytes, new_label, bind, align, use_label_lem, ref, jump, constant, constant_label_lem, relocation, with_buffer, with_code_table, with_label_table, with_event_table, with_use_table, with_ref_table, with_constant_table, with_asked_table, with_reloc_table, after, answered}
+use Rattle.recording.specs.Calls.{Recording, Word, Word64, Call, bytes, new_label, bind, align, use_of_label, ref, jump, constant, label_of_constant, relocation, with_buffer, with_code_table, with_label_table, with_event_table, with_use_table, with_ref_table, with_constant_table, with_asked_table, with_reloc_table, after, answered}
 use Rattle.recording.specs.View.{view}
 use Rattle.recording.specs.Open.{naming, open_of}
 use Rattle.recording.specs.steps.Righted.{with_number, righted}
@@ -147,7 +147,7 @@ module _ (r : Recording) (n : ℕ) (few : n ≤ most_open) (few-before : r.buffe
   unfolding why_use
   use_why known room l c = rw (stood (leb b.labels known && (leb b.uses room && leb c last_code)) (leb known most_entries && leb room most_entries))
 
-  apart_use : (o l c : Word) → Apart (use_label_lem o l c) r n
+  apart_use : (o l c : Word) → Apart (use_of_label o l c) r n
   unfolding use_label
   apart_use o l c =
       apart_by
@@ -215,11 +215,11 @@ module _ (r : Recording) (n : ℕ) (few : n ≤ most_open) (few-before : r.buffe
   abbrev tables : List ℕ × (List ℕ × List ℕ)
   tables = (r.constants, (r.asked, r.labels))
 
-  apart_asking : (c : Word) → Apart (constant_label_lem c) r n
+  apart_asking : (c : Word) → Apart (label_of_constant c) r n
   unfolding constant_label
   apart_asking c =
       let held = word_at r.constants (c.value * constant_words + 1) in
-      apart_by {c = constant_label_lem c} {r = r} {n = n}
+      apart_by {c = label_of_constant c} {r = r} {n = n}
       (decided Asked·same (asking_why (length r.constants / constant_size) (length r.asked / asked_size) (length r.labels / label_size) c.value) _ _
       (λ (m : ℕ). (none_made other m, tables)) (λ (m : ℕ). (none_made b m, tables))
       (together (eqb held none) Asked·same (asked_first other r.constants r.asked r.labels c.value) (made other held, tables) (asked_first b r.constants r.asked r.labels c.value) (made b held, tables)
@@ -243,11 +243,11 @@ module _ (r : Recording) (n : ℕ) (few : n ≤ most_open) (few-before : r.buffe
   apart new_label = apart_label
   apart (bind l) = apart_bind l
   apart (align m most) = apart_align m most
-  apart (use_label_lem o l c) = apart_use o l c
+  apart (use_of_label o l c) = apart_use o l c
   apart (ref o l c d) = apart_ref o l c d
   apart (jump p m l c) = apart_jump p m l c
   apart (constant l) = apart_constant l
-  apart (constant_label_lem c) = apart_asking c
+  apart (label_of_constant c) = apart_asking c
   apart (relocation o k t d) = apart_reloc o k t d
 
 -- A call on a recording with the right number answers as on one with any other, and leaves what that leaves, with the right number.

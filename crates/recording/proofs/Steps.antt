@@ -23,7 +23,7 @@ use Rattle.buffer.specs.declared.Made.{Made}
 use Rattle.buffer.specs.State.{none, keeps_events, with_refusal, with_code, refusing}
 use Rattle.buffer.specs.Refusals.{no_room_to_ask, why_bytes, why_label, why_bind, why_align, why_use, why_ref, why_jump, why_constant, why_constant_label, why_reloc}
 use Rattle.buffer.specs.Calls.{put_bytes, get_label, bind_label, aligned_events, align_to, use_label, record_ref, record_jump, padding, add_constant, asked_first, constant_label, add_reloc}
-use Rattle.recording.specs.Calls.{Recording, Word, Word64, bytes, new_label, bind, align, use_label_lem, ref, jump, constant, constant_label_lem, relocation, with_buffer, with_code_table, with_label_table, with_event_table, with_use_table, with_ref_table, with_constant_table, with_asked_table, with_reloc_table, after}
+use Rattle.recording.specs.Calls.{Recording, Word, Word64, bytes, new_label, bind, align, use_of_label, ref, jump, constant, label_of_constant, relocation, with_buffer, with_code_table, with_label_table, with_event_table, with_use_table, with_ref_table, with_constant_table, with_asked_table, with_reloc_table, after}
 use Rattle.recording.specs.Sound.{CodeSound, Sound}
 use Rattle.recording.proofs.Growth.{more_labels_events, more_labels_uses, more_labels_refs, more_labels_constants, more_labels_relocs, more_code_labels, more_code_events}
 use Rattle.recording.proofs.Tables.{appended, appended_before, append_label, bind_label_lem, append_use, append_ref, append_reloc, append_event, labels_beside_event, ends_by_last}
@@ -140,7 +140,7 @@ keeps_bytes r l s =
     })
     (refused r s why)
 
-pub keeps_use : (r : Recording) (o l c : Word) → Sound r → Sound (after (use_label_lem o l c) r)
+pub keeps_use : (r : Recording) (o l c : Word) → Sound r → Sound (after (use_of_label o l c) r)
 unfolding use_label
 keeps_use r o l c s =
     let b = r.buffer in
@@ -343,7 +343,7 @@ keeps_align r m most s =
     }))
     (refused r s why)
 
-pub keeps_constant_label : (r : Recording) (n : Word) → Sound r → Sound (after (constant_label_lem n) r)
+pub keeps_constant_label : (r : Recording) (n : Word) → Sound r → Sound (after (label_of_constant n) r)
 unfolding constant_label asked_first
 keeps_constant_label r n s =
     let b = r.buffer in

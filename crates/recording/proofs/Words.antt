@@ -28,11 +28,11 @@ use Rattle.recording.specs.Calls.{
   new_label,
   bind,
   align,
-  use_label_lem,
+  use_of_label,
   ref,
   jump,
   constant,
-  constant_label_lem,
+  label_of_constant,
   relocation,
   after,
   after_all,
@@ -168,7 +168,7 @@ call_words (align m most) r w =
     w)
     (omega (arith, f.fits, f.few)))
     (turned_down w (align_word (length r.code) (length r.events / event_size) m.value most.value w))
-call_words (use_label_lem o l c) r w =
+call_words (use_of_label o l c) r w =
     tested (why_use r.buffer (length r.labels / label_size) (length r.uses / use_size) l.value c.value) 0 Recorded·words _ _
     (λ h. let f = use_accepted h in word_open (word_uses w (omega (arith, f.fits, f.few))) (omega (arith, f.few_open, one_le (eqb (word_at r.labels l.value) none))))
     (turned_down w (use_word (length r.labels / label_size) (length r.uses / use_size) l.value c.value w))
@@ -190,7 +190,7 @@ call_words (constant l) r w =
     tested (why_constant r.buffer (length r.constants / constant_size) (length l)) 0 Made·words _ _
     (λ h. let f = constant_accepted h in word_constants w (omega (arith, f.fits, f.few)))
     (turned_down w (constant_word (length r.constants / constant_size) (length l) w))
-call_words (constant_label_lem n) r w =
+call_words (label_of_constant n) r w =
     let asked = length r.asked / asked_size in
     let labels = length r.labels / label_size in
     let P : Made × (List ℕ × (List ℕ × List ℕ)) → Type 0 = λ a. Words a.0.buffer in

@@ -30,13 +30,13 @@ pub data Call : Type 0 where
   -- multiple, most
   align : Word → Word → Call
   -- offset, label, code
-  use_label_lem : Word → Word → Word → Call
+  use_of_label : Word → Word → Word → Call
   -- offset, label, code, addend
   ref : Word → Word → Word → Word → Call
   -- start, length, label, condition
   jump : Word → Word → Word → Word → Call
   constant : List ℕ → Call
-  constant_label_lem : Word → Call
+  label_of_constant : Word → Call
   -- offset, kind, target, addend
   relocation : Word → Word → Word → Word64 → Call
 
@@ -76,12 +76,12 @@ after (bind l) r =
 after (align m k) r =
     let a = align_to r.buffer r.code r.events m.value k.value in
     with_event_table (with_code_table r a.0.buffer a.1.0) a.0.buffer a.1.1
-after (use_label_lem o l c) r = let a = use_label r.buffer r.labels r.uses o.value l.value c.value in with_use_table r a.0.buffer a.1
+after (use_of_label o l c) r = let a = use_label r.buffer r.labels r.uses o.value l.value c.value in with_use_table r a.0.buffer a.1
 after (ref o l c d) r = let a = record_ref r.buffer r.labels r.refs o.value l.value c.value d.value in with_ref_table r a.0.buffer a.1
 after (jump s n l c) r =
     let a = record_jump r.buffer r.labels r.events s.value n.value l.value c.value in with_event_table r a.0.buffer a.1
 after (constant l) r = let a = add_constant r.buffer r.constants l in with_constant_table r a.0.buffer a.1
-after (constant_label_lem n) r =
+after (label_of_constant n) r =
     let a = constant_label r.buffer r.constants r.asked r.labels n.value in
     with_label_table (with_asked_table (with_constant_table r a.0.buffer a.1.0) a.1.1.0) a.0.buffer a.1.1.1
 after (relocation o k t d) r = let a = add_reloc r.buffer r.labels r.relocs o.value k.value t.value d.value in with_reloc_table r a.0.buffer a.1
@@ -92,11 +92,11 @@ answered (bytes l) r = (put_bytes r.buffer r.code l).0.refusal
 answered new_label r = (get_label r.buffer r.labels).0.refusal
 answered (bind l) r = (bind_label r.buffer r.labels r.events r.uses r.refs r.relocs l.value).0.refusal
 answered (align m k) r = (align_to r.buffer r.code r.events m.value k.value).0.refusal
-answered (use_label_lem o l c) r = (use_label r.buffer r.labels r.uses o.value l.value c.value).0.refusal
+answered (use_of_label o l c) r = (use_label r.buffer r.labels r.uses o.value l.value c.value).0.refusal
 answered (ref o l c d) r = (record_ref r.buffer r.labels r.refs o.value l.value c.value d.value).0.refusal
 answered (jump s n l c) r = (record_jump r.buffer r.labels r.events s.value n.value l.value c.value).0.refusal
 answered (constant l) r = (add_constant r.buffer r.constants l).0.refusal
-answered (constant_label_lem n) r = (constant_label r.buffer r.constants r.asked r.labels n.value).0.refusal
+answered (label_of_constant n) r = (constant_label r.buffer r.constants r.asked r.labels n.value).0.refusal
 answered (relocation o k t d) r = (add_reloc r.buffer r.labels r.relocs o.value k.value t.value d.value).0.refusal
 
 -- and after a sequence of them

@@ -8,7 +8,7 @@ use Rattle.words.specs.Words.{word_at}
 use Rattle.fields.specs.Words64.{sign_extend}
 use Rattle.buffer.specs.Refusals.{standing}
 use Rattle.buffer.specs.Tables.{default_most}
-use Rattle.recording.specs.Calls.{Recording, Word, Word64, Call, bytes, new_label, bind, align, use_label_lem, ref, jump, constant, constant_label_lem, relocation, answered, after}
+use Rattle.recording.specs.Calls.{Recording, Word, Word64, Call, bytes, new_label, bind, align, use_of_label, ref, jump, constant, label_of_constant, relocation, answered, after}
 use Rattle.checks.specs.Lent.{counts_fit, within_limits}
 use Rattle.sheet_form.specs.Form.{is_whole, kinds_of, arguments_of, first_broken, bytes_call, new_label_call, bind_call, align_call, use_call, ref_call, jump_call, constant_call, constant_label_call, argument_size}
 
@@ -35,11 +35,11 @@ call_of kind a =
     (pick (eqb kind new_label_call) new_label
     (pick (eqb kind bind_call) (bind (word a 0))
     (pick (eqb kind align_call) (align (word a 0) (most_in a))
-    (pick (eqb kind use_call) (use_label_lem (word a 0) (word a 1) (word a 2))
+    (pick (eqb kind use_call) (use_of_label (word a 0) (word a 1) (word a 2))
     (pick (eqb kind ref_call) (ref (word a 0) (word a 1) (word a 2) (word a 3))
     (pick (eqb kind jump_call) (jump (word a 0) (word a 1) (word a 2) (word a 3))
     (pick (eqb kind constant_call) (constant (bytes_in a))
-    (pick (eqb kind constant_label_call) (constant_label_lem (word a 0))
+    (pick (eqb kind constant_label_call) (label_of_constant (word a 0))
     (relocation (word a 0) (word a 1) (word a 2) (signed_word a 3))))))))))
 
 unfoldable pub calls_of : List ℕ → List ℕ → List Call

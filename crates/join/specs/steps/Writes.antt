@@ -27,7 +27,7 @@ pub record Puts (known : ℕ → ℕ) (l : Lent) (p : Piece) (c : Cursor) (at ou
   pub labels : Labelled l.labels p c
   pub relocs : RelocsIn l.relocs p c
   pub inside : relocs_hold Inside known l.relocs p c p.relocs ≡ true
-  pub labels_move_lem : labels_move l.labels p c p.labels ≡ true
+  pub labels_moved : labels_move l.labels p c p.labels ≡ true
   pub relocs_move : RelocsMove l.relocs p c
   pub output_room : base_of p c + p.len ≤ output
   pub labels_room : (c.labels + p.labels) * label_size ≤ label-bytes
@@ -40,7 +40,7 @@ pub record Joins (l : Lent) (n output label-bytes reloc-bytes : ℕ) : Type 0 wh
   pub relocations : Relocations l.pieces l.relocs n
   pub code : (k : ℕ) → k < n → CodeIn l.code (piece_at l.pieces k) (cursor_at l.pieces k)
   pub inside : all_hold Inside (find l.pieces l.labels l.definitions n) l.pieces l.relocs n ≡ true
-  pub labels_move_lem : all_labels_move l.pieces l.labels n ≡ true
+  pub labels_moved : all_labels_move l.pieces l.labels n ≡ true
   pub relocs_move : (k : ℕ) → k < n → RelocsMove l.relocs (piece_at l.pieces k) (cursor_at l.pieces k)
   pub output_room : (cursor_at l.pieces n).end ≤ output
   pub labels_room : (cursor_at l.pieces n).labels * label_size ≤ label-bytes

@@ -1,0 +1,14 @@
+-- `try_align_to` meets its contract: the tables, then the counts.
+use Rattle.buffer.specs.Tables.{default_most}
+use Rattle.buffer.proofs.Aligning.{align_answered, aligned_fits}
+use Rattle.buffer.proofs.CodeBuffer.try_align_to.Goals as goal
+
+pub aligned-requires : goal.aligned-requires
+aligned-requires c =
+    let a = c.args in
+    aligned_fits a.self a.code.now a.events.now a.multiple default_most _ _ c.align_tables-spent.ensures
+
+pub returns : goal.returns
+returns c =
+    let a = c.args in
+    align_answered a.self a.code.now a.events.now a.multiple default_most _ _ c.align_tables-spent.ensures c.aligned.ensures

@@ -1,0 +1,13 @@
+-- `label_inside` meets its contract: what was found among the labels passed.
+use mathlib.Core.Path.{◌≡◌, refl, ◌∙◌}
+use Prim.Native.Nat.{◌-◌, ◌≤◌}
+use native.Mathlib.Omega.{arith}
+use Rattle.buffer.specs.Refusals.{label_inside}
+use Rattle.buffer.proofs.Scan.{scan_step}
+use Rattle.buffer.proofs.jumps.label_inside.Given as goal
+
+abbrev pub invariant-loop-i : goal.invariant-loop-i
+invariant-loop-i l = (l.i ≤ l.n) × (l.found ≡ label_inside l.labels l.i l.start l.end)
+
+abbrev pub decreases-loop-i : goal.decreases-loop-i
+decreases-loop-i l = l.n - l.i
