@@ -1,5 +1,7 @@
 // The pool of constants: where the constants that were asked for stand, after asmkit's core/buffer.rs (see NOTICE). `asked` lists them in order; an entry
 // of `constants` is a size, a label and 64 bytes.
+#![tactic(auto)]
+
 ghost use Rattle.std.specs.Prelude.{◌≡◌, ◌+◌, ◌*◌, ◌≤◌, max, length};
 ghost use Rattle.seqs.specs.Over.{over};
 ghost use Rattle.words.specs.Words.{word_at};

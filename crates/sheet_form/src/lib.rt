@@ -1,5 +1,7 @@
 // The form of a sheet of calls, and what its run keeps of the labels from call to call.
 
+#![tactic(auto)]
+
 pub mod bound;
 pub mod form;
 pub mod kinds;

@@ -1,0 +1,14 @@
+-- `code_alignment` meets its contract: after j turns, `alignment` is the greater of 32 and the largest of the first j.
+use mathlib.Core.Path.{◌≡◌, refl, ap, ◌∙◌}
+use Prim.Native.Nat.{◌-◌, ◌≤◌}
+use native.Mathlib.Numerals.{add-one}
+use native.Mathlib.Omega.{arith}
+use Rattle.fresh.specs.Pooled.{constant_alignment}
+use Rattle.pool.specs.steps.Pool.{pool_alignment}
+use Rattle.pool.proofs.code_alignment.Given as goal
+
+abbrev pub invariant-loop-j : goal.invariant-loop-j
+invariant-loop-j l = (l.j ≤ l.n) × (l.alignment ≡ pool_alignment l.constants l.asked l.j)
+
+abbrev pub decreases-loop-j : goal.decreases-loop-j
+decreases-loop-j l = l.n - l.j

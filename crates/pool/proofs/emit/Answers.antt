@@ -1,0 +1,52 @@
+-- `emit` meets its contract: after j turns what the first j constants take is written, and `at` is where constant j's alignment starts.
+use mathlib.Core.Path.{◌≡◌, refl, sym}
+use Prim.Native.Nat.{◌+◌, ◌*◌, ◌-◌, ◌≤◌}
+use native.Mathlib.Omega.{arith}
+use lib.ListN.{length}
+use Rattle.seqs.specs.Over.{over}
+use Rattle.seqs.proofs.Overwrites.{over_nil, length_over}
+use Rattle.pool.specs.steps.Pool.{pool_start, pool_bytes, most_pooled}
+use Rattle.pool.proofs.Pool.{Turn, pad_small, start_turn, within_turn, emit_turn}
+use Rattle.pool.proofs.emit.Goals as goal
+
+pub loop-j-init : goal.loop-j-init
+unfolding pool_start pool_bytes
+loop-j-init c = (omega arith, refl, omega arith, refl, sym (over_nil _ _))
+
+pub size_at-size-requires : goal.size_at-size-requires
+size_at-size-requires c =
+    omega (arith, c.requires.pool_fits.listed _ c.loop-j-test.true)
+
+pub overflow_add-offset : goal.overflow_add-offset
+overflow_add-offset c =
+    let a = c.args in let turned : let l = c.loop-j in Turn a.from a.constants.now a.asked.now l.j l.at c.size_at-size.result c.constant_alignment.result c.padding_len.result = search in
+    omega (arith, pad_small turned, c.requires.pool_fits.few)
+
+pub overflow_add-end : goal.overflow_add-end
+overflow_add-end c =
+    let a = c.args in let turned : let l = c.loop-j in Turn a.from a.constants.now a.asked.now l.j l.at c.size_at-size.result c.constant_alignment.result c.padding_len.result = search in
+    let turn = turned in
+    omega (arith, pad_small turn, c.requires.pool_fits.few, c.requires.pool_fits.sized _ c.loop-j-test.true, turn.sized)
+
+pub slice_bounds-pad-end : goal.slice_bounds-pad-end
+slice_bounds-pad-end c =
+    let a = c.args in let turned : let l = c.loop-j in Turn a.from a.constants.now a.asked.now l.j l.at c.size_at-size.result c.constant_alignment.result c.padding_len.result = search in
+    omega (arith, within_turn turned c.loop-j-test.true, c.requires.output_within)
+
+pub slice_bounds-clear-end : goal.slice_bounds-clear-end
+slice_bounds-clear-end c =
+    let a = c.args in let turned : let l = c.loop-j in Turn a.from a.constants.now a.asked.now l.j l.at c.size_at-size.result c.constant_alignment.result c.padding_len.result = search in
+    omega (arith, within_turn turned c.loop-j-test.true, c.requires.output_within)
+
+pub loop-j-preserved : goal.loop-j-preserved
+loop-j-preserved c =
+    let a = c.args in let turned : let l = c.loop-j in Turn a.from a.constants.now a.asked.now l.j l.at c.size_at-size.result c.constant_alignment.result c.padding_len.result = search in
+    let a = c.args in
+    let turn = turned in
+    let inside = within_turn turn c.loop-j-test.true in
+    let written = emit_turn a.output.now a.arch turn c.loop-j.invariant.4 (omega (arith, inside, c.requires.output_within)) c.pad.ensures c.clear.ensures in
+    (omega arith, start_turn turn, omega (arith, pad_small turn, c.requires.pool_fits.sized _ c.loop-j-test.true, turn.sized), rw written (length_over _ _ _), written)
+
+pub returns : goal.returns
+returns c =
+    let all : c.loop-j.j ≡ c.args.n = omega arith in rw all at c.loop-j.invariant.4

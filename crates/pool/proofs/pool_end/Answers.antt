@@ -1,0 +1,40 @@
+-- `pool_end` meets its contract: after j turns, `at` is where constant j's alignment starts.
+use mathlib.Core.Path.{◌≡◌, refl}
+use Prim.Native.Nat.{◌+◌, ◌*◌, ◌-◌, ◌≤◌}
+use native.Mathlib.Omega.{arith}
+use Rattle.pool.specs.steps.Pool.{pool_start, most_pooled}
+use Rattle.pool.proofs.Pool.{Turn, pad_small, start_turn}
+use Rattle.pool.proofs.pool_end.Goals as goal
+
+-- what a turn has of its constant
+turned : (c : goal.After-padding_len)
+    → let a = c.args in
+    let l = c.loop-j in
+    Turn a.from a.constants.now a.asked.now l.j l.at c.size_at-size.result c.constant_alignment.result c.padding_len.result
+turned c = search
+
+pub loop-j-init : goal.loop-j-init
+unfolding pool_start
+loop-j-init c = (omega arith, refl, omega arith)
+
+pub size_at-size-requires : goal.size_at-size-requires
+size_at-size-requires c =
+    omega (arith, c.requires.pool_fits.listed _ c.loop-j-test.true)
+
+pub overflow_add-at : goal.overflow_add-at
+overflow_add-at c =
+    omega (arith, pad_small (turned c), c.requires.pool_fits.few)
+
+pub overflow_add-at-in-loop-j : goal.overflow_add-at-in-loop-j
+overflow_add-at-in-loop-j c =
+    let turn = turned c in
+    omega (arith, pad_small turn, c.requires.pool_fits.few, c.requires.pool_fits.sized _ c.loop-j-test.true, turn.sized)
+
+pub loop-j-preserved : goal.loop-j-preserved
+loop-j-preserved c =
+    let turn = turned c in
+    (omega arith, start_turn turn, omega (arith, pad_small turn, c.requires.pool_fits.sized _ c.loop-j-test.true, turn.sized))
+
+pub returns : goal.returns
+returns c =
+    let all : c.loop-j.j ≡ c.args.n = omega arith in (rw all at c.loop-j.invariant.1, omega arith)

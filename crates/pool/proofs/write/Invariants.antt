@@ -1,0 +1,14 @@
+-- `write` meets its contract: after j turns the bytes of the first j constants are written.
+use mathlib.Core.Path.{◌≡◌, refl}
+use Prim.Native.Nat.{◌-◌, ◌≤◌}
+use native.Mathlib.Omega.{arith}
+use lib.ListN.{length}
+use Rattle.pool.specs.steps.Pool.{pool_written}
+use Rattle.pool.proofs.Pool.{Writing, from_turn, room_turn, written_turn, length_pool_written}
+use Rattle.pool.proofs.write.Given as goal
+
+abbrev pub invariant-loop-j : goal.invariant-loop-j
+invariant-loop-j l = (l.j ≤ l.n) × (length l.output ≡ length l.initial.output) × (l.output ≡ pool_written l.initial.output l.labels l.constants l.asked l.j)
+
+abbrev pub decreases-loop-j : goal.decreases-loop-j
+decreases-loop-j l = l.n - l.j
