@@ -2,4 +2,3 @@ pub mod Jumps
 pub mod Fields
 pub mod Turns
 pub mod Runs
-pub mod Plans

@@ -12,4 +12,3 @@ pub mod WithOrWithoutJump
 pub mod FitOrRefused
 pub mod RemainsOpen
 pub mod WholeFinish
-pub mod Plans

@@ -11,4 +11,3 @@ pub mod Table
 pub mod Scan
 pub mod Settled
 pub mod Standing
-pub mod Plans

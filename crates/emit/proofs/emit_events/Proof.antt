@@ -1,5 +1,4 @@
 -- `emit_events` meets its contract: after i turns the first i events and the runs before them are written, and `old` and `new` are where the layout stands.
-mod Tie
 use Rattle.std.proofs.Common.{◌≡◌, ◌-◌, ◌≤◌, length, take, sym, refl, ap, ◌∙◌, arith, rules}
 use Rattle.seqs.specs.Over.{over}
 use Rattle.seqs.proofs.Overwrites.{over_nil, length_over}
@@ -8,7 +7,7 @@ use Rattle.recording.specs.View.{entries}
 use Rattle.fresh.specs.steps.Runs.{after, runs_to}
 use Rattle.emit.proofs.Runs.{segments_size, order, starts, begins, ends, inside, arrived, turn, last_old, last_room, finished, event_within}
 use Rattle.emit.proofs.emit_events.Statement.{statement}
-use Rattle.emit.proofs.emit_events.Proof.Tie as tie
+use Rattle.emit.proofs.emit_events.Tie as tie
 
 abbrev invariant-loop : tie.invariant-loop
 invariant-loop output₀ code events long segments n len arch old₀ new₀ i₀ output old new i = (i ≤ n) × (after i 0 0 (entries (event_at events) n) long ≡ record { old = old; new = new }) × (length output ≡ length output₀) × (output ≡ over output₀ 0 (runs_to i arch 0 0 (take len code) (entries (event_at events) n) long))

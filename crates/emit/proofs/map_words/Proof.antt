@@ -1,12 +1,11 @@
 -- `map_words` meets its contract: after i turns the first i of the words are mapped.
-mod Tie
 use Rattle.std.proofs.Common.{◌≡◌, ◌-◌, ◌≤◌, length, take, refl, ◌∙◌, arith, rules}
 use Rattle.words.proofs.Laws.{length_set_word}
 use Rattle.fresh.specs.Segments.{map_offset}
 use Rattle.emit.specs.steps.Emit.{mapped_words}
 use Rattle.emit.proofs.Turns.{mapped_next, mapped_turn}
 use Rattle.emit.proofs.map_words.Statement.{statement}
-use Rattle.emit.proofs.map_words.Proof.Tie as tie
+use Rattle.emit.proofs.map_words.Tie as tie
 
 abbrev invariant-loop : tie.invariant-loop
 invariant-loop table₀ segments index shift stride count n i₀ table i = (i ≤ count) × (length table ≡ length table₀) × (table ≡ mapped_words (map_offset (take n segments)) table₀ stride i)

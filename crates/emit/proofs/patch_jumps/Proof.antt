@@ -1,11 +1,10 @@
 -- `patch_jumps` meets its contract: after i turns the displacements of the first i jumps are written.
-mod Tie
 use Rattle.std.proofs.Common.{◌≡◌, ◌-◌, ◌≤◌, length, refl, ◌∙◌, arith, rules}
 use Rattle.emit.specs.steps.Emit.{jumps_filled}
 use Rattle.emit.proofs.Turns.{jumps_turn}
 use Rattle.fresh.proofs.Fill.{length_fill_jump}
 use Rattle.emit.proofs.patch_jumps.Statement.{statement}
-use Rattle.emit.proofs.patch_jumps.Proof.Tie as tie
+use Rattle.emit.proofs.patch_jumps.Tie as tie
 
 abbrev invariant-loop : tie.invariant-loop
 invariant-loop output₀ events labels long segments n i₀ output i = (i ≤ n) × (length output ≡ length output₀) × (output ≡ jumps_filled output₀ events labels long segments i)

@@ -1,11 +1,10 @@
 -- `patch_refs` meets its contract: after i turns the first i refs are filled.
-mod Tie
 use Rattle.std.proofs.Common.{◌≡◌, ◌-◌, ◌≤◌, length, refl, ◌∙◌, arith, rules}
 use Rattle.fresh.proofs.Fill.{length_fill_field}
 use Rattle.emit.specs.steps.Emit.{refs_filled}
 use Rattle.emit.proofs.Turns.{refs_turn}
 use Rattle.emit.proofs.patch_refs.Statement.{statement}
-use Rattle.emit.proofs.patch_refs.Proof.Tie as tie
+use Rattle.emit.proofs.patch_refs.Tie as tie
 
 abbrev invariant-loop : tie.invariant-loop
 invariant-loop output₀ refs labels segments index shift count n i₀ output i = (i ≤ count) × (length output ≡ length output₀) × (output ≡ refs_filled output₀ refs labels segments n i)

@@ -1,10 +1,9 @@
 -- `refs_reach` meets its contract: every ref passed reaches.
-mod Tie
 use Rattle.std.proofs.Common.{◌-◌, arith, rules}
 use Rattle.seqs.proofs.Scans.{AllPassed, pass_one, pass_fails, scans}
 use Rattle.emit.specs.steps.Emit.{ref_reaches, refs_reach}
 use Rattle.emit.proofs.refs_reach.Statement.{statement}
-use Rattle.emit.proofs.refs_reach.Proof.Tie as tie
+use Rattle.emit.proofs.refs_reach.Tie as tie
 
 abbrev invariant-loop : tie.invariant-loop
 invariant-loop refs labels segments index shift count n i₀ i = AllPassed (ref_reaches refs labels segments n) count i

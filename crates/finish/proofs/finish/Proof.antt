@@ -1,11 +1,10 @@
 -- `finish` meets its contract: what it begins, relaxes and concludes.
-mod Tie
 use mathlib.Core.Path.{refl}
 use native.Mathlib.Omega.{arith}
 use borrow.Author.Rules.{rules}
 use borrow.Author.Tests.{not-true, not-false}
 use Rattle.finish.proofs.finish.Statement.{statement}
-use Rattle.finish.proofs.finish.Proof.Tie as tie
+use Rattle.finish.proofs.finish.Tie as tie
 
 returns : tie.Need-returns
 returns c =

@@ -1,5 +1,4 @@
 -- `end_before` meets its contract.
-mod Tie
 use mathlib.Core.Path.{◌≡◌, refl, ap}
 use mathlib.Core.Logic.{◌≢◌}
 use mathlib.Core.List.{List}
@@ -11,7 +10,7 @@ use Rattle.relax.specs.declared.Segment.{Segment}
 use Rattle.layout.specs.steps.Layout.{zero_segment}
 use Rattle.layout.specs.steps.Targets.{end_before}
 use Rattle.layout.proofs.end_before.Statement.{statement}
-use Rattle.layout.proofs.end_before.Proof.Tie as tie
+use Rattle.layout.proofs.end_before.Tie as tie
 
 end-of-last : (ss : List Segment) (k : ℕ) → k ≢ 0 → (get_or ss (k - 1) zero_segment).new_end ≡ end_before ss k
 end-of-last ss zero some = absurd (some refl)

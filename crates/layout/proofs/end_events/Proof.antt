@@ -1,5 +1,4 @@
 -- `end_events` meets its contract: a turn writes one end more.
-mod Tie
 use mathlib.Core.Path.{◌≡◌, refl, ◌∙◌}
 use Prim.Native.Nat.{◌-◌, ◌≤◌}
 use native.Mathlib.Numerals.{add-one}
@@ -11,7 +10,7 @@ use Rattle.recording.specs.View.{entries}
 use Rattle.layout.specs.steps.Targets.{Ended}
 use Rattle.layout.proofs.Ends.{ended_none, ended_follows, ended_more}
 use Rattle.layout.proofs.end_events.Statement.{statement}
-use Rattle.layout.proofs.end_events.Proof.Tie as tie
+use Rattle.layout.proofs.end_events.Tie as tie
 
 abbrev invariant-loop : tie.invariant-loop
 invariant-loop segments₀ events long n last₀ i₀ segments last i =

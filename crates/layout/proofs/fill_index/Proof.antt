@@ -1,5 +1,4 @@
 -- `fill_index` meets its contract: after i turns the first i starts are marked.
-mod Tie
 use mathlib.Core.Path.{◌≡◌, refl, ◌∙◌}
 use Prim.Native.Nat.{◌-◌, ◌≤◌}
 use native.Mathlib.Omega.{arith}
@@ -10,7 +9,7 @@ use Rattle.lookup.proofs.Index.{filled_none, filled_one, filled_all}
 use Rattle.layout.specs.steps.Layout.{start_at}
 use Rattle.layout.proofs.Search.{sorted_rises}
 use Rattle.layout.proofs.fill_index.Statement.{statement}
-use Rattle.layout.proofs.fill_index.Proof.Tie as tie
+use Rattle.layout.proofs.fill_index.Tie as tie
 
 abbrev invariant-loop : tie.invariant-loop
 invariant-loop index₀ shift segments n next₀ i₀ index next i = Filled index (start_at segments) n shift i next × (i ≤ n) × (length index ≡ length index₀)

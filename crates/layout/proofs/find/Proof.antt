@@ -1,5 +1,4 @@
 -- `find` meets its contract: the search narrows to where the starts pass the offset.
-mod Tie
 use mathlib.Core.Path.{◌≡◌, ap}
 use Prim.Native.Nat.{◌-◌}
 use native.Mathlib.Omega.{arith}
@@ -8,7 +7,7 @@ use Rattle.relax.specs.declared.Segment.{Segment}
 use Rattle.layout.specs.steps.Layout.{Between}
 use Rattle.layout.proofs.Search.{between_first, between_right, between_left}
 use Rattle.layout.proofs.find.Statement.{statement}
-use Rattle.layout.proofs.find.Proof.Tie as tie
+use Rattle.layout.proofs.find.Tie as tie
 
 abbrev invariant-loop : tie.invariant-loop
 invariant-loop segments n index shift offset low₀ high₀ low high = Between segments n offset low high

@@ -1,5 +1,4 @@
 -- `find_targets` meets its contract: a turn writes one target more, and leaves what is searched.
-mod Tie
 use mathlib.Core.Path.{◌≡◌}
 use mathlib.Core.List.{List}
 use Prim.Native.Nat.{◌-◌, ◌≤◌}
@@ -12,7 +11,7 @@ use Rattle.layout.proofs.Found.{indexed_shown}
 use Rattle.layout.proofs.SamePast.{same_past_none, same_past_more, same_past_set}
 use Rattle.layout.proofs.Targets.{Targeted, targeted_none, targeted_more}
 use Rattle.layout.proofs.find_targets.Statement.{statement}
-use Rattle.layout.proofs.find_targets.Proof.Tie as tie
+use Rattle.layout.proofs.find_targets.Tie as tie
 
 abbrev invariant-loop : tie.invariant-loop
 invariant-loop segments₀ events labels n all index shift i₀ segments i =

@@ -1,9 +1,8 @@
 -- `index_segments` meets its contract.
-mod Tie
 use borrow.Author.Rules.{rules}
 use Rattle.lookup.proofs.Index.{indexed_none}
 use Rattle.layout.proofs.index_segments.Statement.{statement}
-use Rattle.layout.proofs.index_segments.Proof.Tie as tie
+use Rattle.layout.proofs.index_segments.Tie as tie
 
 returns : tie.Need-returns
 returns c =

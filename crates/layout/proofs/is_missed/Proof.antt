@@ -1,12 +1,11 @@
 -- `is_missed` meets its contract: its tests are made in order.
-mod Tie
 use mathlib.Core.Path.{refl, ◌∙◌, ap}
 use Prim.Native.Nat.{◌+◌}
 use native.Mathlib.Omega.{arith}
 use borrow.Author.Rules.{rules}
 use Rattle.layout.proofs.Missed.{missed_none, missed_reach}
 use Rattle.layout.proofs.is_missed.Statement.{statement}
-use Rattle.layout.proofs.is_missed.Proof.Tie as tie
+use Rattle.layout.proofs.is_missed.Tie as tie
 
 returns : tie.Need-returns
 returns c = rw c.if1.true refl

@@ -1,5 +1,4 @@
 -- `layout` meets its contract: the pool's alignments follow the recorded events.
-mod Tie
 use mathlib.Core.Path.{refl, ◌∙◌}
 use native.Mathlib.Omega.{arith}
 use borrow.Author.Rules.{rules}
@@ -7,7 +6,7 @@ use Rattle.layout.proofs.Turns.{recorded_more, events_end}
 use Rattle.layout.proofs.Pooling.{segments_join, ends_join}
 use borrow.Author.Rules.{rules}
 use Rattle.layout.proofs.layout.Statement.{statement}
-use Rattle.layout.proofs.layout.Proof.Tie as tie
+use Rattle.layout.proofs.layout.Tie as tie
 
 layout-events-requires : tie.Need-layout-events-requires
 layout-events-requires c κs =

@@ -1,5 +1,4 @@
 -- `layout_events` meets its contract: a turn lays out one event more.
-mod Tie
 use mathlib.Core.Path.{◌≡◌, refl, ◌∙◌}
 use Prim.Native.Nat.{◌-◌, ◌≤◌}
 use native.Mathlib.Numerals.{add-one}
@@ -11,7 +10,7 @@ use Rattle.recording.specs.View.{entries}
 use Rattle.layout.specs.steps.Layout.{Laid}
 use Rattle.layout.proofs.Turns.{laid_none, event_follows, event_laid}
 use Rattle.layout.proofs.layout_events.Statement.{statement}
-use Rattle.layout.proofs.layout_events.Proof.Tie as tie
+use Rattle.layout.proofs.layout_events.Tie as tie
 
 abbrev invariant-loop : tie.invariant-loop
 invariant-loop segments₀ events long n last₀ i₀ segments last i =

@@ -1,5 +1,4 @@
 -- `layout_pool` meets its contract: a turn lays out one alignment more.
-mod Tie
 use mathlib.Core.Path.{◌≡◌, refl, ◌∙◌}
 use Prim.Native.Nat.{◌-◌, ◌≤◌}
 use native.Mathlib.Numerals.{add-one}
@@ -8,7 +7,7 @@ use lib.ListN.{length}
 use borrow.Author.Rules.{rules}
 use Rattle.layout.proofs.Pooling.{PoolLaid, pool_none, pool_more, pool_padding_lem}
 use Rattle.layout.proofs.layout_pool.Statement.{statement}
-use Rattle.layout.proofs.layout_pool.Proof.Tie as tie
+use Rattle.layout.proofs.layout_pool.Tie as tie
 
 abbrev invariant-loop : tie.invariant-loop
 invariant-loop segments₀ constants asked n m old new from₀ to₀ j₀ segments from to j =

@@ -1,5 +1,4 @@
 -- `lengthen` meets its contract: a turn scans one event more.
-mod Tie
 use mathlib.Core.Path.{◌≡◌, refl, ◌∙◌, ap}
 use mathlib.Core.Logic.{⊎_elim}
 use Prim.Native.Nat.{◌-◌, ◌≤◌}
@@ -9,7 +8,7 @@ use borrow.Author.Rules.{rules}
 use Rattle.layout.specs.steps.Targets.{missed}
 use Rattle.layout.proofs.Scan.{Scanned, scanned_none, scan_mark, scan_keep, scan_all}
 use Rattle.layout.proofs.lengthen.Statement.{statement}
-use Rattle.layout.proofs.lengthen.Proof.Tie as tie
+use Rattle.layout.proofs.lengthen.Tie as tie
 
 abbrev invariant-loop : tie.invariant-loop
 invariant-loop segments events long₀ n grew₀ i₀ long grew i =

@@ -1,10 +1,9 @@
 -- `locate` meets its contract: the last event that starts at or before the label is passed, or holds it.
-mod Tie
 use native.Mathlib.Omega.{arith}
 use borrow.Author.Rules.{rules}
 use Rattle.layout.proofs.Found.{finds_none, finds_first, shown_sorted, end_stands, locates_past, locates_inside_first, locates_inside, passes_under}
 use Rattle.layout.proofs.locate.Statement.{statement}
-use Rattle.layout.proofs.locate.Proof.Tie as tie
+use Rattle.layout.proofs.locate.Tie as tie
 
 returns : tie.Need-returns
 returns c es shown = finds_none es _ c.if1.true

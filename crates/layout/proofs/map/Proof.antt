@@ -1,12 +1,11 @@
 -- `map` meets its contract: the last segment that starts at or before the offset decides.
-mod Tie
 use mathlib.Core.Path.{◌∙◌}
 use Prim.Native.Nat.{◌-◌, ◌<◌}
 use native.Mathlib.Omega.{arith}
 use Rattle.layout.proofs.Search.{rising_sorted, map_none, found_none, found_last}
 use borrow.Author.Rules.{rules}
 use Rattle.layout.proofs.map.Statement.{statement}
-use Rattle.layout.proofs.map.Proof.Tie as tie
+use Rattle.layout.proofs.map.Tie as tie
 
 returns : tie.Need-returns
 returns c = map_none _ _ c.if1.true

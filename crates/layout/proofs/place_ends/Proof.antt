@@ -1,11 +1,10 @@
 -- `place_ends` meets its contract: the pool's alignments follow the recorded events.
-mod Tie
 use native.Mathlib.Omega.{arith}
 use borrow.Author.Rules.{rules}
 use Rattle.layout.proofs.Turns.{recorded_more}
 use Rattle.layout.proofs.Ends.{ended_low, ended_small, placed}
 use Rattle.layout.proofs.place_ends.Statement.{statement}
-use Rattle.layout.proofs.place_ends.Proof.Tie as tie
+use Rattle.layout.proofs.place_ends.Tie as tie
 
 end-events-requires : tie.Need-end-events-requires
 end-events-requires c κs =

@@ -1,8 +1,7 @@
 -- `put_target` meets its contract: the rest of the row is written as it was.
-mod Tie
 use borrow.Author.Rules.{rules}
 use Rattle.layout.proofs.put_target.Statement.{statement}
-use Rattle.layout.proofs.put_target.Proof.Tie as tie
+use Rattle.layout.proofs.put_target.Tie as tie
 
 returns : tie.Need-returns
 returns c =

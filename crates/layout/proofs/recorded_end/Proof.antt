@@ -1,12 +1,11 @@
 -- `recorded_end` meets its contract.
-mod Tie
 use mathlib.Core.Path.{◌∙◌, ap}
 use native.Mathlib.Omega.{arith}
 use borrow.Author.Rules.{rules}
 use borrow.Author.Tests.{lt-ltb, le-ltb}
 use Rattle.relax.specs.Events.{end_of}
 use Rattle.layout.proofs.recorded_end.Statement.{statement}
-use Rattle.layout.proofs.recorded_end.Proof.Tie as tie
+use Rattle.layout.proofs.recorded_end.Tie as tie
 
 event-at-requires : tie.Need-event-at-requires
 event-at-requires c κs =

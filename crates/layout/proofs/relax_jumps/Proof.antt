@@ -1,5 +1,4 @@
 -- `relax_jumps` meets its contract: a round that lengthens a jump leaves fewer short ones, and one that lengthens none is the last.
-mod Tie
 use mathlib.Core.Path.{◌≡◌, refl, sym, ◌∙◌}
 use Prim.Native.Nat.{◌+◌, ◌-◌, ◌≤◌}
 use native.Mathlib.Omega.{arith}
@@ -15,7 +14,7 @@ use Rattle.layout.proofs.Found.{shown_sorted, indexed_shown}
 use Rattle.layout.proofs.Targets.{aiming_stays}
 use Rattle.layout.proofs.Standing.{Standing, standing_none, layouts_few, shown_laid, relaxed_from, round_adds, round_less, round_more, round_done}
 use Rattle.layout.proofs.relax_jumps.Statement.{statement}
-use Rattle.layout.proofs.relax_jumps.Proof.Tie as tie
+use Rattle.layout.proofs.relax_jumps.Tie as tie
 
 -- The table is the one that the loop was handed, but for its events' rows.
 abbrev invariant-loop : tie.invariant-loop

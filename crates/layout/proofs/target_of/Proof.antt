@@ -1,12 +1,11 @@
 -- `target_of` meets its contract, by cases of the event.
-mod Tie
 use mathlib.Core.Path.{refl, sym, ◌∙◌, ap}
 use native.Mathlib.Omega.{arith}
 use borrow.Author.Rules.{rules}
 use Rattle.fresh.specs.Forms.{branch_of, far_branch_of, role_of}
 use Rattle.layout.proofs.Targets.{aims_branch, aims_none}
 use Rattle.layout.proofs.target_of.Statement.{statement}
-use Rattle.layout.proofs.target_of.Proof.Tie as tie
+use Rattle.layout.proofs.target_of.Tie as tie
 
 event-at-requires : tie.Need-event-at-requires
 event-at-requires c κs =

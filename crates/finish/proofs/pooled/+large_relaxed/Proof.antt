@@ -1,5 +1,4 @@
 -- `large_relaxed` meets its contract: it lends `relax_and_write` a mark for each event. It never calls itself, since `again` is 0.
-mod Tie
 use Prim.Native.Nat.{ℕ, ◌<◌}
 use native.Mathlib.Omega.{arith}
 use borrow.Fn.Kinds.{In}

@@ -1,9 +1,8 @@
 -- `relaxed` meets its contract: each way does what is asked.
-mod Tie
 use native.Mathlib.Omega.{arith}
 use borrow.Author.Rules.{rules}
 use Rattle.finish.proofs.pooled.relaxed.Statement.{statement}
-use Rattle.finish.proofs.pooled.relaxed.Proof.Tie as tie
+use Rattle.finish.proofs.pooled.relaxed.Tie as tie
 
 pub relaxed-spec : {M : Type 1} → statement M
 relaxed-spec =

@@ -1,10 +1,9 @@
 -- `small_relaxed` meets its contract: it lends `relax_and_write` a mark for each event.
-mod Tie
 use Rattle.checks.specs.steps.Handed.{few_marks}
 use Rattle.finish.proofs.StageAnswers.{marks_short}
 use borrow.Author.Rules.{rules}
 use Rattle.finish.proofs.pooled.small_relaxed.Statement.{statement}
-use Rattle.finish.proofs.pooled.small_relaxed.Proof.Tie as tie
+use Rattle.finish.proofs.pooled.small_relaxed.Tie as tie
 
 relax-and-write-requires : tie.Need-relax-and-write-requires
 relax-and-write-requires c κs = let s : tie.Start = search in (s.pre.0, marks_short _ few_marks s.pre.1)

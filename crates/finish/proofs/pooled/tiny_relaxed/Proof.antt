@@ -1,10 +1,9 @@
 -- `tiny_relaxed` meets its contract: it lends `relax_and_write` a mark for each event, and no index.
-mod Tie
 use native.Mathlib.Nat.{le_of_lt}
 use Rattle.finish.proofs.StageAnswers.{marks_short}
 use borrow.Author.Rules.{rules}
 use Rattle.finish.proofs.pooled.tiny_relaxed.Statement.{statement}
-use Rattle.finish.proofs.pooled.tiny_relaxed.Proof.Tie as tie
+use Rattle.finish.proofs.pooled.tiny_relaxed.Tie as tie
 
 pub tiny-relaxed-spec : {M : Type 1} → statement M
 tiny-relaxed-spec =

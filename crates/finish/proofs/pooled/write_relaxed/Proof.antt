@@ -1,5 +1,4 @@
 -- `write_relaxed` meets its contract: the calls in their order.
-mod Tie
 use mathlib.Core.Path.{◌∙◌}
 use native.Mathlib.Omega.{arith}
 use borrow.Author.Rules.{rules}
@@ -7,7 +6,7 @@ use lib.Dec.{lit≤}
 use Rattle.lookup.proofs.Index.{indexed_none}
 use Rattle.finish.proofs.FinishedCode.{written_in_order}
 use Rattle.finish.proofs.pooled.write_relaxed.Statement.{statement}
-use Rattle.finish.proofs.pooled.write_relaxed.Proof.Tie as tie
+use Rattle.finish.proofs.pooled.write_relaxed.Tie as tie
 
 abbrev entered : tie.After-emit-events → tie.Start
 entered c = search
