@@ -1,0 +1,16 @@
+-- `fill_index` meets its contract: after i turns the first i starts are marked.
+use mathlib.Core.Path.{◌≡◌, refl, ◌∙◌}
+use Prim.Native.Nat.{◌-◌, ◌≤◌}
+use native.Mathlib.Omega.{arith}
+use lib.ListN.{length}
+use Rattle.lookup.specs.steps.Index.{Filled}
+use Rattle.lookup.proofs.Index.{filled_none, filled_one, filled_all}
+use Rattle.layout.specs.steps.Layout.{start_at}
+use Rattle.layout.proofs.Search.{sorted_rises}
+use Rattle.layout.proofs.fill_index.Given as goal
+
+abbrev pub invariant-loop-i : goal.invariant-loop-i
+invariant-loop-i l = Filled l.index (start_at l.segments) l.n l.shift l.i l.next × (l.i ≤ l.n) × (length l.index ≡ length l.initial.index)
+
+abbrev pub decreases-loop-i : goal.decreases-loop-i
+decreases-loop-i l = l.n - l.i

@@ -1,0 +1,26 @@
+-- `relax_jumps` meets its contract: a round that lengthens a jump leaves fewer short ones, and one that lengthens none is the last.
+use mathlib.Core.Path.{◌≡◌, refl, sym, ◌∙◌}
+use Prim.Native.Nat.{◌+◌, ◌-◌, ◌≤◌}
+use native.Mathlib.Omega.{arith}
+use lib.ListN.{length}
+use borrow.Author.Tests.{not-true, not-false}
+use Rattle.words.specs.Words.{word_at}
+use Rattle.fresh.specs.Rounds.{jumps}
+use Rattle.layout.specs.steps.Layout.{all_events}
+use Rattle.layout.specs.steps.Targets.{Aiming}
+use Rattle.layout.proofs.Pooling.{length_all}
+use Rattle.layout.proofs.Found.{shown_sorted, indexed_shown}
+use Rattle.layout.proofs.Targets.{aiming_stays}
+use Rattle.layout.proofs.Standing.{Standing, standing_none, layouts_few, shown_laid, relaxed_from, round_adds, round_less, round_more, round_done}
+use Rattle.layout.proofs.relax_jumps.Given as goal
+
+-- The table is the one that the loop was handed, but for its events' rows.
+abbrev pub invariant-loop-segments : goal.invariant-loop-segments
+invariant-loop-segments l =
+    (l.n + l.m ≤ length l.segments)
+    × (length l.long ≡ length l.initial.long)
+    × Standing (all_events l.events l.n l.code l.constants l.asked l.m) (word_at l.labels) l.initial.long l.initial.segments l.segments l.long l.layouts
+    × Aiming (all_events l.events l.n l.code l.constants l.asked l.m) (word_at l.labels) l.events l.n l.segments
+
+abbrev pub decreases-loop-segments : goal.decreases-loop-segments
+decreases-loop-segments l = jumps (all_events l.events l.n l.code l.constants l.asked l.m) - l.layouts
