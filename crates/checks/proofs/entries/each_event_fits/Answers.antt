@@ -1,0 +1,15 @@
+-- `each_event_fits` meets its contract: all the events passed fit.
+use Rattle.seqs.proofs.Scans.{scans}
+use Rattle.checks.proofs.entries.each_event_fits.Goals as goal
+
+pub loop-i-init : goal.loop-i-init
+loop-i-init c = search scans
+
+pub returns-then-not-event_fits : goal.returns-then-not-event_fits
+returns-then-not-event_fits c = search scans
+
+pub loop-i-preserved : goal.loop-i-preserved
+loop-i-preserved c = search scans
+
+pub returns : goal.returns
+returns c = search scans

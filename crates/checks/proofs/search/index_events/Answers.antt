@@ -1,0 +1,30 @@
+-- `index_events` meets its contract: after i turns the first i events are marked.
+use mathlib.Core.Path.{◌≡◌, refl, ◌∙◌}
+use native.Mathlib.Omega.{arith}
+use Rattle.lookup.proofs.Index.{filled_none, filled_one, filled_all}
+use Rattle.checks.proofs.Clear.{starts_rises}
+use Rattle.checks.proofs.search.index_events.Goals as goal
+
+pub loop-i-init : goal.loop-i-init
+loop-i-init c = (filled_none _ _ _ _ c.requires.within.1 c.requires.within.0, omega arith, refl)
+
+pub mark-next-requires : goal.mark-next-requires
+mark-next-requires c =
+    (c.loop-i.invariant.0.size, c.requires.within.1, omega arith)
+
+pub loop-i-preserved : goal.loop-i-preserved
+loop-i-preserved c =
+    (filled_one (starts_rises _ _ _ c.requires.ordered) c.loop-i.invariant.0 (omega arith) (rw c.word_at-start.ensures at c.mark-next.ensures), omega arith, c.mark-next.ensures.size ∙ c.loop-i.invariant.2)
+
+pub close-requires : goal.close-requires
+close-requires c =
+    c.requires.within.2
+
+pub shape_of-index : goal.shape_of-index
+shape_of-index c =
+    c.close.ensures.size ∙ c.loop-i.invariant.2
+
+pub returns : goal.returns
+returns c =
+    let all : c.loop-i.i ≡ c.args.n = omega arith in
+    filled_all (rw all at c.loop-i.invariant.0) c.close.ensures
