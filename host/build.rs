@@ -1,4 +1,4 @@
-//! Links libwargnifla.a, the verified library: from the folder that `WARGNIFLA_ARCHIVE` names, or from where `rt staticlib wargnifla` leaves it. A
+//! Links libwargnifla.a, the verified library: from the folder that `WARGNIFLA_ARCHIVE` names, or from where tools/library leaves it. A
 //! package that depends on this one finds the folders of the archive and the header in `DEP_WARGNIFLA_ARCHIVE` and `DEP_WARGNIFLA_INCLUDE`.
 
 use std::env;
