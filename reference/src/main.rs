@@ -21,8 +21,8 @@ reference differences [FOLDER]                print what the Rust answers to dif
 reference joins [FOLDER]                      print what its linker answers to joins.txt
 reference check [FOLDER]                      compare with what FOLDER keeps
 FILE may be -; N is 1 (X86), 2 (X64, the default) or 6 (AArch64), and goes
-before what a text says; FOLDER is the one of answers.bin, differences.txt and
-joins.txt, by default reference.";
+before what a text says; FOLDER is the one of differences.txt and joins.txt, by
+default reference; the list of answers is ../crates/finish_answers/stdin from it.";
 
 fn main() -> ExitCode {
     let arguments: Vec<String> = std::env::args().skip(1).collect();
@@ -240,9 +240,9 @@ fn check(folder: &str) -> Done {
 
 fn check_answers(folder: &str) -> Done {
     let list = write_list(&samples());
-    let stored = read(&format!("{folder}/answers.bin"))?;
-    if list != stored {
-        return Err(format!("{folder}/answers.bin is not what the Rust answers"));
+    let kept = format!("{folder}/../crates/finish_answers/stdin");
+    if list != read(&kept)? {
+        return Err(format!("{kept} is not what the Rust answers"));
     }
     count(&list)
 }
