@@ -1,5 +1,7 @@
 // The finished code: events and the runs between them, and the fields, labels and relocations that name offsets. After asmkit's core/buffer.rs and
 // core/relax.rs (see NOTICE).
+#![tactic(auto)]
+
 ghost use Rattle.std.specs.Prelude.{◌≡◌, ℕ, ◌+◌, ◌-◌, ◌*◌, ◌≤◌, List, [], ◌∷◌, length, take, drop};
 ghost use Rattle.seqs.specs.Over.{over};
 ghost use Rattle.words.specs.Words.{word_at};

@@ -1,0 +1,33 @@
+-- `put_branch` meets its contract: one word, or two.
+use Rattle.std.proofs.Common.{◌≡◌, length, sym, refl, ap, ◌∙◌, arith, rules}
+use Rattle.words.proofs.Laws.{length_set_word}
+use Rattle.emit.specs.steps.Emit.{branch_form}
+use Rattle.emit.proofs.Jumps.{one_word, two_words}
+use Rattle.emit.proofs.put_branch.Goals as goal
+
+pub put_word-requires : goal.put_word-requires
+put_word-requires c =
+    let long_room : length c.args.part.now ≡ 8 = c.requires ∙ rw c.if-long.true refl in
+    omega (arith, long_room)
+
+pub put_word-requires-then-long : goal.put_word-requires-then-long
+put_word-requires-then-long c =
+    let long_room : length c.args.part.now ≡ 8 = c.requires ∙ rw c.if-long.true refl in
+    omega (arith, long_room, ap length c.put_word.ensures ∙ length_set_word _ _ _)
+
+pub returns-then-long : goal.returns-then-long
+returns-then-long c =
+    let long_room : length c.args.part.now ≡ 8 = c.requires ∙ rw c.if-long.true refl in
+    c.put_word-then-long.ensures
+    ∙ rw (c.put_word.ensures, c.skipping.ensures, c.if-long.true)
+    (two_words c.args.part.now _ _ long_room)
+
+pub put_word-requires-2 : goal.put_word-requires-2
+put_word-requires-2 c =
+    let short_room : length c.args.part.now ≡ 4 = c.requires ∙ rw c.if-long.false refl in
+    omega (arith, short_room)
+
+pub returns : goal.returns
+returns c =
+    let short_room : length c.args.part.now ≡ 4 = c.requires ∙ rw c.if-long.false refl in
+    c.put_word-2.ensures ∙ rw c.if-long.false (one_word c.args.part.now _ short_room)
