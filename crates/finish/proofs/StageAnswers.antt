@@ -45,7 +45,7 @@ use Rattle.emit.specs.steps.Emit as emit
 use Rattle.emit.specs.steps.Emit.{mapped_words}
 use Rattle.layout.specs.steps.Layout.{all_events, finished_length, relaxed_by, Relaxed, Rising}
 use Rattle.layout.proofs.Pooling.{length_all}
-use Rattle.layout.proofs.Settled.{relaxed_entries, relaxed_settled, finished_placed, all_short}
+use Rattle.layout.proofs.Settled.{relaxed_entries, relaxed_settled, finished_placed, all_short_lem}
 use Rattle.finish.specs.declared.Outcome.{Outcome}
 use Rattle.seqs.specs.Every.{every}
 use Rattle.finish.specs.Refusals.{reaches_by, ref_reaches, why_not_laid, why_not_written, why_not_in_place}
@@ -190,7 +190,7 @@ module _ {code labels events refs constants asked relocs output : List ℕ} {arc
         settled_is : relaxed_by (all_events events n len constants asked m) (word_at labels) initial ≡ settled p
         settled_is =
             ap (relaxed_by (all_events events n len constants asked m) (word_at labels))
-            (short ∙ ap (λ (k : ℕ). replicate k false) (sym (length_all events n len constants asked m)) ∙ all_short (all_events events n len constants asked m))
+            (short ∙ ap (λ (k : ℕ). replicate k false) (sym (length_all events n len constants asked m)) ∙ all_short_lem (all_events events n len constants asked m))
             ∙ relaxed_entries events n len constants asked m labels count (λ i b h r. jump_label events n count len arch x.ready.recorded i b h r)
             ∙ relaxed_settled p wf
 

@@ -1,5 +1,7 @@
 // `finish`: from a recording to code. After asmkit's core/buffer.rs (see NOTICE). It asks in the order of document 01's refusals; nothing is written to
 // the output before the last of them is past, and a table that was written to for a while is as before where finish is refused.
+#![tactic(auto)]
+
 ghost use Rattle.std.specs.Prelude.{◌≡◌, true, false, List, length};
 ghost use Rattle.relax.specs.declared.Segment.{Segment};
 ghost use Rattle.pool.specs.steps.Pool.{PoolFits, PoolLabels};
