@@ -30,9 +30,9 @@ use Rattle.elf.proofs.Targets.{targets_named}
 
 -- a refusal leaves the output, without one the entries are there
 module _ (code : CodeBufferFinalized) (labels relocs : List ℕ) (section : ℕ) (output : List ℕ) where
-  pub write-refused : (why : ℕ) → why ≡ why_not_written code labels relocs (length output) → why ≢ 0 → (why, output) ≡ write_relas code labels relocs section output
+  pub write_refused : (why : ℕ) → why ≡ why_not_written code labels relocs (length output) → why ≢ 0 → (why, output) ≡ write_relas code labels relocs section output
   unfolding write_relas
-  write-refused why e h = ap (λ (w : ℕ). (w, output)) e ∙ sym (no_eq _ 0 _ _ (λ z. h (e ∙ z)))
+  write_refused why e h = ap (λ (w : ℕ). (w, output)) e ∙ sym (no_eq _ 0 _ _ (λ z. h (e ∙ z)))
 
   pub write_done : (why : ℕ) (left : List ℕ) → why ≡ why_not_written code labels relocs (length output) → why ≡ 0
       → left ≡ over_words output (words_of_relas code.arch labels section relocs code.relocs)
@@ -42,9 +42,9 @@ module _ (code : CodeBufferFinalized) (labels relocs : List ℕ) (section : ℕ)
 
 -- the same of the table that is read into
 module _ (relas table : List ℕ) where
-  pub read-refused : (why : ℕ) → why ≡ why_not_read relas (length table / reloc_size) → why ≢ 0 → (why, table) ≡ read_relas relas table
+  pub read_refused : (why : ℕ) → why ≡ why_not_read relas (length table / reloc_size) → why ≢ 0 → (why, table) ≡ read_relas relas table
   unfolding read_relas
-  read-refused why e h = ap (λ (w : ℕ). (w, table)) e ∙ sym (no_eq _ 0 _ _ (λ z. h (e ∙ z)))
+  read_refused why e h = ap (λ (w : ℕ). (w, table)) e ∙ sym (no_eq _ 0 _ _ (λ z. h (e ∙ z)))
 
   pub read_done : (why : ℕ) (left : List ℕ) → why ≡ why_not_read relas (length table / reloc_size) → why ≡ 0
       → left ≡ over_words table (words_of_entries relas (length relas / rela_size)) → (0, left) ≡ read_relas relas table
@@ -56,9 +56,9 @@ pub record Fit (code : CodeBufferFinalized) (labels relocs : List ℕ) : Type 0 
   pub room : code.relocs * reloc_size ≤ length relocs
   pub named : TargetsNamed relocs code.relocs labels
 
-pub unfit-passed : (code : CodeBufferFinalized) (labels relocs : List ℕ) → why_unfit code labels relocs ≡ 0 → Fit code labels relocs
+pub unfit_passed : (code : CodeBufferFinalized) (labels relocs : List ℕ) → why_unfit code labels relocs ≡ 0 → Fit code labels relocs
 unfolding why_unfit relocs_fit
-unfit-passed code labels relocs h =
+unfit_passed code labels relocs h =
     let fit = not-false _ (passed _ refusals.malformed _ (λ e. omega arith) h).0 in
     let bound = all_targets_bound labels code.labels relocs code.relocs in
     let labelled = both_true (leb code.labels (length labels / label_size)) (leb code.relocs (length relocs / reloc_size) && bound) fit in
@@ -74,13 +74,13 @@ pub record Written (code : CodeBufferFinalized) (labels relocs : List ℕ) (room
   pub none : why_no_relas code.arch labels relocs code.relocs ≡ 0
   pub output : code.relocs * rela_size ≤ room
 
-pub write-passed : (code : CodeBufferFinalized) (labels relocs : List ℕ) (room : ℕ) → why_not_written code labels relocs room ≡ 0 → Written code labels relocs room
+pub write_passed : (code : CodeBufferFinalized) (labels relocs : List ℕ) (room : ℕ) → why_not_written code labels relocs room ≡ 0 → Written code labels relocs room
 unfolding why_not_written
-write-passed code labels relocs room h =
+write_passed code labels relocs room h =
     let first = neither (why_unfit code labels relocs) _ h in
     let then = neither (why_no_relas code.arch labels relocs code.relocs) _ first.1 in
     record {
-      fit = unfit-passed code labels relocs first.0;
+      fit = unfit_passed code labels relocs first.0;
       none = then.0;
       output = ltb-false room _ (passed _ refusals.elf_output_too_small 0 (λ e. omega arith) then.1).0;
     }
@@ -90,9 +90,9 @@ pub record Read (relas : List ℕ) (room : ℕ) : Type 0 where
   pub fit : relas_fit relas ≡ true
   pub table : length relas / rela_size ≤ room
 
-pub read-passed : (relas : List ℕ) (room : ℕ) → why_not_read relas room ≡ 0 → Read relas room
+pub read_passed : (relas : List ℕ) (room : ℕ) → why_not_read relas room ≡ 0 → Read relas room
 unfolding why_not_read
-read-passed relas room h =
+read_passed relas room h =
     let first = passed (not (relas_fit relas)) refusals.malformed _ (λ e. omega arith) h in
     let then = passed (ltb most_entries room) refusals.past_limit _ (λ e. omega arith) first.1 in
     record {
@@ -105,10 +105,10 @@ abbrev pub OfEntries : ℕ → Type 0
 OfEntries n = (n ≢ refusals.malformed) × (n ≢ refusals.past_limit)
 
 -- Relocations that are fit, in tables within their limits, meet no number but 24, 25 and 26.
-pub fit-of-entries : (code : CodeBufferFinalized) (labels relocs : List ℕ) (section : ℕ) (output : List ℕ) → relocs_fit code labels relocs ≡ true
+pub fit_of_entries : (code : CodeBufferFinalized) (labels relocs : List ℕ) (section : ℕ) (output : List ℕ) → relocs_fit code labels relocs ≡ true
     → within_limits labels relocs ≡ true → OfEntries (write_relas code labels relocs section output).0
 unfolding write_relas why_not_written why_unfit why_no_relas why_no_rela
-fit-of-entries code labels relocs section output fit within =
+fit_of_entries code labels relocs section output fit within =
     let none : OfEntries 0 = (λ e. omega arith, λ e. omega arith) in
     let untyped : OfEntries refusals.no_elf_type = (λ e. omega arith, λ e. omega arith) in
     let unfit : OfEntries (why_unfit code labels relocs) =

@@ -1,4 +1,6 @@
 // A finished record's relocations as ELF's Elf64_Rela entries, for the system's linker, and back.
+#![tactic(auto)]
+
 ghost use Rattle.std.specs.Prelude.{◌≡◌};
 ghost use Rattle.elf.specs.Elf.{write_relas, read_relas};
 

@@ -1,4 +1,6 @@
 // A sheet of calls: a count n (word), n kind bytes, then n arguments of four words. Its form is checked as a whole before any of its calls is made.
+#![tactic(auto)]
+
 ghost use Rattle.std.specs.Prelude.{◌≡◌, ◌*◌, ◌≤◌, ◌<◌, length, true};
 ghost use Rattle.seqs.specs.Pick.{pick};
 ghost use Rattle.buffer.specs.State.{with_open};

@@ -1,0 +1,115 @@
+-- `run_sheet` meets its contract: where the number of open entries that was handed in is right, it may be counted at the end.
+use mathlib.Core.Path.{◌≡◌, sym, ap, ◌∙◌}
+use mathlib.Core.Bool.{true}
+use mathlib.Core.List.{List}
+use borrow.Author.Tests.{not-true, not-false}
+use Prim.Native.Nat.{ℕ, ◌+◌, ◌*◌, ◌≤◌}
+use native.Mathlib.Omega.{arith}
+use lib.ListN.{length}
+use Rattle.words.specs.Words.{word_at}
+use Rattle.buffer.specs.Tables.{most_open}
+use Rattle.recording.specs.Calls.{Recording}
+use Rattle.recording.specs.steps.Righted.{Fitting}
+use Rattle.checks.specs.Lent.{recording_of}
+use Rattle.sheet_form.specs.Form.{is_whole, kinds_of, arguments_of, first_broken}
+use Rattle.sheet_form.proofs.Parts.{whole_length, kinds_part, arguments_part, parts_match, kinds_few}
+use Rattle.sheet.specs.Run.{run_calls}
+use Rattle.sheet.proofs.Counting.{standing_fits, counted_meant, meant_first}
+use Rattle.sheet.proofs.Running.{sheet_cut, sheet_broken, sheet_not_standing, sheet_run, parts_run}
+use Rattle.sheet.proofs.run_sheet.Goals as goal
+
+pub returns-then-not-is_whole : goal.returns-then-not-is_whole
+returns-then-not-is_whole c =
+    sheet_cut _ _ (sym c.is_whole.ensures ∙ c.if-not-is_whole.true)
+
+pub word_at-n-requires : goal.word_at-n-requires
+word_at-n-requires c =
+    omega (arith, (whole_length _ (sym c.is_whole.ensures ∙ c.if-not-is_whole.false)).0)
+
+pub slice_bounds-first_broken-end : goal.slice_bounds-first_broken-end
+slice_bounds-first_broken-end c =
+    let whole : is_whole c.args.sheet.now ≡ true = sym c.is_whole.ensures ∙ c.if-not-is_whole.false in
+    let long : length c.args.sheet.now ≡ 4 + 17 * c.word_at-n.result = omega (arith, (whole_length c.args.sheet.now whole).1, c.word_at-n.ensures) in
+    omega (arith, long)
+
+pub slice_bounds-first_broken-count-2 : goal.slice_bounds-first_broken-count-2
+slice_bounds-first_broken-count-2 c =
+    let whole : is_whole c.args.sheet.now ≡ true = sym c.is_whole.ensures ∙ c.if-not-is_whole.false in
+    let long : length c.args.sheet.now ≡ 4 + 17 * c.word_at-n.result = omega (arith, (whole_length c.args.sheet.now whole).1, c.word_at-n.ensures) in
+    omega (arith, long)
+
+pub slice_bounds-first_broken-start-2 : goal.slice_bounds-first_broken-start-2
+slice_bounds-first_broken-start-2 c =
+    let whole : is_whole c.args.sheet.now ≡ true = sym c.is_whole.ensures ∙ c.if-not-is_whole.false in
+    let long : length c.args.sheet.now ≡ 4 + 17 * c.word_at-n.result = omega (arith, (whole_length c.args.sheet.now whole).1, c.word_at-n.ensures) in
+    omega (arith, long)
+
+pub first_broken-broken-requires : goal.first_broken-broken-requires
+first_broken-broken-requires c =
+    let whole : is_whole c.args.sheet.now ≡ true = sym c.is_whole.ensures ∙ c.if-not-is_whole.false in
+    parts_match _ whole _ c.word_at-n.ensures
+
+pub returns-then-broken-n : goal.returns-then-broken-n
+returns-then-broken-n c =
+    let broken : c.first_broken-broken.result ≡ first_broken (kinds_of c.args.sheet.now) (arguments_of c.args.sheet.now) = rw (kinds_part c.args.sheet.now _ c.word_at-n.ensures, arguments_part c.args.sheet.now _ c.word_at-n.ensures) at c.first_broken-broken.ensures in
+    let whole : is_whole c.args.sheet.now ≡ true = sym c.is_whole.ensures ∙ c.if-not-is_whole.false in
+    sheet_broken _ _ whole _ broken (omega (arith, c.if-broken-n.true, c.word_at-n.ensures))
+
+pub returns-then-why-ne0 : goal.returns-then-why-ne0
+returns-then-why-ne0 c =
+    let broken : c.first_broken-broken.result ≡ first_broken (kinds_of c.args.sheet.now) (arguments_of c.args.sheet.now) = rw (kinds_part c.args.sheet.now _ c.word_at-n.ensures, arguments_part c.args.sheet.now _ c.word_at-n.ensures) at c.first_broken-broken.ensures in
+    let unbroken : word_at c.args.sheet.now 0 ≤ c.first_broken-broken.result = omega (arith, c.if-broken-n.false, c.word_at-n.ensures) in
+    let whole : is_whole c.args.sheet.now ≡ true = sym c.is_whole.ensures ∙ c.if-not-is_whole.false in
+    sheet_not_standing _ _ whole _ broken unbroken _ c.why_not_standing-why.ensures c.if-why-ne0.true
+
+pub slice_bounds-is_counted_after-end : goal.slice_bounds-is_counted_after-end
+slice_bounds-is_counted_after-end c =
+    let whole : is_whole c.args.sheet.now ≡ true = sym c.is_whole.ensures ∙ c.if-not-is_whole.false in
+    let long : length c.args.sheet.now ≡ 4 + 17 * c.word_at-n.result = omega (arith, (whole_length c.args.sheet.now whole).1, c.word_at-n.ensures) in
+    omega (arith, long)
+
+pub is_counted_after-kept-requires : goal.is_counted_after-kept-requires
+is_counted_after-kept-requires c =
+    let a = c.args in
+    let r = recording_of a.b a.code.now a.labels.now a.events.now a.uses.now a.refs.now a.constants.now a.asked.now a.relocs.now in
+    let fits : Fitting r × (a.b.unresolved ≤ most_open) = standing_fits _ (sym c.why_not_standing-why.ensures ∙ c.if-why-ne0.false) in
+    let f = fits.0 in
+    record { namers_fit = f.namers; labels_within = f.labels }
+
+pub slice_bounds-run-end : goal.slice_bounds-run-end
+slice_bounds-run-end c =
+    let whole : is_whole c.args.sheet.now ≡ true = sym c.is_whole.ensures ∙ c.if-not-is_whole.false in
+    let long : length c.args.sheet.now ≡ 4 + 17 * c.word_at-n.result = omega (arith, (whole_length c.args.sheet.now whole).1, c.word_at-n.ensures) in
+    omega (arith, long)
+
+pub slice_bounds-run-count-2 : goal.slice_bounds-run-count-2
+slice_bounds-run-count-2 c =
+    let whole : is_whole c.args.sheet.now ≡ true = sym c.is_whole.ensures ∙ c.if-not-is_whole.false in
+    let long : length c.args.sheet.now ≡ 4 + 17 * c.word_at-n.result = omega (arith, (whole_length c.args.sheet.now whole).1, c.word_at-n.ensures) in
+    omega (arith, long)
+
+pub slice_bounds-run-start-2 : goal.slice_bounds-run-start-2
+slice_bounds-run-start-2 c =
+    let whole : is_whole c.args.sheet.now ≡ true = sym c.is_whole.ensures ∙ c.if-not-is_whole.false in
+    let long : length c.args.sheet.now ≡ 4 + 17 * c.word_at-n.result = omega (arith, (whole_length c.args.sheet.now whole).1, c.word_at-n.ensures) in
+    omega (arith, long)
+
+pub run-ran-requires : goal.run-ran-requires
+run-ran-requires c =
+    let a = c.args in
+    let r = recording_of a.b a.code.now a.labels.now a.events.now a.uses.now a.refs.now a.constants.now a.asked.now a.relocs.now in
+    let fits : Fitting r × (a.b.unresolved ≤ most_open) = standing_fits _ (sym c.why_not_standing-why.ensures ∙ c.if-why-ne0.false) in
+    let whole : is_whole c.args.sheet.now ≡ true = sym c.is_whole.ensures ∙ c.if-not-is_whole.false in
+    record { within = (parts_match _ whole _ c.word_at-n.ensures, kinds_few c.args.sheet.now c.word_at-n.result (omega arith)); going = record { fitting = fits.0; few = λ no. fits.1 } }
+
+pub returns : goal.returns
+returns c =
+    let broken : c.first_broken-broken.result ≡ first_broken (kinds_of c.args.sheet.now) (arguments_of c.args.sheet.now) = rw (kinds_part c.args.sheet.now _ c.word_at-n.ensures, arguments_part c.args.sheet.now _ c.word_at-n.ensures) at c.first_broken-broken.ensures in
+    let unbroken : word_at c.args.sheet.now 0 ≤ c.first_broken-broken.result = omega (arith, c.if-broken-n.false, c.word_at-n.ensures) in
+    let whole : is_whole c.args.sheet.now ≡ true = sym c.is_whole.ensures ∙ c.if-not-is_whole.false in
+    rw c.counted.ensures
+    (ap (λ (s : Recording). ((c.run-ran.result.refusal, c.run-ran.result.index), s)) (counted_meant _ _)
+    ∙ c.run-ran.ensures.relocs_after
+    ∙ ap (run_calls _ 0) (meant_first _ _ c.is_counted_after-kept.ensures)
+    ∙ parts_run c.args.sheet.now _ _ c.word_at-n.ensures
+    ∙ sheet_run _ _ whole _ broken unbroken _ c.why_not_standing-why.ensures c.if-why-ne0.false)
