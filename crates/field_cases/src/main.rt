@@ -1,5 +1,7 @@
 // Cases G to L of document 01, run: each letter, then the patched field in hexadecimal, or the refusal's number. Then what an ADD holds
 // beforehand, in hexadecimal, and what it becomes (document 02, Request Four): its field is replaced, its sh is not.
+#![tactic(auto)]
+
 use fields::{Decoded, LabelUse};
 
 // Runs one use on a field that holds `word`.

@@ -1,4 +1,6 @@
 // Finish for a caller that has no table of segments to lend: the table is its own.
+#![tactic(auto)]
+
 use buffer::CodeBuffer;
 use finish::Finished;
 use relax::Segment;

@@ -1,5 +1,7 @@
 // Sweeps each kind of field over its reach limits: compares `can_reach`, `reach_refusal` and both patches with standard input, which `make`
 // wrote. Prints for each code a line: the code, distances tried, how many reach, how many disagree. The last line has the totals.
+#![tactic(auto)]
+
 ghost use Rattle.std.specs.Prelude.{◌≡◌, ◌≤◌, length};
 
 use fields::{Decoded, LabelUse};

@@ -1,4 +1,6 @@
 // Stored cases, read from standard input and compared: what the programs that do so share.
+#![tactic(auto)]
+
 ghost use Rattle.std.specs.Prelude.{◌<◌};
 
 // How many cases were read, and what came of them.

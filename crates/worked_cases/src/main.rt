@@ -1,4 +1,6 @@
 // Cases A to D of document 01, run through the recording calls and finish: each letter, then the finished length, layouts and long jumps, in decimal.
+#![tactic(auto)]
+
 ghost use Rattle.std.specs.Prelude.{◌<◌, ◌≤◌};
 
 use buffer::CodeBuffer;
