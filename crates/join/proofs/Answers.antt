@@ -44,25 +44,25 @@ leaves {why} {n} {r} {m} e none then = then ∙ sym (yes_eq n 0 m n (sym e ∙ n
 
 -- a refusal leaves the outputs, without one the whole is there
 module _ (l : Lent) (output labels relocs : List ℕ) where
-  pub join-refused : (why : ℕ) (answer : Joined) → why ≡ why_not_joined l (length output) (length labels) (length relocs) → why ≢ 0
+  pub join_refused : (why : ℕ) (answer : Joined) → why ≡ why_not_joined l (length output) (length labels) (length relocs) → why ≢ 0
       → answer ≡ record { refusal = why; code = no_record } → (answer, (output, (labels, relocs))) ≡ join l output labels relocs
   unfolding join
-  join-refused why answer e some given =
+  join_refused why answer e some given =
       ap (λ (a : Joined). (a, (output, (labels, relocs)))) (given ∙ ap (λ (w : ℕ). record { refusal = w; code = no_record }) e)
       ∙ sym (no_eq (why_not_joined l (length output) (length labels) (length relocs)) 0 _ _ (λ z. some (e ∙ z)))
 
-  pub join-done : (why : ℕ) (code : CodeBufferFinalized) (left : Left) → why ≡ why_not_joined l (length output) (length labels) (length relocs) → why ≡ 0
+  pub join_done : (why : ℕ) (code : CodeBufferFinalized) (left : Left) → why ≡ why_not_joined l (length output) (length labels) (length relocs) → why ≡ 0
       → (code, left) ≡ joined l output labels relocs → (record { refusal = 0; code = code }, left) ≡ join l output labels relocs
   unfolding join
-  join-done why code left e none whole =
+  join_done why code left e none whole =
       ap (λ (w : CodeBufferFinalized × Left). (record { refusal = 0; code = w.0 }, w.1)) whole
       ∙ sym (yes_eq (why_not_joined l (length output) (length labels) (length relocs)) 0 _ _ (sym e ∙ none))
 
   -- the whole, from its parts
-  pub whole-put : (code : CodeBufferFinalized) (output' labels' relocs' : List ℕ) → code ≡ whole_record l.pieces l.relocs (piece_count l.pieces)
+  pub whole_put : (code : CodeBufferFinalized) (output' labels' relocs' : List ℕ) → code ≡ whole_record l.pieces l.relocs (piece_count l.pieces)
       → output' ≡ over output 0 (image (known_in l) l.pieces l.relocs l.code (piece_count l.pieces))
       → labels' ≡ over_words labels (labels_joined l.pieces l.labels (piece_count l.pieces))
       → relocs' ≡ over_words relocs (remaining l.pieces l.relocs (piece_count l.pieces))
       → (code, (output', (labels', relocs'))) ≡ joined l output labels relocs
   unfolding joined
-  whole-put code output' labels' relocs' recorded coded labelled listed = rw (recorded, coded, labelled, listed) refl
+  whole_put code output' labels' relocs' recorded coded labelled listed = rw (recorded, coded, labelled, listed) refl

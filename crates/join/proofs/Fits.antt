@@ -182,7 +182,7 @@ pub record Room (l : Lent) (output labels relocs : ℕ) : Type 0 where
   pub reaches : all_hold Reaches (known_in l) l.pieces l.relocs (piece_count l.pieces) ≡ true
   pub end : (cursor_at l.pieces (piece_count l.pieces)).end ≤ last_place
   pub output_room : (cursor_at l.pieces (piece_count l.pieces)).end ≤ output
-  pub labels_move_lem : all_labels_move l.pieces l.labels (piece_count l.pieces) ≡ true
+  pub labels_moved : all_labels_move l.pieces l.labels (piece_count l.pieces) ≡ true
   pub relocs_move : all_hold Moves (known_in l) l.pieces l.relocs (piece_count l.pieces) ≡ true
 
 pub room_passed : (l : Lent) (output labels relocs : ℕ) → why_no_room l output labels relocs ≡ 0 → Room l output labels relocs

@@ -1,9 +1,8 @@
 -- What an accepted join leaves is the whole that document 02, Request Six asks for.
-use Rattle.std.proofs.Common.{◌≡◌, ℕ, zero, suc, ◌+◌, ◌-◌, ◌*◌, ◌/◌, ◌%◌, ◌<◌, ◌≤◌, Bool, true, false, not, ◌&&◌, eqb, ltb, leb, ◌≢◌, ◌⊎◌, List, [], ◌∷◌, ◌++◌, length, get_or, sym, refl, ap, ◌∙◌, subst, inl, inr, ⊎_elim, not-suc-le-zero, add-one, arith, get_or-append-add, ltb-true, le-ltb, ne_eqb, eqb-true, leb-true}
+use Rattle.std.proofs.Common.{◌≡◌, ℕ, zero, suc, ◌+◌, ◌-◌, ◌*◌, ◌/◌, ◌%◌, ◌<◌, ◌≤◌, Bool, true, false, not, ◌&&◌, eqb, ltb, leb, ◌≢◌, List, [], ◌∷◌, ◌++◌, length, get_or, sym, refl, ap, ◌∙◌, ⊎_elim, not-suc-le-zero, add-one, arith, get_or-append-add, ltb-true, le-ltb, ne_eqb, eqb-true, leb-true}
 use lib.ListN.{get_or-append}
 use borrow.Author.Tests.{eqb-false, not-true}
 use Rattle.seqs.specs.Pick.{pick, first_of}
-use Rattle.seqs.specs.Counting.{one}
 use Rattle.seqs.proofs.Booleans.{both_true}
 use Rattle.seqs.proofs.Counting.{one_counted}
 use Rattle.seqs.proofs.Numbers.{lt_or_ge, eq_or_ne}
@@ -15,7 +14,7 @@ use Rattle.seqs.proofs.Every.{all_at}
 use Rattle.seqs.proofs.Overwrites.{length_over}
 use Rattle.join.proofs.Cursors.{piece_within}
 use Rattle.buffer.specs.State.{none, label_target}
-use Rattle.buffer.specs.Tables.{most_entries, most_code, reloc_words, reloc_size}
+use Rattle.buffer.specs.Tables.{most_entries, most_code, reloc_words}
 use Rattle.fields.specs.Words64.{plus}
 use Rattle.join.specs.declared.Piece.{Piece}
 use Rattle.join.specs.declared.Cursor.{Cursor}
@@ -24,32 +23,8 @@ use Rattle.join.specs.declared.Test.{Test}
 use Rattle.join.specs.declared.Test.TheVariants.{Known, Moves}
 use Rattle.join.specs.Pieces.{Lent, piece_count, piece_at, base_of, cursor_at, piece_within_limits, within_limits}
 use Rattle.join.specs.Symbols.{undefined, unbound, first_place, symbol_at, defining_label, place, defined, defined_as, find_in, find}
-use Rattle.join.specs.Join.{
-  last_place,
-  is_filled,
-  label_moves,
-  moved_label,
-  moved_target,
-  reloc_of,
-  piece_reloc,
-  remaining_holds,
-  holds,
-  all_hold,
-  value,
-  moved_reloc,
-  remaining_words,
-  remaining_in,
-  remaining,
-  count_remaining_in,
-  count_remaining,
-  image,
-  known_in,
-  why_not_joined,
-  Left,
-  joined,
-  join,
-}
-use Rattle.join.specs.Whole.{piece, before, base, reloc, SymbolPlace, place_of, FieldFilled, number_of, Whole}
+use Rattle.join.specs.Join.{last_place, is_filled, label_moves, moved_target, reloc_of, piece_reloc, remaining_holds, holds, all_hold, value, moved_reloc, remaining_words, remaining_in, remaining, count_remaining_in, count_remaining, image, known_in, why_not_joined, Left, joined, join}
+use Rattle.join.specs.Whole.{piece, before, base, reloc, SymbolPlace, place_of, number_of, Whole}
 use Rattle.join.proofs.Writing.{length_remaining_in, count_grows, length_remaining}
 use Rattle.join.proofs.Fits.{each_holds, reloc_holds}
 use Rattle.join.proofs.Accepted.{nothing_refuses, passed, code_left, label_moves_lem, byte_kept, gap_zero, field_means, label_left}

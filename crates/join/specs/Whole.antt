@@ -1,7 +1,7 @@
 -- What a join that answers 0 leaves, as one claim: document 02, Request Six. A byte of a piece that no filled field covers is the piece's own, moved by its
 -- base; gaps are zeros; a filled field means its symbol, whose place is the offset, in the label table of the whole, of the label that defines it; labels
 -- move; and each relocation that remains is its piece's, moved, in order.
-use Rattle.std.specs.Prelude.{◌≡◌, ℕ, ◌+◌, ◌*◌, ◌%◌, ◌<◌, ◌≤◌, true, false, ◌≢◌, ◌⊎◌, List, length, slice_index}
+use Rattle.std.specs.Prelude.{◌≡◌, ℕ, ◌+◌, ◌*◌, ◌<◌, ◌≤◌, true, false, ◌≢◌, ◌⊎◌, List, length, slice_index}
 use Rattle.words.specs.Words.{word_at, bytes_of}
 use Rattle.fields.specs.Words64.{plus, sign_extend}
 use Rattle.buffer.specs.State.{none}

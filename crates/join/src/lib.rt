@@ -1,4 +1,6 @@
 // `join`: several finished records become one. After asmkit's core/linker.rs (see NOTICE), whose layout it has; fields it fills itself.
+#![tactic(auto)]
+
 ghost use Rattle.std.specs.Prelude.{◌≡◌, length};
 ghost use Rattle.join.specs.Pieces.{lent_of};
 ghost use Rattle.join.specs.Join.{no_record, whole_record, join};

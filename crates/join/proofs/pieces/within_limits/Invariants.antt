@@ -1,0 +1,11 @@
+-- `within_limits` meets its contract: all the pieces passed are within the limits.
+use Rattle.std.proofs.Common.{ℕ, ◌-◌}
+use Rattle.seqs.proofs.Scans.{AllPassed}
+use Rattle.join.specs.Pieces.{piece_at, piece_within_limits}
+use Rattle.join.proofs.pieces.within_limits.Given as goal
+
+abbrev pub invariant-loop-k : goal.invariant-loop-k
+invariant-loop-k l = AllPassed (λ (i : ℕ). piece_within_limits (piece_at l.pieces i)) l.n l.k
+
+abbrev pub decreases-loop-k : goal.decreases-loop-k
+decreases-loop-k l = l.n - l.k

@@ -1,0 +1,49 @@
+-- `all_hold` meets its contract: the test holds of all the relocations of the pieces passed.
+use Rattle.std.proofs.Common.{sym, arith}
+use Rattle.seqs.proofs.Scans.{pass_none, pass_one, pass_fails, pass_all}
+use Rattle.join.proofs.Cursors.{cursor_none}
+use Rattle.join.specs.Join.{all_hold}
+use Rattle.join.proofs.Turns.{Turn, next_cursor, turn_placed, turn_relocating}
+use Rattle.join.proofs.relocs.all_hold.Goals as goal
+
+pub loop-k-init : goal.loop-k-init
+loop-k-init c = (pass_none _ _, sym (cursor_none _))
+
+pub piece_at-piece-requires : goal.piece_at-piece-requires
+piece_at-piece-requires c =
+    omega (arith, c.requires.relocations.standing.room)
+
+pub relocs_hold-passed-requires : goal.relocs_hold-passed-requires
+relocs_hold-passed-requires c =
+    let turn : Turn c.args.pieces.now c.loop-k.k c.piece_at-piece.result c.loop-k.cursor =
+    record { piece = c.piece_at-piece.ensures; cursor = c.loop-k.invariant.1 } in
+    let within = c.loop-k-test.true in
+    record { resolves = c.requires.resolves; placed = turn_placed turn within c.requires.relocations.standing; relocs_in = turn_relocating turn within c.requires.relocations }
+
+pub returns-then-not-passed : goal.returns-then-not-passed
+unfolding all_hold
+returns-then-not-passed c =
+    pass_fails c.loop-k.invariant.0 c.loop-k-test.true
+    (rw (c.piece_at-piece.ensures, c.loop-k.invariant.1) at c.relocs_hold-passed.ensures)
+    (rw c.if-not-passed.true)
+
+pub after-cursor-requires : goal.after-cursor-requires
+after-cursor-requires c =
+    let turn : Turn c.args.pieces.now c.loop-k.k c.piece_at-piece.result c.loop-k.cursor =
+    record { piece = c.piece_at-piece.ensures; cursor = c.loop-k.invariant.1 } in
+    let placed = turn_placed turn c.loop-k-test.true c.requires.relocations.standing in
+    record { piece_fits = placed.fits; near = placed.near }
+
+pub loop-k-preserved : goal.loop-k-preserved
+loop-k-preserved c =
+    let l = c.loop-k in (
+      pass_one l.invariant.0 c.loop-k-test.true
+          (rw (c.piece_at-piece.ensures, l.invariant.1) at c.relocs_hold-passed.ensures)
+          (rw c.if-not-passed.false),
+      next_cursor _ l.k c.piece_at-piece.ensures l.invariant.1 c.after-cursor.ensures.0,
+    )
+
+pub returns : goal.returns
+unfolding all_hold
+returns c =
+    pass_all c.loop-k.invariant.0 (omega arith)

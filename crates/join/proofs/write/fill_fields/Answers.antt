@@ -1,0 +1,45 @@
+-- `fill_fields` meets its contract: the fields passed are filled.
+use Rattle.std.proofs.Common.{◌≡◌, ℕ, ◌+◌, ◌≤◌, length, sym, refl, ap, ◌∙◌, add-one, arith, leb-true}
+use Rattle.seqs.proofs.Every.{all_at}
+use Rattle.seqs.proofs.Picking.{pick_yes}
+use Rattle.join.specs.declared.Test.TheVariants.{Inside}
+use Rattle.join.specs.Symbols.{find}
+use Rattle.join.specs.Join.{piece_reloc, field_size, holds, relocs_hold, filled_with}
+use Rattle.join.proofs.Writing.{length_filled}
+use Rattle.join.proofs.write.fill_fields.Goals as goal
+
+pub loop-j-init : goal.loop-j-init
+unfolding filled_with
+loop-j-init c = (omega arith, refl)
+
+pub reloc_at-reloc-requires : goal.reloc_at-reloc-requires
+reloc_at-reloc-requires c = omega arith
+
+pub fill_field-requires : goal.fill_field-requires
+unfolding relocs_hold holds
+fill_field-requires c =
+    let a = c.args in
+    let known = find a.pieces.now a.labels.now a.definitions.now a.n in
+    let inside = all_at (λ (i : ℕ). holds Inside known a.piece a.cursor (piece_reloc a.relocs.now a.cursor i)) _ c.loop-j.j c.requires.relocs_hold c.loop-j-test.true in
+    let size = ap length c.loop-j.invariant.1 ∙ length_filled known a.relocs.now a.piece a.cursor a.part.now c.loop-j.j ∙ c.requires.part_length in record {
+      resolves = c.requires.resolves;
+      placed = c.requires.placed;
+      part_within = λ filled.
+          let room : (piece_reloc a.relocs.now a.cursor c.loop-j.j).offset + field_size ≤ a.piece.len =
+          leb-true _ _ (sym (pick_yes _ _ _ (rw c.reloc_at-reloc.ensures at filled)) ∙ inside) in
+          rw c.reloc_at-reloc.ensures (omega (arith, size, room));
+    }
+
+pub loop-j-preserved : goal.loop-j-preserved
+unfolding filled_with
+loop-j-preserved c =
+    let l = c.loop-j in
+    (omega arith, rw (add-one l.j, c.fill_field.ensures, c.reloc_at-reloc.ensures, l.invariant.1) refl)
+
+pub shape_of-part : goal.shape_of-part
+shape_of-part c =
+    ap length c.loop-j.invariant.1 ∙ length_filled _ _ _ _ _ _
+
+pub returns : goal.returns
+returns c =
+    let all : c.loop-j.j ≡ c.args.piece.relocs = omega arith in rw all at c.loop-j.invariant.1
