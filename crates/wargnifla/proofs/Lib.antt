@@ -1,4 +1,3 @@
 pub mod Crossing
 pub mod Counts
 pub mod Sequences
-pub mod Plans

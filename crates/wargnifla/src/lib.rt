@@ -2,6 +2,8 @@
 // include/wargnifla.h declares them and says what each table and number means. A recording's counts cross the boundary as 52 lent bytes, thirteen words in
 // the order of `CodeBuffer`; what finish and join report as 24, six words in the order of `CodeBufferFinalized`. Fewer bytes than that answer 1, and of all that is
 // lent only a record of zeros is written; bytes past them are not touched.
+#![tactic(auto)]
+
 ghost use Rattle.std.specs.Prelude.{◌≡◌, [], ◌∷◌, ◌+◌, ◌*◌, ◌≤◌, length};
 ghost use Rattle.seqs.specs.Over.{over};
 ghost use Rattle.words.specs.Words.{bytes_of_all, over_words};

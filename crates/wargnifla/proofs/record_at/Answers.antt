@@ -1,0 +1,6 @@
+-- `record_at` meets its contract.
+use Rattle.wargnifla.proofs.record_at.Goals as goal
+
+pub returns : goal.returns
+returns c =
+    rw (c.word_at.ensures, c.word_at-2.ensures, c.word_at-3.ensures, c.word_at-4.ensures, c.word_at-5.ensures, c.word_at-6.ensures)
