@@ -1,7 +1,6 @@
 -- `wargnifla_finish` meets its contract.
 use Rattle.wargnifla.proofs.Crossing.{finish_short, record_short, finish_crosses}
 use Rattle.wargnifla.proofs.wargnifla_finish.Goals as goal
-mod Tie
 
 pub returns-then-finalized-lt-RECORD_SIZE : goal.returns-then-finalized-lt-RECORD_SIZE
 returns-then-finalized-lt-RECORD_SIZE c = search record_short
