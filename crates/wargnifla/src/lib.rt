@@ -107,16 +107,14 @@ const NO_RECORD: CodeBufferFinalized = CodeBufferFinalized {
 };
 
 // The library's version.
-#[unsafe(no_mangle)]
-pub extern "C" fn wargnifla_version() -> u32
+pub fn wargnifla_version() -> u32
     ensures { result ≡ version }
 {
     VERSION
 }
 
 // Starts a recording.
-#[unsafe(no_mangle)]
-pub extern "C" fn wargnifla_start(arch: u32, symbols: u32, counts: &mut [u8]) -> u32
+pub fn wargnifla_start(arch: u32, symbols: u32, counts: &mut [u8]) -> u32
     ensures { (result, counts.new) ≡ start arch symbols counts.old }
 {
     if counts.len() < COUNTS_SIZE {
@@ -129,8 +127,7 @@ pub extern "C" fn wargnifla_start(arch: u32, symbols: u32, counts: &mut [u8]) ->
 }
 
 // Appends bytes, any number of them.
-#[unsafe(no_mangle)]
-pub extern "C" fn wargnifla_put_bytes(counts: &mut [u8], code: &mut [u8], bytes: &[u8]) -> u32
+pub fn wargnifla_put_bytes(counts: &mut [u8], code: &mut [u8], bytes: &[u8]) -> u32
     ensures { (result, (counts.new, code.new)) ≡ put_bytes counts.old code.old bytes.now }
 {
     if counts.len() < COUNTS_SIZE {
@@ -143,8 +140,7 @@ pub extern "C" fn wargnifla_put_bytes(counts: &mut [u8], code: &mut [u8], bytes:
 }
 
 // Pads the code to a multiple, where that takes no more than `most` bytes; else it spends none.
-#[unsafe(no_mangle)]
-pub extern "C" fn wargnifla_align(
+pub fn wargnifla_align(
     counts: &mut [u8],
     code: &mut [u8],
     events: &mut [u8],
@@ -163,8 +159,7 @@ pub extern "C" fn wargnifla_align(
 }
 
 // A new constant of up to 64 bytes, and its number.
-#[unsafe(no_mangle)]
-pub extern "C" fn wargnifla_add_constant(
+pub fn wargnifla_add_constant(
     counts: &mut [u8],
     constants: &mut [u8],
     bytes: &[u8],
@@ -184,8 +179,7 @@ pub extern "C" fn wargnifla_add_constant(
 }
 
 // A relocation with an addend of 64 bits, two's complement.
-#[unsafe(no_mangle)]
-pub extern "C" fn wargnifla_add_reloc(
+pub fn wargnifla_add_reloc(
     counts: &mut [u8],
     labels: &[u8],
     relocs: &mut [u8],
@@ -207,8 +201,7 @@ pub extern "C" fn wargnifla_add_reloc(
 }
 
 // Makes the calls of a sheet up to the first that is refused, whose index becomes `index`.
-#[unsafe(no_mangle)]
-pub extern "C" fn wargnifla_run_sheet(
+pub fn wargnifla_run_sheet(
     sheet: &[u8],
     index: &mut u32,
     counts: &mut [u8],
@@ -246,8 +239,7 @@ pub extern "C" fn wargnifla_run_sheet(
 }
 
 // Finishes a recording; what it reports is written to `finalized`.
-#[unsafe(no_mangle)]
-pub extern "C" fn wargnifla_finish(
+pub fn wargnifla_finish(
     counts: &mut [u8],
     code: &[u8],
     labels: &mut [u8],
@@ -291,8 +283,7 @@ pub extern "C" fn wargnifla_finish(
 }
 
 // Writes the relocations of a finished record as ELF's Elf64_Rela entries; a label target becomes the symbol `section`.
-#[unsafe(no_mangle)]
-pub extern "C" fn wargnifla_write_relas(
+pub fn wargnifla_write_relas(
     finalized: &[u8],
     labels: &[u8],
     relocs: &[u8],
@@ -308,16 +299,14 @@ pub extern "C" fn wargnifla_write_relas(
 }
 
 // Takes such entries back to offset, type, symbol and addend.
-#[unsafe(no_mangle)]
-pub extern "C" fn wargnifla_read_relas(relas: &[u8], table: &mut [u8]) -> u32
+pub fn wargnifla_read_relas(relas: &[u8], table: &mut [u8]) -> u32
     ensures { (result, table.new) ≡ read_relas relas.now table.old }
 {
     elf::read_relas(relas, table)
 }
 
 // Joins finished recordings; the record of the whole is written to `finalized`.
-#[unsafe(no_mangle)]
-pub extern "C" fn wargnifla_join(
+pub fn wargnifla_join(
     pieces: &[u8],
     code: &[u8],
     labels: &[u8],
