@@ -11,7 +11,6 @@ use Rattle.seqs.specs.Pick.{pick}
 use Rattle.seqs.proofs.Numbers.{eq_or_ne}
 use Rattle.seqs.proofs.Picking.{yes_eq, no_eq}
 use Rattle.encoder.specs.Padding.{padding_within}
-use Rattle.fields.specs.Kinds.{arch_x64}
 use Rattle.relax.specs.Events.{event_size}
 use Rattle.buffer.specs.declared.CodeBuffer.{CodeBuffer}
 use Rattle.buffer.specs.declared.Recorded.{Recorded}

@@ -157,6 +157,7 @@ fn labels_fit_by(
 // With a large index, which is to stay out of the stack frame of those who have few labels. LLVM never takes a function that calls itself into its caller, and
 // the language has no other way to ask for that. So this one calls itself, in an arm that is never reached: `again` is a slice's length by 2^63, which is 0,
 // and which the compiler can't know. What the arm makes of the answer keeps the call from becoming a loop.
+#[inline(never)]
 fn many_labels_fit(
     labels: &[u8],
     n: usize,
@@ -434,6 +435,7 @@ fn small_order_fits(asked: &[u8], n: usize, constants: &[u8], known: u32) -> boo
 }
 
 // With marks for as many as there can be, which are to stay out of small frames: it calls itself for the reason that `many_labels_fit` has.
+#[inline(never)]
 fn large_order_fits(asked: &[u8], n: usize, constants: &[u8], known: u32, again: usize) -> bool
     requires { (again ≡ 0) × (((n * asked_size ≤ length asked.now) × (known ≤ most_entries)) × (Labelled constants.now known most_entries)) }
     ensures { result ≡ order_fits asked.now n constants.now known }

@@ -1,21 +1,21 @@
 -- A branch's form, its field filled as `fill_jump` fills it, is read as the recorded condition to the label: what `form_reads` (Relaxing) is for jumps.
-use mathlib.Core.Path.{◌≡◌, refl, sym, ap, ◌∙◌, subst}
+use mathlib.Core.Path.{◌≡◌, refl, sym, ap, ◌∙◌}
 use mathlib.Core.Bool.{Bool, true, false}
-use mathlib.Core.List.{List, [], ◌∷◌, ◌++◌}
-use Prim.Native.Nat.{ℕ, ◌+◌, ◌-◌, ◌<◌}
+use mathlib.Core.List.{List, ◌++◌}
+use Prim.Native.Nat.{ℕ, ◌+◌, ◌<◌}
 use native.Mathlib.Nat.{mod-eq_of_lt}
 use native.Mathlib.Omega.{arith}
-use lib.ListN.{length, take, drop}
+use lib.ListN.{length}
 use Rattle.seqs.specs.Over.{over}
 use Rattle.seqs.proofs.Overwrites.{over_all}
 use Rattle.words.specs.Words.{word_at, bytes_of}
 use Rattle.fields.specs.declared.LabelUse.{LabelUse}
-use Rattle.fields.specs.declared.LabelUse.TheVariants.{A64Branch14, A64Branch19, A64Branch26}
+use Rattle.fields.specs.declared.LabelUse.TheVariants.{A64Branch26}
 use Rattle.fields.specs.Words64.{modulus, plus, minus}
 use Rattle.fields.specs.Kinds.{patch_size}
 use Rattle.fields.specs.Reach.{can_reach, can_reach_delta}
-use Rattle.fields.specs.Patch.{patched, patched_word}
-use Rattle.fields.specs.Branches.{is_branch, field_kind, skipping, open_b, short_branch, long_branch}
+use Rattle.fields.specs.Patch.{patched}
+use Rattle.fields.specs.Branches.{is_branch, field_kind, skipping, open_b, short_branch}
 use Rattle.fields.specs.Branching.{ShortReads, LongReads, BranchReads}
 use Rattle.fields.proofs.Patching.{patched_field}
 use Rattle.fields.proofs.Branching.{short_reads, long_reads}

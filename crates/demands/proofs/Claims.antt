@@ -1,5 +1,5 @@
 -- Every claim of the demands, restated in full: one that is dropped, or put under a premise, is refused here.
-use mathlib.Core.Path.{◌≡◌, refl}
+use mathlib.Core.Path.{◌≡◌}
 use mathlib.Core.Logic.{◌≢◌, ◌⊎◌}
 use mathlib.Core.Bool.{true, false}
 use mathlib.Core.List.{List, [], ◌∷◌, map}
@@ -29,7 +29,7 @@ use Rattle.fresh.specs.Forms.{Branch, branches, role_of, moves}
 use Rattle.fresh.specs.Fresh.{Choice, walk, starts, moved, target}
 use Rattle.fresh.specs.Rounds.{all_short, jumps, Rounds, settled}
 use Rattle.fresh.specs.Fill.{part, assembled}
-use Rattle.fresh.specs.Demand.{Reach, Fits, Branches, NoAlign, Includes, Demand3}
+use Rattle.fresh.specs.Demand.{Fits, Branches, NoAlign, Includes, Demand3}
 use Rattle.finish.specs.declared.Finished.{Finished}
 use Rattle.finish.specs.Finish.{Left}
 use Rattle.wargnifla.specs.Boundary.{record_size, record_of, Lent, recording_in}

@@ -23,7 +23,7 @@ use Rattle.relax.specs.declared.Alignment.{Alignment}
 use Rattle.relax.specs.declared.LayoutEvent.{LayoutEvent}
 use Rattle.relax.specs.declared.LayoutEvent.TheVariants.{Align}
 use Rattle.relax.specs.declared.Segment.{Segment}
-use Rattle.relax.specs.Events.{event_of, event_at, end_of, start_of, no_event}
+use Rattle.relax.specs.Events.{event_at, end_of, start_of, no_event}
 use Rattle.buffer.specs.declared.CodeBuffer.{CodeBuffer}
 use Rattle.buffer.specs.State.{none, keeps_events}
 use Rattle.buffer.specs.Refusals.{foreign}
@@ -34,7 +34,7 @@ use Rattle.recording.specs.Sound.{Sound}
 use Rattle.recording.specs.View as tables
 use Rattle.recording.proofs.Views.{length_entries, get_d_entries}
 use Rattle.fresh.specs.Pooled.{constant_alignment, Pooled, pooled}
-use Rattle.fresh.specs.Rounds.{jumps, settled}
+use Rattle.fresh.specs.Rounds.{settled}
 use Rattle.fresh.specs.Order.{Apart, WellFormed}
 use Rattle.fresh.specs.steps.Runs.{Modest}
 use Rattle.fresh.proofs.Constants.{alignment_cases, alignment_range}

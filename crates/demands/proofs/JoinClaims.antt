@@ -30,7 +30,7 @@ use Rattle.fresh.specs.Fill.{part}
 use Rattle.join.specs.Pieces.{Lent, piece_count, piece_at, gap, base_of, cursor_at}
 use Rattle.join.specs.Symbols.{symbol_at, defining_label}
 use Rattle.join.specs.Join.{is_filled, piece_reloc, count_remaining_in, count_remaining}
-use Rattle.join.specs.Whole.{SymbolPlace, FieldFilled, Whole}
+use Rattle.join.specs.Whole.{FieldFilled, Whole}
 use Rattle.wargnifla.specs.Boundary as c
 use Rattle.wargnifla.specs.Sequences.{after_align, Recorded}
 use Rattle.demands.specs.Reading.{Reads}

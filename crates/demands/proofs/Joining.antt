@@ -3,21 +3,20 @@ use mathlib.Core.Path.{◌≡◌, refl, sym, ap, ◌∙◌, subst}
 use mathlib.Core.Logic.{◌≢◌, ⊎_elim}
 use mathlib.Core.Bool.{Bool, true, false}
 use mathlib.Core.List.{List, map}
-use Prim.Native.Nat.{ℕ, ◌+◌, ◌-◌, ◌*◌, ◌%◌, ◌≤◌, ◌<◌}
+use Prim.Native.Nat.{ℕ, ◌+◌, ◌-◌, ◌%◌, ◌≤◌, ◌<◌}
 use native.Mathlib.Omega.{arith}
 use lib.Dec.{ltb}
-use lib.ListN.{length, get_or, take, drop, get_or-eq_default, get_or-map}
+use lib.ListN.{length, get_or, drop, get_or-eq_default, get_or-map}
 use lib.Seq.{get_or-take, get_or-drop, ext_get_or}
 use Rattle.seqs.specs.Pick.{pick}
 use Rattle.seqs.proofs.Numbers.{lt_or_ge}
 use Rattle.seqs.proofs.Every.{all_at}
 use Rattle.seqs.proofs.Picking.{no_eq}
 use Rattle.words.specs.Words.{word_at}
-use Rattle.encoder.specs.Intel.{AreNops}
 use Rattle.fields.specs.declared.LabelUse.{LabelUse}
 use Rattle.fields.specs.Kinds.{arch_a64, patch_size}
-use Rattle.fields.specs.Meaning.{meaning, demanded, load_multiple}
-use Rattle.fields.specs.Words64.{modulus, plus, sign_extend}
+use Rattle.fields.specs.Meaning.{load_multiple}
+use Rattle.fields.specs.Words64.{plus, sign_extend}
 use Rattle.relax.specs.declared.Segment.{Segment}
 use Rattle.buffer.specs.State.{none}
 use Rattle.recording.specs.View.{entries}
@@ -25,7 +24,6 @@ use Rattle.recording.proofs.Views.{length_entries, get_d_entries}
 use Rattle.fresh.specs.Pooled.{Pooled}
 use Rattle.fresh.specs.Forms.{moves}
 use Rattle.fresh.specs.Fresh.{Choice, moved, target}
-use Rattle.fresh.specs.Rounds.{settled}
 use Rattle.fresh.specs.Fill.{part}
 use Rattle.fresh.proofs.Rounds.{rounds_unique, rounds_settle}
 use Rattle.join.specs.Pieces as joining
@@ -35,7 +33,6 @@ use Rattle.join.proofs.Accepted.{passed}
 use Rattle.join.proofs.Meaning.{loads_on_multiple}
 use Rattle.join.proofs.Leaving.{whole_holds}
 use Rattle.wargnifla.specs.Boundary.{record_size, Lent, recording_in, finish, join}
-use Rattle.demands.specs.Reading.{Reads}
 use Rattle.demands.specs.Demand2.{Bytes, use_of, ref_of, new_start, new_end}
 use Rattle.demands.specs.Boundary.{Answer, finished_code, labels_of, offsets_of, pooled_in, Demands}
 use Rattle.demands.specs.Joining.{Handed, label_in, Stays, long_in, JoinedMeans}

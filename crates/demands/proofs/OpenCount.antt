@@ -1,31 +1,23 @@
 -- The number of open entries at the C functions, for whatever is lent to them: counts of any bytes, tables of any contents.
 use mathlib.Core.Path.{◌≡◌, refl, sym, ap, ◌∙◌, subst}
-use mathlib.Core.Logic.{◌≢◌, ⊎_elim}
-use mathlib.Core.Bool.{Bool, true, false, not, ◌&&◌}
+use mathlib.Core.Logic.{⊎_elim}
 use mathlib.Core.List.{List, [], ◌∷◌}
 use Prim.Native.Nat.{ℕ, ◌+◌, ◌-◌, ◌≤◌, ◌<◌}
 use native.Mathlib.Omega.{arith}
-use lib.Dec.{eqb, leb, ltb}
 use lib.ListN.{length}
-use borrow.Author.Tests.{eq-eqb, ne_eqb}
-use Rattle.refusals.specs.Numbers as refusals
-use Rattle.seqs.specs.Pick.{pick, first, or_else}
-use Rattle.seqs.proofs.Picking.{pick_yes, pick_no, yes_lt, no_lt}
+use Rattle.seqs.proofs.Picking.{yes_lt}
 use Rattle.seqs.proofs.Numbers.{lt_or_ge}
 use Rattle.words.specs.Words.{word_at}
 use Rattle.words.proofs.Laws.{word_at_small}
-use Rattle.relax.specs.declared.Segment.{Segment}
-use Rattle.buffer.specs.Tables.{most_open}
-use Rattle.buffer.specs.Refusals.{standing}
 use Rattle.recording.specs.Calls.{Recording, Word, Word64, Call, after, after_all}
 use Rattle.recording.specs.Calls as call
 use Rattle.recording.specs.View.{view}
-use Rattle.recording.specs.Open.{open_of, settled_by}
+use Rattle.recording.specs.Open.{open_of}
 use Rattle.recording.proofs.Open.{open_kept}
 use Rattle.recording.proofs.Words.{Words, call_words, calls_words}
 use Rattle.sheet.proofs.Sheets.{sheet_makes_calls}
-use Rattle.wargnifla.specs.Boundary.{counts_size, record_size, Lent, lent_of, recording_in, lent_with, start, put_bytes, align, add_constant, add_reloc, run_sheet, finish}
-use Rattle.wargnifla.specs.Sequences.{after_start, after_bytes, after_align, after_constant, after_reloc}
+use Rattle.wargnifla.specs.Boundary.{counts_size, Lent, lent_of, recording_in, lent_with, put_bytes, align, add_constant, add_reloc, run_sheet}
+use Rattle.wargnifla.specs.Sequences.{after_bytes, after_align, after_constant, after_reloc}
 use Rattle.wargnifla.proofs.Counts.{recording_read}
 use Rattle.wargnifla.proofs.Sequences.{sheet_left, bytes_left, align_left, constant_left, reloc_left}
 use Rattle.demands.specs.Demand2.{Bytes}

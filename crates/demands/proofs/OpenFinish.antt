@@ -3,7 +3,7 @@ use mathlib.Core.Path.{◌≡◌, refl, sym, ap, ◌∙◌, subst}
 use mathlib.Core.Logic.{◌≢◌}
 use mathlib.Core.Bool.{Bool, true, false, not, cond}
 use mathlib.Core.List.{List, [], ◌∷◌}
-use Prim.Native.Nat.{ℕ, ◌-◌, ◌≤◌, ◌<◌}
+use Prim.Native.Nat.{ℕ, ◌≤◌}
 use native.Mathlib.Omega.{arith}
 use lib.Dec.{eqb, ltb}
 use lib.ListN.{length, get_or}
@@ -15,7 +15,7 @@ use Rattle.seqs.proofs.Picking.{pick_yes, pick_no, pick_either, no_lt, yes_ne}
 use Rattle.fields.specs.declared.LabelUse.{LabelUse}
 use Rattle.fields.specs.declared.Decoded.{Decoded}
 use Rattle.fields.specs.declared.Decoded.TheVariants.{Use, Unsupported, Unknown}
-use Rattle.fields.specs.Kinds.{info, decoded, size_of}
+use Rattle.fields.specs.Kinds.{info, decoded}
 use Rattle.fields.specs.Reach.{can_reach, reach_refusal, reach_of}
 use Rattle.relax.specs.declared.Segment.{Segment}
 use Rattle.buffer.specs.State.{none}
@@ -24,7 +24,7 @@ use Rattle.buffer.specs.Refusals.{standing}
 use Rattle.recording.specs.Calls.{Recording}
 use Rattle.recording.specs.View as tables
 use Rattle.recording.specs.View.{view}
-use Rattle.recording.specs.Open.{open_of, settled_by}
+use Rattle.recording.specs.Open.{open_of}
 use Rattle.recording.proofs.Words.{Words}
 use Rattle.checks.specs.Lent.{counts_fit, within_limits}
 use Rattle.checks.specs.Entries.{entries_fit}
@@ -38,13 +38,12 @@ use Rattle.finish.specs.Refusals.{pool_bound_before, all_bound, ref_clear, ref_r
 use Rattle.finish.specs.Finish.{Left, relaxed, unrelaxed, with_finished, placed_by}
 use Rattle.finish.specs.Finish as finishing
 use Rattle.finish.proofs.RemainsOpen.{remains_open}
-use Rattle.wargnifla.specs.Boundary.{counts_size, record_size, Lent, recording_in, lent_with, finish}
+use Rattle.wargnifla.specs.Boundary.{counts_size, record_size, Lent, recording_in, finish}
 use Rattle.wargnifla.proofs.Counts.{recording_read}
 use Rattle.demands.specs.Demand2.{Bytes}
 use Rattle.demands.specs.Boundary.{Answer}
-use Rattle.demands.specs.OpenCount.{kept_in, open_in, left_by, FinishCounts}
+use Rattle.demands.specs.OpenCount.{left_by, FinishCounts}
 use Rattle.demands.proofs.Answers.{finish_answered}
-use Rattle.demands.proofs.Boundary.{c_finish_calls}
 use Rattle.demands.proofs.NoneOpen.{finish_leaves_none_open, left}
 use Rattle.demands.proofs.OpenCount.{lent_words}
 

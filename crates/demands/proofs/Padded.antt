@@ -4,7 +4,7 @@ use mathlib.Core.Path.{◌≡◌, refl, sym, ap, ◌∙◌, subst}
 use mathlib.Core.Logic.{◌≢◌}
 use mathlib.Core.Bool.{Bool, true, false}
 use mathlib.Core.List.{List, [], ◌∷◌, ◌++◌}
-use Prim.Native.Nat.{ℕ, suc, ◌≤◌, ◌<◌}
+use Prim.Native.Nat.{ℕ, suc}
 use native.Mathlib.Omega.{arith}
 use lib.Dec.{eqb, ltb}
 use lib.ListN.{length}
@@ -26,7 +26,6 @@ use Rattle.sheet_form.specs.Form.{is_whole, kinds_of, arguments_of, first_broken
 use Rattle.sheet.specs.Run as sheets
 use Rattle.sheet.proofs.Sheets.{sheet_makes_calls}
 use Rattle.fresh.specs.Forms.{moves}
-use Rattle.finish.specs.Finish as finishing
 use Rattle.wargnifla.specs.Boundary.{counts_size, Lent, recording_in, lent_with, align, run_sheet, finish}
 use Rattle.wargnifla.specs.Sequences.{after_align, Recorded}
 use Rattle.wargnifla.specs.Sequences as making
@@ -34,7 +33,6 @@ use Rattle.wargnifla.proofs.Counts.{recording_read}
 use Rattle.wargnifla.proofs.Sequences.{Good, recorded_good, sheet_left, bytes_left, align_left, constant_left, reloc_left}
 use Rattle.demands.specs.Later.{Later, here, sheet, bytes, alignment, constant, relocation, grows}
 use Rattle.demands.specs.Demand2.{AlignPadded}
-use Rattle.demands.specs.Demand2 as claim
 use Rattle.demands.specs.Boundary.{finished_code, pooled_in}
 use Rattle.demands.proofs.Answers.{chosen_zero}
 use Rattle.demands.proofs.Recorded.{recorded_padding}

@@ -2,13 +2,12 @@
 -- weakened or put under a premise is refused here.
 use mathlib.Core.Path.{◌≡◌, refl}
 use mathlib.Core.Logic.{◌≢◌, ◌⊎◌, ◌↔◌}
-use mathlib.Core.Bool.{Bool, true, false, not, ◌||◌}
+use mathlib.Core.Bool.{true, false, not, ◌||◌}
 use mathlib.Core.List.{List, [], ◌∷◌, ◌++◌, map}
-use Prim.Native.Nat.{ℕ, suc, ◌+◌, ◌-◌, ◌*◌, ◌/◌, ◌%◌, ◌^◌, ◌≤◌, ◌<◌}
+use Prim.Native.Nat.{ℕ, ◌+◌, ◌-◌, ◌*◌, ◌/◌, ◌%◌, ◌^◌, ◌≤◌, ◌<◌}
 use lib.Bits.{bit_and}
-use lib.Dec.{eqb, leb}
+use lib.Dec.{eqb}
 use lib.ListN.{length, get_or, take}
-use Rattle.seqs.specs.Over.{over}
 use Rattle.words.specs.Words.{word_at, bytes_of, bytes_of_all, over_words}
 use Rattle.encoder.specs.Nops.{nops}
 use Rattle.encoder.specs.Intel.{AreNops}
@@ -40,7 +39,7 @@ use Rattle.buffer.specs.Tables.{most_entries, reloc_size}
 use Rattle.buffer.specs.Refusals.{is_alignment}
 use Rattle.recording.specs.Calls.{Recording, Word, Call, align, after, after_all, answered}
 use Rattle.recording.specs.Sound.{Sound}
-use Rattle.recording.specs.View.{Relocation, entries, reloc_at, view}
+use Rattle.recording.specs.View.{Relocation, reloc_at, view}
 use Rattle.recording.specs.Open.{open_of}
 use Rattle.recording.proofs.Alignments as alignments
 use Rattle.recording.proofs.Laws as laws
@@ -53,7 +52,7 @@ use Rattle.fresh.specs.Fresh.{Choice, walk, starts, stands, writes, placed, targ
 use Rattle.fresh.specs.Rounds.{all_short, jumps, Rounds, settled}
 use Rattle.fresh.specs.Demand.{Fits, NoAlign, Includes}
 use Rattle.fresh.specs.Order.{Lies, WellFormed}
-use Rattle.fresh.specs.Walk.{spanned, Onward}
+use Rattle.fresh.specs.Walk.{spanned}
 use Rattle.fresh.proofs.Rounds as rounds
 use Rattle.fresh.proofs.Least as least
 use Rattle.fresh.proofs.Rising as rising
@@ -65,7 +64,6 @@ use Rattle.sheet.proofs.Sheets as sheets
 use Rattle.finish.specs.declared.CodeBufferFinalized.{CodeBufferFinalized}
 use Rattle.cases.specs.Cases.{Row, answer, table}
 use Rattle.cases.proofs.Table as worked
-use Rattle.elf.specs.declared.Rela.{Rela}
 use Rattle.elf.specs.Elf.{rela_size, no_type, elf_type_of, type_listed, words_of_rela, joined, rela_of, rela_at, words_of_entry, write_relas, read_relas}
 use Rattle.elf.proofs.Listed as listed
 use Rattle.elf.proofs.Addends as addends

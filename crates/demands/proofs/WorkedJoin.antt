@@ -1,9 +1,9 @@
 -- Finish, then join, with the numbers written out: the recording of `a64_meets` as the second of two pieces.
 use mathlib.Core.Path.{◌≡◌, refl}
 use mathlib.Core.List.{List, [], ◌∷◌, ◌++◌}
-use Prim.Native.Nat.{ℕ, zero, suc, ◌+◌, ◌*◌, ◌/◌, ◌%◌, ◌≤◌, ◌<◌}
+use Prim.Native.Nat.{ℕ, zero, suc, ◌+◌, ◌*◌, ◌/◌, ◌%◌, ◌<◌}
 use native.Mathlib.Omega.{arith}
-use lib.ListN.{length, get_or, replicate}
+use lib.ListN.{replicate}
 use lib.Seq.{get_or-append-add}
 use Rattle.seqs.specs.Counting.{count, how_many}
 use Rattle.seqs.specs.Every.{every, all}
@@ -34,7 +34,6 @@ use Rattle.join.specs.Pieces as joining
 use Rattle.join.specs.Symbols as symbols
 use Rattle.join.specs.Join as joins
 use Rattle.wargnifla.specs.Boundary.{finish, join}
-use Rattle.demands.specs.Boundary.{finished_code}
 use Rattle.demands.specs.Joining.{Handed}
 use Rattle.demands.proofs.Joining.{c_finish_then_join}
 use Rattle.demands.proofs.Worked.{a64, a64_answer, bytes_of_lem, after_second, behind_all}

@@ -1,5 +1,5 @@
 -- Finish, then join, where a C program meets them: what demand 2 says of finished code holds in the whole that it is joined into.
-use Rattle.std.specs.Prelude.{◌≡◌, ◌≢◌, true, false, List, ℕ, ◌+◌, ◌-◌, ◌%◌, ◌≤◌, ◌<◌, length, get_or}
+use Rattle.std.specs.Prelude.{◌≡◌, true, false, List, ℕ, ◌+◌, ◌-◌, ◌%◌, ◌≤◌, ◌<◌, length, get_or}
 use Rattle.words.specs.Words.{word_at}
 use Rattle.encoder.specs.Intel.{AreNops}
 use Rattle.fields.specs.declared.LabelUse.{LabelUse}
@@ -10,7 +10,6 @@ use Rattle.fields.specs.Meaning.{meaning, demanded, load_multiple, Clear}
 use Rattle.relax.specs.declared.LayoutEvent.TheVariants.{Jump, Align}
 use Rattle.relax.specs.declared.RelaxableJump.{RelaxableJump}
 use Rattle.relax.specs.declared.Alignment.{Alignment}
-use Rattle.buffer.specs.State.{none}
 use Rattle.fresh.specs.Forms.{moves}
 use Rattle.fresh.specs.Fresh.{Choice, moved}
 use Rattle.fresh.specs.Rounds.{settled}
@@ -20,7 +19,7 @@ use Rattle.join.specs.Whole.{piece, before, base, Uncovered}
 use Rattle.wargnifla.specs.Boundary.{Lent, recording_in}
 use Rattle.demands.specs.Reading.{Reads}
 use Rattle.demands.specs.Demand2.{use_of, ref_of, event_of, new_start, new_end, RefMisses, UseMisses, ConstantMisses, held_by}
-use Rattle.demands.specs.Boundary.{Answer, finished_code, labels_of, offsets_of, pooled_in}
+use Rattle.demands.specs.Boundary.{Answer, finished_code, labels_of, pooled_in}
 
 -- Piece k of what is lent to join is what a finish of f answered: its code and the offsets of its labels stand in the slices, where the pieces before end.
 pub record Handed (l : joining.Lent) (k : ℕ) (f : Lent) (a : Answer) : Type 0 where

@@ -8,7 +8,7 @@ use Rattle.recording.specs.View.{view}
 use Rattle.recording.specs.Open.{open_of, settled_by}
 use Rattle.checks.specs.Lent.{counts_fit, within_limits}
 use Rattle.finish.specs.Refusals.{why_unfit}
-use Rattle.wargnifla.specs.Boundary.{counts_size, record_size, Lent, lent_of, recording_in}
+use Rattle.wargnifla.specs.Boundary.{Lent, lent_of, recording_in}
 use Rattle.demands.specs.Boundary.{Answer, labels_of, relocs_of}
 
 -- the number that the counts hold

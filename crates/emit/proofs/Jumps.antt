@@ -14,7 +14,6 @@ use Rattle.fresh.proofs.Forms.{length_form}
 use Rattle.words.specs.Words.{word_at, set_word, bytes_of}
 use Rattle.words.proofs.Entries.{words_over}
 use Rattle.seqs.proofs.Overwrites.{over_all}
-use Rattle.fields.specs.Branches.{long_branch, short_branch}
 use Rattle.relax.specs.declared.FarBranch.{FarBranch}
 use Rattle.relax.specs.Events.{branch_len, start_of, extent_of, end_of}
 use Rattle.fresh.specs.Fill.{part}

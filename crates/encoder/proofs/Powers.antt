@@ -1,5 +1,5 @@
 -- A number above 0 that has no bit in common with the one below it is a power of two: so `align & (align - 1) == 0` tests for one.
-use Rattle.std.proofs.Common.{◌≡◌, ℕ, zero, suc, ◌+◌, ◌-◌, ◌*◌, ◌/◌, ◌%◌, ◌^◌, ◌<◌, ◌≤◌, min, sym, refl, ap, ◌∙◌, ⊎_elim, pow-suc, arith}
+use Rattle.std.proofs.Common.{◌≡◌, ℕ, zero, suc, ◌+◌, ◌-◌, ◌*◌, ◌/◌, ◌%◌, ◌^◌, ◌<◌, ◌≤◌, min, sym, ◌∙◌, ⊎_elim, pow-suc, arith}
 use lib.Bits.{bit_and, and_step, and_self}
 use Rattle.seqs.proofs.Numbers.{lt_or_ge}
 

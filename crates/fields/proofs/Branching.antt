@@ -1,7 +1,6 @@
 -- A branch whose displacement is written is read as one to its label, short or long: demand 2 of a branch.
-use Rattle.std.proofs.Common.{◌≡◌, ℕ, zero, suc, ◌+◌, ◌-◌, ◌*◌, ◌/◌, ◌%◌, ◌^◌, ◌<◌, ◌≤◌, Bool, true, false, cond, not, ◌&&◌, ◌||◌, eqb, ◌⊎◌, List, [], ◌∷◌, ◌++◌, length, get_or, sym, refl, ap, ◌∙◌, subst, inl, inr, ⊎_elim, mod-lt, arith, eq-eqb, ne_eqb, eqb-true}
+use Rattle.std.proofs.Common.{◌≡◌, ℕ, ◌+◌, ◌-◌, ◌/◌, ◌%◌, ◌^◌, ◌<◌, Bool, true, false, cond, not, eqb, ◌++◌, length, sym, refl, ap, ◌∙◌, subst, arith, eq-eqb, ne_eqb, eqb-true}
 use Rattle.seqs.specs.Pick.{pick}
-use Rattle.seqs.specs.Over.{over}
 use Rattle.seqs.proofs.Booleans.{both_true}
 use Rattle.words.specs.Words.{word_at, bytes_of}
 use Rattle.words.proofs.Laws.{word_at_bytes_of}
@@ -16,7 +15,7 @@ use Rattle.fields.specs.Arm.{b, cbz, tbz}
 use Rattle.fields.proofs.Insertion.{insert_read, insert_below, insert_above, insert_lt}
 use Rattle.fields.proofs.Patching.{patched_field}
 use Rattle.fields.proofs.Meaning.{patched_means}
-use Rattle.fields.specs.Branches.{State, register, condition_holds, test_holds, compare_holds, is_test, is_compare, is_on_flags, taken, is_branch, turned, inverse, field_kind, skipping, open_b, short_branch, long_branch}
+use Rattle.fields.specs.Branches.{State, condition_holds, test_holds, compare_holds, is_on_flags, taken, is_branch, turned, inverse, field_kind, skipping, open_b, short_branch}
 use Rattle.fields.specs.Branching.{Goes, test_bit, compare, on_flags, always, ShortReads, LongReads}
 use Rattle.fields.proofs.Inverting.{Kind, kind_of, inverse_inverts, inverse_kind, taken_test, taken_compare, taken_flags, test_same, compare_same}
 

@@ -1,10 +1,9 @@
 -- The inverse branch is one of the same kind, and is taken exactly if the branch is not.
-use Rattle.std.proofs.Common.{◌≡◌, ℕ, zero, suc, ◌+◌, ◌-◌, ◌*◌, ◌/◌, ◌%◌, ◌^◌, ◌<◌, ◌≤◌, Bool, true, false, not, ◌&&◌, ◌||◌, eqb, ltb, ◌⊎◌, List, [], ◌∷◌, get_or, sym, refl, ap, ◌∙◌, inl, inr, ⊎_elim, mod-lt, arith, ltb-true, lt-ltb, eq-eqb, ne_eqb, eqb-true}
-use borrow.Author.Tests.{eqb-false}
+use Rattle.std.proofs.Common.{◌≡◌, ℕ, ◌+◌, ◌-◌, ◌*◌, ◌/◌, ◌%◌, ◌^◌, ◌<◌, Bool, true, false, not, ◌&&◌, ◌||◌, eqb, ltb, ◌⊎◌, get_or, sym, refl, ap, ◌∙◌, inl, inr, ⊎_elim, arith, ltb-true, eq-eqb, ne_eqb, eqb-true}
 use Rattle.seqs.specs.Pick.{pick}
 use Rattle.seqs.proofs.Picking.{yes_eq, no_eq}
-use Rattle.seqs.proofs.Booleans.{both_true, both_false}
-use Rattle.seqs.proofs.Numbers.{lt_or_ge, eq_or_ne}
+use Rattle.seqs.proofs.Booleans.{both_true}
+use Rattle.seqs.proofs.Numbers.{eq_or_ne}
 use Rattle.fields.specs.Bits.{bits, insert_bits}
 use Rattle.fields.specs.Branches.{State, register, same, bases, condition_holds, test_holds, compare_holds, is_test, is_compare, is_on_flags, taken, is_branch, turned, inverse}
 

@@ -1,6 +1,6 @@
 -- The conditional branches of A64 and their conditions: Arm Architecture Reference Manual for A-profile, C6.2, "TBZ", "TBNZ", "CBZ", "CBNZ", "B.cond", in its
 -- notation; and the branch with the inverse condition: document 02, Request Eight.
-use Rattle.std.specs.Prelude.{ℕ, ◌+◌, ◌-◌, ◌*◌, ◌/◌, ◌%◌, ◌^◌, Bool, true, false, cond, not, ◌&&◌, ◌||◌, List, [], ◌∷◌, ◌++◌, ◌==◌, nat_eq, nat_lt, slice_index_or}
+use Rattle.std.specs.Prelude.{ℕ, ◌+◌, ◌-◌, ◌*◌, ◌%◌, ◌^◌, Bool, true, false, cond, not, ◌&&◌, ◌||◌, List, [], ◌∷◌, ◌++◌, ◌==◌, nat_eq, nat_lt, slice_index_or}
 use Rattle.seqs.specs.Pick.{pick}
 use Rattle.words.specs.Words.{bytes_of}
 use Rattle.fields.specs.declared.LabelUse.{LabelUse}

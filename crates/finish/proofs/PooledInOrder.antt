@@ -37,7 +37,7 @@ use Rattle.fields.specs.Kinds.{size_of}
 use Rattle.seqs.proofs.Every.{every_at}
 use Rattle.seqs.specs.Every.{every}
 use Rattle.finish.specs.Refusals.{ref_clear}
-use Rattle.finish.specs.steps.Tables.{laid_pooled, pool_placed, tables_pooled}
+use Rattle.finish.specs.steps.Tables.{laid_pooled, pool_placed}
 use Rattle.finish.specs.steps.Ready.{Landed, Ready}
 
 -- the events of the table follow one another within the code

@@ -16,7 +16,6 @@ use Rattle.seqs.proofs.Every.{all_of, every_append}
 use Rattle.seqs.proofs.Numbers.{lt_or_ge}
 use Rattle.seqs.proofs.Picking.{no_eq}
 use Rattle.words.specs.Words.{word_at}
-use Rattle.fields.specs.declared.Decoded.TheVariants.{Use}
 use Rattle.fields.specs.Kinds.{decoded, size_of}
 use Rattle.relax.specs.declared.LayoutEvent.{LayoutEvent}
 use Rattle.relax.specs.declared.LayoutEvent.TheVariants.{Jump, Align, Far}

@@ -1,5 +1,5 @@
 -- With or without a jump: what is answered and left once the pool's labels are bound.
-use mathlib.Core.Path.{◌≡◌, refl, sym, ap, ◌∙◌, subst}
+use mathlib.Core.Path.{◌≡◌, refl, sym, ap, ◌∙◌}
 use mathlib.Core.Logic.{◌≢◌, ⊎_elim}
 use mathlib.Core.Bool.{Bool, true, false, not, cond}
 use mathlib.Core.List.{List, [], ◌∷◌, ◌++◌}
@@ -18,7 +18,6 @@ use Rattle.relax.specs.declared.Segment.{Segment}
 use Rattle.buffer.specs.declared.CodeBuffer.{CodeBuffer}
 use Rattle.buffer.specs.State.{keeps_events}
 use Rattle.buffer.specs.steps.Count.{open_count}
-use Rattle.recording.specs.Sound.{RefsSound}
 use Rattle.recording.specs.View as tables
 use Rattle.recording.proofs.Naming.{open_count_lem}
 use Rattle.fresh.specs.Pooled.{Pooled}
@@ -31,7 +30,7 @@ use Rattle.finish.specs.declared.Outcome.{Outcome}
 use Rattle.finish.specs.Refusals.{all_bound, why_not_in_place}
 use Rattle.finish.specs.Finish.{Left, refused_with, relaxed, unrelaxed}
 use Rattle.finish.specs.steps.Tables.{tables_pooled, laid_pooled}
-use Rattle.finish.specs.steps.Ready.{Ready, Relaxable, Keepable, kept, Placeable, pooled_of, placed_as, Starts}
+use Rattle.finish.specs.steps.Ready.{Relaxable, Keepable, kept, Placeable, pooled_of, placed_as, Starts}
 use Rattle.finish.proofs.ScansAgree.{none_open, moves_is}
 use Rattle.finish.proofs.StageAnswers.{refused_early}
 

@@ -286,6 +286,7 @@ pub(crate) fn small_relaxed(
 
 // With more, marks for as many as there can be, which are to stay out of the stack frame of a small finish: it calls itself, in an arm that is never reached,
 // for the reason that checks' `many_labels_fit` has.
+#[inline(never)]
 pub(crate) fn large_relaxed(
     b: CodeBuffer,
     code: &[u8],

@@ -1,4 +1,4 @@
-// Replays the Rust's stored recordings, `reference/answers.bin` on standard input, through `run_sheet` and finish: each must be refused at the call, or by
+// Replays the Rust's stored recordings, on standard input, through `run_sheet` and finish: each must be refused at the call, or by
 // finish, where the Rust refused it, for the same error, and the others must give the Rust's finished record and code.
 // Prints the recordings, how many the Rust refused, how many agree, are passed over because too little is lent here, and disagree.
 #![tactic(auto)]

@@ -17,7 +17,6 @@ use Rattle.relax.specs.declared.Condition.{Condition}
 use Rattle.relax.specs.declared.Condition.TheVariants.{Always, On}
 use Rattle.relax.specs.declared.LayoutEvent.{LayoutEvent}
 use Rattle.relax.specs.declared.LayoutEvent.TheVariants.{Jump, Align, Far}
-use Rattle.relax.specs.declared.FarBranch.{FarBranch}
 use Rattle.relax.specs.Events.{short_len, long_len}
 use Rattle.buffer.proofs.Appends.{padding_length_lem}
 use Rattle.fresh.specs.Forms.{short_form, long_form, form, width, Branch, field_of, branches, branch_of, far_branch_of, role_of}

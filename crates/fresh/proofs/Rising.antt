@@ -7,7 +7,7 @@ use mathlib.Core.List.{List, [], ◌∷◌}
 use Prim.Native.Nat.{ℕ, suc, ◌+◌, ◌≤◌, ◌<◌}
 use native.Mathlib.Omega.{arith}
 use lib.Dec.{ltb, eqb}
-use lib.ListN.{length, get_or, length-append, get_or-eq_default}
+use lib.ListN.{length, length-append, get_or-eq_default}
 use Rattle.seqs.proofs.Numbers.{lt_or_ge}
 use Rattle.encoder.proofs.Padding.{within_rises}
 use Rattle.relax.specs.declared.LayoutEvent.{LayoutEvent}

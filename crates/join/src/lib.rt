@@ -163,6 +163,7 @@ fn join_by(
 
 // With a table that has room for many symbols, which is to stay out of the stack frame of a small join: it calls itself, in an arm that is never reached, for
 // the reason that checks' `many_labels_fit` has.
+#[inline(never)]
 fn join_many(
     pieces: &[u8],
     code: &[u8],

@@ -11,7 +11,7 @@ use borrow.Author.Tests.{eq-eqb, ne_eqb}
 use Rattle.seqs.proofs.Numbers.{lt_or_ge}
 use Rattle.relax.specs.declared.LayoutEvent.{LayoutEvent}
 use Rattle.relax.specs.declared.Segment.{Segment}
-use Rattle.relax.specs.Events.{event_at, no_event, short_len}
+use Rattle.relax.specs.Events.{event_at, no_event}
 use Rattle.buffer.specs.State.{none}
 use Rattle.buffer.specs.Tables.{most_entries}
 use Rattle.recording.specs.View.{entries}
@@ -21,9 +21,8 @@ use Rattle.fresh.specs.Fresh.{Choice}
 use Rattle.fresh.specs.Rounds.{is_far, far_of}
 use Rattle.fresh.specs.Segments.{segments, map_offset}
 use Rattle.fresh.specs.Order.{Ordered}
-use Rattle.fresh.specs.steps.Runs.{Cursor, Modest, new_starts, after, segment_at}
+use Rattle.fresh.specs.steps.Runs.{Modest, new_starts, after, segment_at}
 use Rattle.fresh.proofs.Tests.{by_role}
-use Rattle.fresh.proofs.Forms.{branch_wide}
 use Rattle.fresh.proofs.Choices.{far_of_get_d, length_far_of, short_reaches, pads_near, branch_far, long_near}
 use Rattle.fresh.proofs.Loops.{segments_get_d, after_suc, after_le}
 use Rattle.pool.specs.steps.Pool.{pooled_bound}

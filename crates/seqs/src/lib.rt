@@ -1,4 +1,6 @@
 // Lists: the copier, and (in specs/ and proofs/) the laws on lists that every other crate cites.
+#![tactic(auto)]
+
 ghost use Rattle.std.specs.Prelude.{◌≡◌, min};
 ghost use Rattle.seqs.specs.Over.{over};
 

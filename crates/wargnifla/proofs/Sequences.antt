@@ -8,7 +8,6 @@ use Rattle.seqs.proofs.Picking.{no_lt}
 use Rattle.seqs.proofs.Overwrites.{length_over}
 use Rattle.words.specs.Words.{bytes_of_all, over_words}
 use Rattle.buffer.specs.declared.CodeBuffer.{CodeBuffer}
-use Rattle.buffer.specs.Calls as calls
 use Rattle.recording.specs.Calls.{Recording, Word, Word64, Call, after, after_all, begun}
 use Rattle.recording.specs.Calls as call
 use Rattle.recording.specs.Sound.{Sound}

@@ -1,5 +1,5 @@
 -- `read_relas` meets its contract: a refusal, or the entries.
-use Rattle.std.proofs.Common.{sym, ◌∙◌, arith, rules}
+use Rattle.std.proofs.Common.{sym, ◌∙◌, arith}
 use Rattle.elf.proofs.Answers.{read_refused, read_done, read_passed}
 use Rattle.elf.proofs.read_relas.Goals as goal
 

@@ -1,5 +1,5 @@
 -- `write_relas` meets its contract: a refusal, or the entries.
-use Rattle.std.proofs.Common.{sym, ◌∙◌, rules}
+use Rattle.std.proofs.Common.{sym, ◌∙◌}
 use Rattle.elf.proofs.Answers.{write_refused, write_done, write_passed}
 use Rattle.elf.proofs.write_relas.Goals as goal
 

@@ -1,6 +1,5 @@
 -- `copy_run` meets its contract: a part of the code is copied into a part of the output.
 use Rattle.emit.proofs.Runs.{run_copied}
-use Rattle.std.proofs.Common.{rules}
 use Rattle.emit.proofs.copy_run.Goals as goal
 
 pub returns : goal.returns

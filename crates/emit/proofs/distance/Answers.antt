@@ -1,5 +1,5 @@
 -- `distance` meets its contract: the sums wrap.
-use Rattle.std.proofs.Common.{arith, rules}
+use Rattle.std.proofs.Common.{arith}
 use Rattle.emit.proofs.distance.Goals as goal
 
 pub returns : goal.returns

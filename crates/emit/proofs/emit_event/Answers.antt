@@ -1,6 +1,5 @@
 -- `emit_event` meets its contract: the part that the event's segment has is lent.
 use Rattle.emit.proofs.Runs.{form_back, form_room}
-use Rattle.std.proofs.Common.{rules}
 use Rattle.emit.proofs.emit_event.Goals as goal
 
 pub put_event-requires : goal.put_event-requires

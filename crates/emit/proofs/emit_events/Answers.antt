@@ -1,9 +1,6 @@
 -- `emit_events` meets its contract: after i turns the first i events and the runs before them are written, and `old` and `new` are where the layout stands.
-use Rattle.std.proofs.Common.{◌≡◌, ◌-◌, ◌≤◌, length, take, sym, refl, ap, ◌∙◌, arith, rules}
-use Rattle.seqs.specs.Over.{over}
+use Rattle.std.proofs.Common.{◌≡◌, length, sym, refl, ap, ◌∙◌, arith}
 use Rattle.seqs.proofs.Overwrites.{over_nil, length_over}
-use Rattle.relax.specs.Events.{event_at}
-use Rattle.recording.specs.View.{entries}
 use Rattle.fresh.specs.steps.Runs.{after, runs_to}
 use Rattle.emit.proofs.Runs.{segments_size, order, starts, begins, ends, inside, arrived, turn, last_old, last_room, finished, event_within}
 use Rattle.emit.proofs.emit_events.Goals as goal

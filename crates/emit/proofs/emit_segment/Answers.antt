@@ -1,5 +1,5 @@
 -- `emit_segment` meets its contract: the event is written over what the run left.
-use Rattle.std.proofs.Common.{length, refl, ap, ◌∙◌, arith, rules}
+use Rattle.std.proofs.Common.{length, refl, ap, ◌∙◌, arith}
 use Rattle.seqs.proofs.Overwrites.{length_over}
 use Rattle.relax.specs.Events.{event_at, start_of, extent_of}
 use Rattle.fresh.specs.Fill.{part}

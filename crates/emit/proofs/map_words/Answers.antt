@@ -1,7 +1,6 @@
 -- `map_words` meets its contract: after i turns the first i of the words are mapped.
-use Rattle.std.proofs.Common.{◌≡◌, ◌-◌, ◌≤◌, length, take, refl, ◌∙◌, arith, rules}
+use Rattle.std.proofs.Common.{◌≡◌, refl, ◌∙◌, arith}
 use Rattle.words.proofs.Laws.{length_set_word}
-use Rattle.fresh.specs.Segments.{map_offset}
 use Rattle.emit.specs.steps.Emit.{mapped_words}
 use Rattle.emit.proofs.Turns.{mapped_next, mapped_turn}
 use Rattle.emit.proofs.map_words.Goals as goal

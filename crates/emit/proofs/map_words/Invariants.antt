@@ -1,9 +1,7 @@
 -- `map_words` meets its contract: after i turns the first i of the words are mapped.
-use Rattle.std.proofs.Common.{◌≡◌, ◌-◌, ◌≤◌, length, take, refl, ◌∙◌, arith, rules}
-use Rattle.words.proofs.Laws.{length_set_word}
+use Rattle.std.proofs.Common.{◌≡◌, ◌-◌, ◌≤◌, length, take}
 use Rattle.fresh.specs.Segments.{map_offset}
 use Rattle.emit.specs.steps.Emit.{mapped_words}
-use Rattle.emit.proofs.Turns.{mapped_next, mapped_turn}
 use Rattle.emit.proofs.map_words.Given as goal
 
 abbrev pub invariant-loop-i : goal.invariant-loop-i

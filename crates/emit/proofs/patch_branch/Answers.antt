@@ -1,5 +1,4 @@
 -- `patch_branch` meets its contract: the field is that of the word, or of the B after it.
-use Rattle.std.proofs.Common.{refl, arith, rules}
 use Rattle.fresh.specs.Fill.{fill_field}
 use Rattle.emit.proofs.patch_branch.Goals as goal
 

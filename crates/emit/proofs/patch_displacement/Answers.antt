@@ -1,5 +1,5 @@
 -- `patch_displacement` meets its contract: the field is the jump's last bytes.
-use Rattle.std.proofs.Common.{arith, rules}
+use Rattle.std.proofs.Common.{arith}
 use Rattle.fresh.specs.Fill.{fill_field}
 use Rattle.fresh.proofs.Forms.{long_len_range}
 use Rattle.emit.proofs.patch_displacement.Goals as goal

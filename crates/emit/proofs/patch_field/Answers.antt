@@ -1,6 +1,5 @@
 -- `patch_field` meets its contract: the field's own bytes are lent.
 use Rattle.emit.proofs.Fields.{field_back}
-use Rattle.std.proofs.Common.{rules}
 use Rattle.emit.proofs.patch_field.Goals as goal
 
 pub returns : goal.returns

@@ -1,6 +1,5 @@
 -- `patch_held` meets its contract: the field's own bytes are lent.
 use Rattle.emit.proofs.Fields.{use_back}
-use Rattle.std.proofs.Common.{rules}
 use Rattle.emit.proofs.patch_held.Goals as goal
 
 pub returns : goal.returns

@@ -1,5 +1,5 @@
 -- `patch_jump` meets its contract: a jump's field is written, an alignment is passed over.
-use Rattle.std.proofs.Common.{sym, ap, ◌∙◌, rules}
+use Rattle.std.proofs.Common.{sym, ap, ◌∙◌}
 use Rattle.fresh.specs.Forms.{branch_of, far_branch_of, role_of}
 use Rattle.fresh.proofs.Fill.{fill_jump_pads, fill_jump_branch}
 use Rattle.emit.proofs.patch_jump.Goals as goal

@@ -1,5 +1,5 @@
 -- `patch_jumps` meets its contract: after i turns the displacements of the first i jumps are written.
-use Rattle.std.proofs.Common.{◌≡◌, ◌-◌, ◌≤◌, length, refl, ◌∙◌, arith, rules}
+use Rattle.std.proofs.Common.{◌≡◌, refl, ◌∙◌, arith}
 use Rattle.emit.specs.steps.Emit.{jumps_filled}
 use Rattle.emit.proofs.Turns.{jumps_turn}
 use Rattle.fresh.proofs.Fill.{length_fill_jump}

@@ -1,8 +1,6 @@
 -- `patch_jumps` meets its contract: after i turns the displacements of the first i jumps are written.
-use Rattle.std.proofs.Common.{◌≡◌, ◌-◌, ◌≤◌, length, refl, ◌∙◌, arith, rules}
+use Rattle.std.proofs.Common.{◌≡◌, ◌-◌, ◌≤◌, length}
 use Rattle.emit.specs.steps.Emit.{jumps_filled}
-use Rattle.emit.proofs.Turns.{jumps_turn}
-use Rattle.fresh.proofs.Fill.{length_fill_jump}
 use Rattle.emit.proofs.patch_jumps.Given as goal
 
 abbrev pub invariant-loop-i : goal.invariant-loop-i

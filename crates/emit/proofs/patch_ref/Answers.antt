@@ -1,5 +1,5 @@
 -- `patch_ref` meets its contract: a kind's field is filled, any other code is passed over.
-use Rattle.std.proofs.Common.{sym, ◌∙◌, rules}
+use Rattle.std.proofs.Common.{sym, ◌∙◌}
 use Rattle.emit.proofs.Fields.{RefRead, filled, filled_unsupported, filled_unknown, within_of}
 use Rattle.emit.proofs.patch_ref.Goals as goal
 

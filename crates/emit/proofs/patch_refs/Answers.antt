@@ -1,5 +1,5 @@
 -- `patch_refs` meets its contract: after i turns the first i refs are filled.
-use Rattle.std.proofs.Common.{◌≡◌, ◌-◌, ◌≤◌, length, refl, ◌∙◌, arith, rules}
+use Rattle.std.proofs.Common.{◌≡◌, refl, ◌∙◌, arith}
 use Rattle.fresh.proofs.Fill.{length_fill_field}
 use Rattle.emit.specs.steps.Emit.{refs_filled}
 use Rattle.emit.proofs.Turns.{refs_turn}

@@ -1,8 +1,6 @@
 -- `patch_refs` meets its contract: after i turns the first i refs are filled.
-use Rattle.std.proofs.Common.{◌≡◌, ◌-◌, ◌≤◌, length, refl, ◌∙◌, arith, rules}
-use Rattle.fresh.proofs.Fill.{length_fill_field}
+use Rattle.std.proofs.Common.{◌≡◌, ◌-◌, ◌≤◌, length}
 use Rattle.emit.specs.steps.Emit.{refs_filled}
-use Rattle.emit.proofs.Turns.{refs_turn}
 use Rattle.emit.proofs.patch_refs.Given as goal
 
 abbrev pub invariant-loop-i : goal.invariant-loop-i

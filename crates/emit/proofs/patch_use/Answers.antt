@@ -1,5 +1,5 @@
 -- `patch_use` meets its contract: a kind's field is patched, any other code is passed over.
-use Rattle.std.proofs.Common.{sym, ◌∙◌, arith, rules}
+use Rattle.std.proofs.Common.{sym, ◌∙◌, arith}
 use Rattle.emit.proofs.Fields.{used, used_unsupported, used_unknown, within_of}
 use Rattle.emit.proofs.patch_use.Goals as goal
 

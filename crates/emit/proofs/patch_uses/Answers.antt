@@ -1,5 +1,5 @@
 -- `patch_uses` meets its contract: after i turns the first i uses are patched.
-use Rattle.std.proofs.Common.{◌≡◌, ◌-◌, ◌≤◌, length, refl, ◌∙◌, arith, rules}
+use Rattle.std.proofs.Common.{◌≡◌, refl, ◌∙◌, arith}
 use Rattle.fresh.proofs.Fill.{length_fill_use}
 use Rattle.emit.specs.steps.Emit.{uses_filled}
 use Rattle.emit.proofs.Turns.{uses_turn}

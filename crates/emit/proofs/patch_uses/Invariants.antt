@@ -1,8 +1,6 @@
 -- `patch_uses` meets its contract: after i turns the first i uses are patched.
-use Rattle.std.proofs.Common.{◌≡◌, ◌-◌, ◌≤◌, length, refl, ◌∙◌, arith, rules}
-use Rattle.fresh.proofs.Fill.{length_fill_use}
+use Rattle.std.proofs.Common.{◌≡◌, ◌-◌, ◌≤◌, length}
 use Rattle.emit.specs.steps.Emit.{uses_filled}
-use Rattle.emit.proofs.Turns.{uses_turn}
 use Rattle.emit.proofs.patch_uses.Given as goal
 
 abbrev pub invariant-loop-i : goal.invariant-loop-i

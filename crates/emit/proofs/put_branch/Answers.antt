@@ -1,7 +1,6 @@
 -- `put_branch` meets its contract: one word, or two.
-use Rattle.std.proofs.Common.{◌≡◌, length, sym, refl, ap, ◌∙◌, arith, rules}
+use Rattle.std.proofs.Common.{◌≡◌, length, refl, ap, ◌∙◌, arith}
 use Rattle.words.proofs.Laws.{length_set_word}
-use Rattle.emit.specs.steps.Emit.{branch_form}
 use Rattle.emit.proofs.Jumps.{one_word, two_words}
 use Rattle.emit.proofs.put_branch.Goals as goal
 

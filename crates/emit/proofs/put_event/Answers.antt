@@ -1,5 +1,5 @@
 -- `put_event` meets its contract: a jump's form, or an alignment's padding.
-use Rattle.std.proofs.Common.{◌∙◌, rules}
+use Rattle.std.proofs.Common.{◌∙◌}
 use Rattle.emit.proofs.Jumps.{jump_writes, jump_width, jump_form_lem, align_form, branch_width, branch_form_lem}
 use Rattle.emit.proofs.put_event.Goals as goal
 

@@ -1,5 +1,4 @@
 -- `put_jump` meets its contract: the long form or the short.
-use Rattle.std.proofs.Common.{rules}
 use Rattle.emit.proofs.put_jump.Goals as goal
 
 pub put_long-requires : goal.put_long-requires

@@ -1,5 +1,5 @@
 -- `put_long` meets its contract: a cleared part, and the opcode, of one byte or two.
-use Rattle.std.proofs.Common.{arith, length-set, rules}
+use Rattle.std.proofs.Common.{arith, length-set}
 use Rattle.emit.proofs.Jumps.{long_room, put_always, on_encodes, put_on}
 use Rattle.emit.proofs.put_long.Goals as goal
 

@@ -1,5 +1,5 @@
 -- `put_short` meets its contract: a cleared part, and the opcode.
-use Rattle.std.proofs.Common.{arith, rules}
+use Rattle.std.proofs.Common.{arith}
 use Rattle.emit.proofs.Jumps.{short_size, cleared_length, put_opcode}
 use Rattle.emit.proofs.put_short.Goals as goal
 

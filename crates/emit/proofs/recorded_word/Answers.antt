@@ -1,7 +1,6 @@
 -- `recorded_word` meets its contract, by cases of the event.
-use Rattle.std.proofs.Common.{◌≡◌, ℕ, ◌+◌, ◌-◌, ◌≤◌, length, drop, sym, refl, ap, ◌∙◌, arith, length-drop, length-take, length-take-le, rules}
-use Rattle.relax.specs.Events.{end_of}
-use Rattle.emit.proofs.Jumps.{keeps_jump, keeps_align, keeps_far, far_writes, far_end}
+use Rattle.std.proofs.Common.{◌≡◌, ℕ, ◌+◌, ◌-◌, ◌≤◌, length, drop, arith, length-drop, length-take}
+use Rattle.emit.proofs.Jumps.{keeps_jump, keeps_align, keeps_far, far_end}
 use Rattle.emit.proofs.recorded_word.Goals as goal
 
 four : (n : ℕ) → n + 4 - n ≡ 4

@@ -1,5 +1,5 @@
 -- `ref_label` meets its contract.
-use Rattle.std.proofs.Common.{ap, ◌∙◌, rules}
+use Rattle.std.proofs.Common.{ap, ◌∙◌}
 use Rattle.words.specs.Words.{word_at}
 use Rattle.emit.proofs.ref_label.Goals as goal
 

@@ -1,5 +1,5 @@
 -- `ref_reaches` meets its contract: a kind's field is measured, any other code is passed over.
-use Rattle.std.proofs.Common.{◌∙◌, rules}
+use Rattle.std.proofs.Common.{◌∙◌}
 use Rattle.emit.proofs.ref_reaches.Goals as goal
 
 pub returns-in-Use : goal.returns-in-Use

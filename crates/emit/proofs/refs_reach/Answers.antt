@@ -1,7 +1,7 @@
 -- `refs_reach` meets its contract: every ref passed reaches.
-use Rattle.std.proofs.Common.{◌-◌, arith, rules}
-use Rattle.seqs.proofs.Scans.{AllPassed, pass_one, pass_fails, scans}
-use Rattle.emit.specs.steps.Emit.{ref_reaches, refs_reach}
+use Rattle.std.proofs.Common.{arith, rules}
+use Rattle.seqs.proofs.Scans.{pass_one, pass_fails, scans}
+use Rattle.emit.specs.steps.Emit.{refs_reach}
 use Rattle.emit.proofs.refs_reach.Goals as goal
 
 pub loop-i-init : goal.loop-i-init

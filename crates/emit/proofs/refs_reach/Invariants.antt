@@ -1,7 +1,7 @@
 -- `refs_reach` meets its contract: every ref passed reaches.
-use Rattle.std.proofs.Common.{◌-◌, arith, rules}
-use Rattle.seqs.proofs.Scans.{AllPassed, pass_one, pass_fails, scans}
-use Rattle.emit.specs.steps.Emit.{ref_reaches, refs_reach}
+use Rattle.std.proofs.Common.{◌-◌}
+use Rattle.seqs.proofs.Scans.{AllPassed}
+use Rattle.emit.specs.steps.Emit.{ref_reaches}
 use Rattle.emit.proofs.refs_reach.Given as goal
 
 abbrev pub invariant-loop-i : goal.invariant-loop-i

@@ -1,5 +1,5 @@
 -- `short_opcode` meets its contract: the two cases of a condition.
-use Rattle.std.proofs.Common.{refl, arith, rules}
+use Rattle.std.proofs.Common.{refl, arith}
 use Rattle.emit.proofs.Jumps.{on_encodes}
 use Rattle.emit.proofs.short_opcode.Goals as goal
 

@@ -1,6 +1,6 @@
 -- `padding_len` meets its contract: by a mask where the multiple is a power of two; else the two cases of `padding_length`, an offset at a multiple and one
 -- past it.
-use Rattle.std.proofs.Common.{sym, mod-lt, arith, rules}
+use Rattle.std.proofs.Common.{sym, mod-lt, arith}
 use Rattle.encoder.specs.Padding.{padding_length}
 use Rattle.encoder.proofs.Padding.{padding_none, padding_some, padding_wrapped}
 use Rattle.encoder.proofs.Powers.{power_of_two}

@@ -1,5 +1,5 @@
 -- `padding_within` meets its contract: what is needed, or nothing.
-use Rattle.std.proofs.Common.{sym, ◌∙◌, arith, rules}
+use Rattle.std.proofs.Common.{sym, ◌∙◌, arith}
 use Rattle.encoder.proofs.Padding.{within_needed, within_none}
 use Rattle.encoder.proofs.padding_within.Goals as goal
 

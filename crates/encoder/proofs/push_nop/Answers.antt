@@ -1,5 +1,5 @@
 -- `push_nop` meets its contract: the row starts with the form, and the copy fills `pad`.
-use Rattle.std.proofs.Common.{◌≤◌, length, sym, ap, ◌∙◌, arith, length-take-le, rules}
+use Rattle.std.proofs.Common.{◌≤◌, length, sym, ap, ◌∙◌, arith, length-take-le}
 use Rattle.seqs.specs.Over.{over}
 use Rattle.seqs.proofs.Overwrites.{over_all}
 use Rattle.encoder.specs.Nops.{form}

@@ -1,5 +1,5 @@
 -- `push_nops` meets its contract: what is left to write at i, written over `pad`, gives the whole padding.
-use Rattle.std.proofs.Common.{◌≡◌, ℕ, ◌+◌, ◌-◌, ◌≤◌, List, [], length, get_or, take, drop, sym, refl, ap, ◌∙◌, arith, length-drop, length-take, rules}
+use Rattle.std.proofs.Common.{◌≡◌, ℕ, ◌+◌, ◌-◌, ◌≤◌, List, [], length, get_or, take, drop, sym, refl, ap, ◌∙◌, arith, length-drop, length-take}
 use native.Mathlib.Nat.{sub-zero}
 use Rattle.seqs.specs.Over.{over}
 use Rattle.seqs.proofs.Overwrites.{over_all, over_nil, length_over}

@@ -1,5 +1,4 @@
 -- `encodings::read_rows` is safe and ends: each turn takes one from `left`.
-use Rattle.std.proofs.Common.{rules}
 use Rattle.encodings.proofs.read_rows.Given as goal
 
 abbrev pub invariant-loop-left : goal.invariant-loop-left

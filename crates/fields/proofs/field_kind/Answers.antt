@@ -1,5 +1,5 @@
 -- `field_kind` meets its contract.
-use Rattle.std.proofs.Common.{rules, eq-eqb, ne_eqb}
+use Rattle.std.proofs.Common.{eq-eqb, ne_eqb}
 use Rattle.fields.proofs.field_kind.Goals as goal
 
 pub returns-then-code-eq-BRANCH_14 : goal.returns-then-code-eq-BRANCH_14

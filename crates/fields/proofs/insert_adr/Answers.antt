@@ -1,5 +1,4 @@
 -- `insert_adr` meets its contract.
-use Rattle.std.proofs.Common.{rules}
 use Rattle.fields.proofs.insert_adr.Goals as goal
 
 pub returns : goal.returns

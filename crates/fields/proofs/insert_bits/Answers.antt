@@ -1,5 +1,5 @@
 -- `insert_bits` meets its contract: its sums and products fit (`insert_fits`).
-use Rattle.std.proofs.Common.{arith, rules}
+use Rattle.std.proofs.Common.{arith}
 use Rattle.fields.specs.Bits.{insert_bits}
 use Rattle.fields.proofs.Insertion.{Fit, insert_fits}
 use Rattle.fields.proofs.insert_bits.Goals as goal

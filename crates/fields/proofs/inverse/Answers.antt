@@ -1,7 +1,6 @@
 -- `inverse` meets its contract.
-use Rattle.std.proofs.Common.{◌≡◌, ℕ, ◌-◌, ◌/◌, ◌%◌, ap, ◌∙◌, arith, rules}
+use Rattle.std.proofs.Common.{◌≡◌, ℕ, ◌/◌, ◌%◌, arith}
 use Rattle.seqs.proofs.Picking.{yes_eq, no_eq}
-use Rattle.fields.specs.Bits.{insert_bits}
 use Rattle.fields.specs.Branches.{inverse}
 use Rattle.fields.proofs.inverse.Goals as goal
 

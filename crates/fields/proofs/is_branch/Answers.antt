@@ -1,5 +1,5 @@
 -- `is_branch` meets its contract: each return is where the tests end.
-use Rattle.std.proofs.Common.{◌≡◌, ℕ, ◌/◌, ◌%◌, arith, rules, eq-eqb, ne_eqb}
+use Rattle.std.proofs.Common.{◌≡◌, ℕ, ◌/◌, ◌%◌, arith, eq-eqb, ne_eqb}
 use Rattle.seqs.proofs.Picking.{yes_eq, no_eq}
 use Rattle.fields.specs.Branches.{is_branch}
 use Rattle.fields.proofs.is_branch.Goals as goal

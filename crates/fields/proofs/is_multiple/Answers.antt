@@ -1,5 +1,4 @@
 -- `is_multiple` meets its contract.
-use Rattle.std.proofs.Common.{rules}
 use Rattle.fields.proofs.is_multiple.Goals as goal
 
 pub returns-then-words : goal.returns-then-words

@@ -1,6 +1,5 @@
 -- `pages_reach` meets its contract.
 use Rattle.fields.specs.Reach.{pages_reach}
-use Rattle.std.proofs.Common.{rules}
 use Rattle.fields.proofs.pages_reach.Goals as goal
 
 pub returns : goal.returns

@@ -1,5 +1,5 @@
 -- `power_of_two` meets its contract: the shift loses no bit.
-use Rattle.std.proofs.Common.{◌∙◌, one-mul, arith, shl_exact, rules}
+use Rattle.std.proofs.Common.{◌∙◌, one-mul, arith, shl_exact}
 use Rattle.fields.proofs.power_of_two.Goals as goal
 
 pub returns : goal.returns

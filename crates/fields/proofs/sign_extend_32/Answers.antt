@@ -1,6 +1,6 @@
 -- `sign_extend_32` meets its contract.
 use Rattle.fields.proofs.Signed.{extend_positive, extend_negative}
-use Rattle.std.proofs.Common.{◌≡◌, ◌%◌, sym, ◌∙◌, arith, rules}
+use Rattle.std.proofs.Common.{◌≡◌, ◌%◌, sym, ◌∙◌, arith}
 use Rattle.fields.proofs.sign_extend_32.Goals as goal
 
 pub returns-then-v-lt2147483648 : goal.returns-then-v-lt2147483648

@@ -1,5 +1,4 @@
 -- `skipping` meets its contract.
-use Rattle.std.proofs.Common.{rules}
 use Rattle.fields.proofs.skipping.Goals as goal
 
 pub returns : goal.returns

@@ -1,13 +1,10 @@
 -- `end_events` meets its contract: a turn writes one end more.
-use mathlib.Core.Path.{◌≡◌, refl, ◌∙◌}
+use mathlib.Core.Path.{◌≡◌}
 use Prim.Native.Nat.{◌-◌, ◌≤◌}
-use native.Mathlib.Numerals.{add-one}
-use native.Mathlib.Omega.{arith}
 use lib.ListN.{length}
 use Rattle.relax.specs.Events.{event_at}
 use Rattle.recording.specs.View.{entries}
 use Rattle.layout.specs.steps.Targets.{Ended}
-use Rattle.layout.proofs.Ends.{ended_none, ended_follows, ended_more}
 use Rattle.layout.proofs.end_events.Given as goal
 
 abbrev pub invariant-loop-i : goal.invariant-loop-i

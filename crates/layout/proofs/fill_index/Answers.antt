@@ -1,11 +1,7 @@
 -- `fill_index` meets its contract: after i turns the first i starts are marked.
 use mathlib.Core.Path.{◌≡◌, refl, ◌∙◌}
-use Prim.Native.Nat.{◌-◌, ◌≤◌}
 use native.Mathlib.Omega.{arith}
-use lib.ListN.{length}
-use Rattle.lookup.specs.steps.Index.{Filled}
 use Rattle.lookup.proofs.Index.{filled_none, filled_one, filled_all}
-use Rattle.layout.specs.steps.Layout.{start_at}
 use Rattle.layout.proofs.Search.{sorted_rises}
 use Rattle.layout.proofs.fill_index.Goals as goal
 

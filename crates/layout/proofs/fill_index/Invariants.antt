@@ -1,12 +1,9 @@
 -- `fill_index` meets its contract: after i turns the first i starts are marked.
-use mathlib.Core.Path.{◌≡◌, refl, ◌∙◌}
+use mathlib.Core.Path.{◌≡◌}
 use Prim.Native.Nat.{◌-◌, ◌≤◌}
-use native.Mathlib.Omega.{arith}
 use lib.ListN.{length}
 use Rattle.lookup.specs.steps.Index.{Filled}
-use Rattle.lookup.proofs.Index.{filled_none, filled_one, filled_all}
 use Rattle.layout.specs.steps.Layout.{start_at}
-use Rattle.layout.proofs.Search.{sorted_rises}
 use Rattle.layout.proofs.fill_index.Given as goal
 
 abbrev pub invariant-loop-i : goal.invariant-loop-i

@@ -1,14 +1,10 @@
 -- `find_targets` meets its contract: a turn writes one target more, and leaves what is searched.
-use mathlib.Core.Path.{◌≡◌}
 use mathlib.Core.List.{List}
 use Prim.Native.Nat.{◌-◌, ◌≤◌}
-use native.Mathlib.Omega.{arith}
 use Rattle.words.specs.Words.{word_at}
 use Rattle.relax.specs.declared.LayoutEvent.{LayoutEvent}
 use Rattle.layout.specs.steps.Targets.{Shown, SamePast}
-use Rattle.layout.proofs.Found.{indexed_shown}
-use Rattle.layout.proofs.SamePast.{same_past_none, same_past_more, same_past_set}
-use Rattle.layout.proofs.Targets.{Targeted, targeted_none, targeted_more}
+use Rattle.layout.proofs.Targets.{Targeted}
 use Rattle.layout.proofs.find_targets.Given as goal
 
 abbrev pub invariant-loop-i : goal.invariant-loop-i

@@ -1,5 +1,5 @@
 -- `is_missed` meets its contract: its tests are made in order.
-use mathlib.Core.Path.{refl, ◌∙◌, ap}
+use mathlib.Core.Path.{refl}
 use Prim.Native.Nat.{◌+◌}
 use native.Mathlib.Omega.{arith}
 use Rattle.layout.proofs.Missed.{missed_none, missed_reach}

@@ -1,12 +1,7 @@
 -- `layout_events` meets its contract: a turn lays out one event more.
 use mathlib.Core.Path.{◌≡◌, refl, ◌∙◌}
-use Prim.Native.Nat.{◌-◌, ◌≤◌}
 use native.Mathlib.Numerals.{add-one}
 use native.Mathlib.Omega.{arith}
-use lib.ListN.{length}
-use Rattle.relax.specs.Events.{event_at}
-use Rattle.recording.specs.View.{entries}
-use Rattle.layout.specs.steps.Layout.{Laid}
 use Rattle.layout.proofs.Turns.{laid_none, event_follows, event_laid}
 use Rattle.layout.proofs.layout_events.Goals as goal
 

@@ -1,10 +1,8 @@
 -- `layout_pool` meets its contract: a turn lays out one alignment more.
-use mathlib.Core.Path.{◌≡◌, refl, ◌∙◌}
+use mathlib.Core.Path.{◌≡◌}
 use Prim.Native.Nat.{◌-◌, ◌≤◌}
-use native.Mathlib.Numerals.{add-one}
-use native.Mathlib.Omega.{arith}
 use lib.ListN.{length}
-use Rattle.layout.proofs.Pooling.{PoolLaid, pool_none, pool_more, pool_padding_lem}
+use Rattle.layout.proofs.Pooling.{PoolLaid}
 use Rattle.layout.proofs.layout_pool.Given as goal
 
 abbrev pub invariant-loop-j : goal.invariant-loop-j

@@ -1,11 +1,8 @@
 -- `lengthen` meets its contract: a turn scans one event more.
 use mathlib.Core.Path.{◌≡◌, refl, ◌∙◌, ap}
-use mathlib.Core.Logic.{⊎_elim}
-use Prim.Native.Nat.{◌-◌, ◌≤◌}
 use native.Mathlib.Omega.{arith}
 use lib.ListN.{length, length-set}
-use Rattle.layout.specs.steps.Targets.{missed}
-use Rattle.layout.proofs.Scan.{Scanned, scanned_none, scan_mark, scan_keep, scan_all}
+use Rattle.layout.proofs.Scan.{scanned_none, scan_mark, scan_keep, scan_all}
 use Rattle.layout.proofs.lengthen.Goals as goal
 use Rattle.layout.proofs.lengthen.Goals.{then-is_missed, else-is_missed}
 

@@ -1,11 +1,9 @@
 -- `lengthen` meets its contract: a turn scans one event more.
-use mathlib.Core.Path.{◌≡◌, refl, ◌∙◌, ap}
-use mathlib.Core.Logic.{⊎_elim}
+use mathlib.Core.Path.{◌≡◌}
 use Prim.Native.Nat.{◌-◌, ◌≤◌}
-use native.Mathlib.Omega.{arith}
-use lib.ListN.{length, length-set}
+use lib.ListN.{length}
 use Rattle.layout.specs.steps.Targets.{missed}
-use Rattle.layout.proofs.Scan.{Scanned, scanned_none, scan_mark, scan_keep, scan_all}
+use Rattle.layout.proofs.Scan.{Scanned}
 use Rattle.layout.proofs.lengthen.Given as goal
 
 abbrev pub invariant-loop-i : goal.invariant-loop-i

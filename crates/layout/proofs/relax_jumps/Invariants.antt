@@ -1,17 +1,12 @@
 -- `relax_jumps` meets its contract: a round that lengthens a jump leaves fewer short ones, and one that lengthens none is the last.
-use mathlib.Core.Path.{◌≡◌, refl, sym, ◌∙◌}
+use mathlib.Core.Path.{◌≡◌}
 use Prim.Native.Nat.{◌+◌, ◌-◌, ◌≤◌}
-use native.Mathlib.Omega.{arith}
 use lib.ListN.{length}
-use borrow.Author.Tests.{not-true, not-false}
 use Rattle.words.specs.Words.{word_at}
 use Rattle.fresh.specs.Rounds.{jumps}
 use Rattle.layout.specs.steps.Layout.{all_events}
 use Rattle.layout.specs.steps.Targets.{Aiming}
-use Rattle.layout.proofs.Pooling.{length_all}
-use Rattle.layout.proofs.Found.{shown_sorted, indexed_shown}
-use Rattle.layout.proofs.Targets.{aiming_stays}
-use Rattle.layout.proofs.Standing.{Standing, standing_none, layouts_few, shown_laid, relaxed_from, round_adds, round_less, round_more, round_done}
+use Rattle.layout.proofs.Standing.{Standing}
 use Rattle.layout.proofs.relax_jumps.Given as goal
 
 -- The table is the one that the loop was handed, but for its events' rows.

@@ -1,7 +1,5 @@
 -- `fill` meets its contract: the entries passed hold the value, the others what they held.
-use Prim.Native.Nat.{◌-◌, ◌≤◌, max}
 use native.Mathlib.Omega.{arith}
-use Rattle.lookup.specs.steps.Index.{Marked}
 use Rattle.lookup.proofs.Index.{marked_none, marked_one, marked_end}
 use Rattle.lookup.proofs.fill.Goals as goal
 

@@ -1,8 +1,6 @@
 -- `fill` meets its contract: the entries passed hold the value, the others what they held.
 use Prim.Native.Nat.{◌-◌, ◌≤◌, max}
-use native.Mathlib.Omega.{arith}
 use Rattle.lookup.specs.steps.Index.{Marked}
-use Rattle.lookup.proofs.Index.{marked_none, marked_one, marked_end}
 use Rattle.lookup.proofs.fill.Given as goal
 
 abbrev pub invariant-loop-p : goal.invariant-loop-p

@@ -1,5 +1,5 @@
 -- `shift_for` meets its contract: 22 bits are enough.
-use Prim.Native.Nat.{◌-◌, ◌≤◌, ◌<◌}
+use Prim.Native.Nat.{◌<◌}
 use native.Mathlib.Omega.{arith}
 use lib.Pow.{shr_le}
 use Rattle.lookup.proofs.Index.{shift_grows}

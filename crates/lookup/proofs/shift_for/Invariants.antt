@@ -1,8 +1,5 @@
 -- `shift_for` meets its contract: 22 bits are enough.
-use Prim.Native.Nat.{◌-◌, ◌≤◌, ◌<◌}
-use native.Mathlib.Omega.{arith}
-use lib.Pow.{shr_le}
-use Rattle.lookup.proofs.Index.{shift_grows}
+use Prim.Native.Nat.{◌-◌, ◌≤◌}
 use Rattle.lookup.proofs.shift_for.Given as goal
 
 abbrev pub invariant-loop-shift : goal.invariant-loop-shift

@@ -1,8 +1,7 @@
 -- `jumps_naming` meets its contract: each event adds 1 where it is a jump to the label.
-use Prim.Native.Nat.{◌-◌}
 use native.Mathlib.Omega.{arith}
-use Rattle.naming.specs.Naming.{jump_names, jumps_naming}
-use Rattle.naming.proofs.Turns.{Counted, counting, found_le}
+use Rattle.naming.specs.Naming.{jumps_naming}
+use Rattle.naming.proofs.Turns.{counting, found_le}
 use Rattle.naming.proofs.jumps_naming.Goals as goal
 
 pub loop-i-init : goal.loop-i-init

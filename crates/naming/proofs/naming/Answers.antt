@@ -1,9 +1,8 @@
 -- `naming` meets its contract: each entry adds 1 where it has the value.
-use Prim.Native.Nat.{◌-◌}
 use native.Mathlib.Omega.{arith}
-use Rattle.naming.specs.Naming.{holds_at, naming}
+use Rattle.naming.specs.Naming.{naming}
 use Rattle.naming.proofs.Entries.{entry_within}
-use Rattle.naming.proofs.Turns.{Counted, counting, found_le, count_grows}
+use Rattle.naming.proofs.Turns.{counting, found_le, count_grows}
 use Rattle.naming.proofs.naming.Goals as goal
 
 pub loop-i-init : goal.loop-i-init

@@ -1,9 +1,7 @@
 -- `naming` meets its contract: each entry adds 1 where it has the value.
 use Prim.Native.Nat.{◌-◌}
-use native.Mathlib.Omega.{arith}
-use Rattle.naming.specs.Naming.{holds_at, naming}
-use Rattle.naming.proofs.Entries.{entry_within}
-use Rattle.naming.proofs.Turns.{Counted, counting, found_le, count_grows}
+use Rattle.naming.specs.Naming.{holds_at}
+use Rattle.naming.proofs.Turns.{Counted}
 use Rattle.naming.proofs.naming.Given as goal
 
 abbrev pub invariant-loop-i : goal.invariant-loop-i

@@ -1,10 +1,8 @@
 -- `open_entries` meets its contract: each entry adds 1 where it names an open label.
-use Prim.Native.Nat.{ℕ, ◌+◌, ◌-◌, ◌*◌}
 use native.Mathlib.Omega.{arith}
-use Rattle.words.specs.Words.{word_at}
-use Rattle.naming.specs.steps.Open.{opens_at, open_entries}
+use Rattle.naming.specs.steps.Open.{open_entries}
 use Rattle.naming.proofs.Entries.{entry_within}
-use Rattle.naming.proofs.Turns.{Counted, counting, found_le, count_grows}
+use Rattle.naming.proofs.Turns.{counting, found_le, count_grows}
 use Rattle.naming.proofs.open_entries.Goals as goal
 
 pub loop-i-init : goal.loop-i-init

@@ -1,11 +1,7 @@
 -- `open_jumps` meets its contract: each event adds 1 where it is a jump to an open label.
-use mathlib.Core.Bool.{◌&&◌}
-use Prim.Native.Nat.{ℕ, ◌+◌, ◌-◌, ◌*◌}
 use native.Mathlib.Omega.{arith}
-use Rattle.words.specs.Words.{word_at}
-use Rattle.relax.specs.Events.{event_words, names_label}
-use Rattle.naming.specs.steps.Open.{is_open_at, open_jumps}
-use Rattle.naming.proofs.Turns.{Counted, counting, found_le}
+use Rattle.naming.specs.steps.Open.{open_jumps}
+use Rattle.naming.proofs.Turns.{counting, found_le}
 use Rattle.naming.proofs.open_jumps.Goals as goal
 
 pub loop-i-init : goal.loop-i-init

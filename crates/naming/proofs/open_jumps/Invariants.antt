@@ -1,11 +1,10 @@
 -- `open_jumps` meets its contract: each event adds 1 where it is a jump to an open label.
 use mathlib.Core.Bool.{◌&&◌}
 use Prim.Native.Nat.{ℕ, ◌+◌, ◌-◌, ◌*◌}
-use native.Mathlib.Omega.{arith}
 use Rattle.words.specs.Words.{word_at}
 use Rattle.relax.specs.Events.{event_words, names_label}
-use Rattle.naming.specs.steps.Open.{is_open_at, open_jumps}
-use Rattle.naming.proofs.Turns.{Counted, counting, found_le}
+use Rattle.naming.specs.steps.Open.{is_open_at}
+use Rattle.naming.proofs.Turns.{Counted}
 use Rattle.naming.proofs.open_jumps.Given as goal
 
 abbrev pub invariant-loop-i : goal.invariant-loop-i

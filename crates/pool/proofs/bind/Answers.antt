@@ -1,10 +1,8 @@
 -- `bind` meets its contract: after j turns the labels of the first j constants are bound, and `at` is where constant j's alignment starts.
 use mathlib.Core.Path.{◌≡◌, refl, ◌∙◌}
-use Prim.Native.Nat.{◌+◌, ◌*◌, ◌-◌, ◌≤◌}
 use native.Mathlib.Omega.{arith}
-use lib.ListN.{length}
 use Rattle.words.proofs.Laws.{length_set_word}
-use Rattle.pool.specs.steps.Pool.{pool_start, pool_bound, most_pooled}
+use Rattle.pool.specs.steps.Pool.{pool_start, pool_bound}
 use Rattle.pool.proofs.Pool.{Turn, pad_small, start_turn, bound_turn}
 use Rattle.pool.proofs.bind.Goals as goal
 

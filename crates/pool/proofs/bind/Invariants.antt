@@ -1,11 +1,8 @@
 -- `bind` meets its contract: after j turns the labels of the first j constants are bound, and `at` is where constant j's alignment starts.
-use mathlib.Core.Path.{◌≡◌, refl, ◌∙◌}
+use mathlib.Core.Path.{◌≡◌}
 use Prim.Native.Nat.{◌+◌, ◌*◌, ◌-◌, ◌≤◌}
-use native.Mathlib.Omega.{arith}
 use lib.ListN.{length}
-use Rattle.words.proofs.Laws.{length_set_word}
 use Rattle.pool.specs.steps.Pool.{pool_start, pool_bound, most_pooled}
-use Rattle.pool.proofs.Pool.{Turn, pad_small, start_turn, bound_turn}
 use Rattle.pool.proofs.bind.Given as goal
 
 abbrev pub invariant-loop-j : goal.invariant-loop-j

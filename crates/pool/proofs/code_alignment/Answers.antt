@@ -1,6 +1,5 @@
 -- `code_alignment` meets its contract: after j turns, `alignment` is the greater of 32 and the largest of the first j.
 use mathlib.Core.Path.{◌≡◌, refl, ap, ◌∙◌}
-use Prim.Native.Nat.{◌-◌, ◌≤◌}
 use native.Mathlib.Numerals.{add-one}
 use native.Mathlib.Omega.{arith}
 use Rattle.fresh.specs.Pooled.{constant_alignment}

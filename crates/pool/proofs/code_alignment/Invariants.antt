@@ -1,9 +1,6 @@
 -- `code_alignment` meets its contract: after j turns, `alignment` is the greater of 32 and the largest of the first j.
-use mathlib.Core.Path.{◌≡◌, refl, ap, ◌∙◌}
+use mathlib.Core.Path.{◌≡◌}
 use Prim.Native.Nat.{◌-◌, ◌≤◌}
-use native.Mathlib.Numerals.{add-one}
-use native.Mathlib.Omega.{arith}
-use Rattle.fresh.specs.Pooled.{constant_alignment}
 use Rattle.pool.specs.steps.Pool.{pool_alignment}
 use Rattle.pool.proofs.code_alignment.Given as goal
 

@@ -1,11 +1,8 @@
 -- `emit` meets its contract: after j turns what the first j constants take is written, and `at` is where constant j's alignment starts.
 use mathlib.Core.Path.{◌≡◌, refl, sym}
-use Prim.Native.Nat.{◌+◌, ◌*◌, ◌-◌, ◌≤◌}
 use native.Mathlib.Omega.{arith}
-use lib.ListN.{length}
-use Rattle.seqs.specs.Over.{over}
 use Rattle.seqs.proofs.Overwrites.{over_nil, length_over}
-use Rattle.pool.specs.steps.Pool.{pool_start, pool_bytes, most_pooled}
+use Rattle.pool.specs.steps.Pool.{pool_start, pool_bytes}
 use Rattle.pool.proofs.Pool.{Turn, pad_small, start_turn, within_turn, emit_turn}
 use Rattle.pool.proofs.emit.Goals as goal
 

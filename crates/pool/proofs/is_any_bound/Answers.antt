@@ -1,7 +1,5 @@
 -- `is_any_bound` meets its contract: none of the labels passed is bound.
 use mathlib.Core.Path.{◌≡◌, refl, sym}
-use mathlib.Core.Bool.{false}
-use Prim.Native.Nat.{◌-◌, ◌≤◌}
 use native.Mathlib.Omega.{arith}
 use borrow.Author.Tests.{eq-eqb, ne_eqb}
 use Rattle.pool.specs.steps.Pool.{is_any_bound}

@@ -1,8 +1,7 @@
 -- `pool_end` meets its contract: after j turns, `at` is where constant j's alignment starts.
 use mathlib.Core.Path.{◌≡◌, refl}
-use Prim.Native.Nat.{◌+◌, ◌*◌, ◌-◌, ◌≤◌}
 use native.Mathlib.Omega.{arith}
-use Rattle.pool.specs.steps.Pool.{pool_start, most_pooled}
+use Rattle.pool.specs.steps.Pool.{pool_start}
 use Rattle.pool.proofs.Pool.{Turn, pad_small, start_turn}
 use Rattle.pool.proofs.pool_end.Goals as goal
 

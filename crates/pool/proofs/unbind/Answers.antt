@@ -1,8 +1,6 @@
 -- `unbind` meets its contract: after j turns the labels of the first j constants are unbound.
 use mathlib.Core.Path.{◌≡◌, refl, ◌∙◌}
-use Prim.Native.Nat.{◌-◌, ◌≤◌}
 use native.Mathlib.Omega.{arith}
-use lib.ListN.{length}
 use Rattle.words.proofs.Laws.{length_set_word}
 use Rattle.pool.specs.steps.Pool.{pool_unbound}
 use Rattle.pool.proofs.Pool.{unbound_turn}

@@ -1,11 +1,8 @@
 -- `unbind` meets its contract: after j turns the labels of the first j constants are unbound.
-use mathlib.Core.Path.{◌≡◌, refl, ◌∙◌}
+use mathlib.Core.Path.{◌≡◌}
 use Prim.Native.Nat.{◌-◌, ◌≤◌}
-use native.Mathlib.Omega.{arith}
 use lib.ListN.{length}
-use Rattle.words.proofs.Laws.{length_set_word}
 use Rattle.pool.specs.steps.Pool.{pool_unbound}
-use Rattle.pool.proofs.Pool.{unbound_turn}
 use Rattle.pool.proofs.unbind.Given as goal
 
 abbrev pub invariant-loop-j : goal.invariant-loop-j

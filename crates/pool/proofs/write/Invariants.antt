@@ -1,10 +1,8 @@
 -- `write` meets its contract: after j turns the bytes of the first j constants are written.
-use mathlib.Core.Path.{◌≡◌, refl}
+use mathlib.Core.Path.{◌≡◌}
 use Prim.Native.Nat.{◌-◌, ◌≤◌}
-use native.Mathlib.Omega.{arith}
 use lib.ListN.{length}
 use Rattle.pool.specs.steps.Pool.{pool_written}
-use Rattle.pool.proofs.Pool.{Writing, from_turn, room_turn, written_turn, length_pool_written}
 use Rattle.pool.proofs.write.Given as goal
 
 abbrev pub invariant-loop-j : goal.invariant-loop-j

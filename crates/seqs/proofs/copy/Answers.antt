@@ -1,9 +1,7 @@
 -- `copy` meets its contract: after i turns, `dst` is overwritten by the first i bytes of `src`.
-use mathlib.Core.Path.{◌≡◌, refl, sym, ◌∙◌}
-use Prim.Native.Nat.{◌≤◌, ◌-◌, min}
+use mathlib.Core.Path.{refl, sym, ◌∙◌}
 use native.Mathlib.Omega.{arith}
-use lib.ListN.{length, take, length-set}
-use Rattle.seqs.specs.Over.{over}
+use lib.ListN.{length-set}
 use Rattle.seqs.proofs.Overwrites.{over_nil, over_copy, over_take}
 use Rattle.seqs.proofs.copy.Goals as goal
 

@@ -1,10 +1,8 @@
 -- `copy` meets its contract: after i turns, `dst` is overwritten by the first i bytes of `src`.
-use mathlib.Core.Path.{◌≡◌, refl, sym, ◌∙◌}
+use mathlib.Core.Path.{◌≡◌}
 use Prim.Native.Nat.{◌≤◌, ◌-◌, min}
-use native.Mathlib.Omega.{arith}
-use lib.ListN.{length, take, length-set}
+use lib.ListN.{length, take}
 use Rattle.seqs.specs.Over.{over}
-use Rattle.seqs.proofs.Overwrites.{over_nil, over_copy, over_take}
 use Rattle.seqs.proofs.copy.Given as goal
 
 abbrev pub invariant-loop-i : goal.invariant-loop-i

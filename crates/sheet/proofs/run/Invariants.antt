@@ -1,14 +1,9 @@
 -- `run` meets its contract: what is left of the calls, on the recording that is meant, gives what the whole gives, and what is kept of the labels is right.
-use mathlib.Core.Path.{◌≡◌, refl, ap, ◌∙◌}
-use Prim.Native.Nat.{◌+◌, ◌*◌, ◌-◌, ◌≤◌, ◌<◌}
-use native.Mathlib.Omega.{arith}
-use lib.ListN.{length, get_or, take, drop}
+use mathlib.Core.Path.{◌≡◌}
+use Prim.Native.Nat.{◌*◌, ◌-◌, ◌≤◌, ◌<◌}
+use lib.ListN.{length, drop}
 use Rattle.checks.specs.Lent.{recording_of}
-use Rattle.sheet.specs.Run.{call_of, calls_of, run_calls}
-use Rattle.sheet_form.proofs.Forming.{argument_part, argument_length}
-use Rattle.sheet.proofs.Following.{call_follows}
-use Rattle.sheet.proofs.Counting.{call_meant, meant_on, going_fits, going_on, gone_labels, gone_code}
-use Rattle.sheet.proofs.Running.{run_again, run_refused, run_end}
+use Rattle.sheet.specs.Run.{calls_of, run_calls}
 use Rattle.sheet_form.specs.Form.{argument_size}
 use Rattle.sheet_form.specs.steps.Bound.{Known}
 use Rattle.sheet.specs.steps.Meant.{meant, Going}

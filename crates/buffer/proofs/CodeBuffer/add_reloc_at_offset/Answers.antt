@@ -1,9 +1,6 @@
 -- `add_reloc_at_offset` meets its contract: where it is not turned down, the table has room for the entry.
-use mathlib.Core.Path.{sym, ap, ◌∙◌}
-use mathlib.Core.List.{List}
-use Prim.Native.Nat.{ℕ}
+use mathlib.Core.Path.{sym, ◌∙◌}
 use native.Mathlib.Nat.{add-zero}
-use lib.ListN.{length}
 use Rattle.seqs.proofs.Numbers.{lt_or_ge}
 use Rattle.buffer.specs.State.{refusing}
 use mathlib.Core.Logic.{⊎_elim}

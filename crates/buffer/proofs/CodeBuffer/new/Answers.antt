@@ -4,7 +4,6 @@ use Rattle.buffer.specs.Calls.{started}
 use Rattle.buffer.specs.Refusals.{why_start}
 use Rattle.seqs.proofs.Picking.{yes_not, no_not, yes_eq, no_eq}
 use mathlib.Core.Path.{sym, ◌∙◌}
-use borrow.Author.Tests.{not-true, not-false}
 use Rattle.buffer.proofs.CodeBuffer.new.Goals as goal
 
 pub returns-then-not-arch_occurs : goal.returns-then-not-arch_occurs

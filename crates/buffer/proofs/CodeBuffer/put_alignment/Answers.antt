@@ -1,7 +1,6 @@
 -- `put_alignment` meets its contract: on X64 the event is written after the last, elsewhere nothing is.
 use mathlib.Core.Path.{refl, sym, ◌∙◌}
 use native.Mathlib.Omega.{arith}
-use borrow.Author.Tests.{not-true, not-false}
 use Rattle.seqs.proofs.Picking.{pick_yes, pick_no}
 use Rattle.buffer.specs.Calls.{aligned_events}
 use Rattle.buffer.proofs.CodeBuffer.put_alignment.Goals as goal

@@ -1,14 +1,12 @@
 -- `record_label_ref` meets its contract: where a recording that keeps refs is not turned down, the table has room for the entry.
-use mathlib.Core.Path.{◌≡◌, sym, ap, ◌∙◌}
+use mathlib.Core.Path.{◌≡◌, sym, ◌∙◌}
 use mathlib.Core.Logic.{◌≢◌, ⊎_elim}
 use mathlib.Core.Bool.{Bool, true, false, ◌&&◌}
-use mathlib.Core.List.{List}
 use Prim.Native.Nat.{ℕ}
 use native.Mathlib.Nat.{add-zero}
 use native.Mathlib.Omega.{arith}
 use borrow.Author.Tests.{eqb-true, eq-eqb}
 use lib.Dec.{eqb}
-use lib.ListN.{length}
 use Rattle.seqs.proofs.Booleans.{both_true}
 use Rattle.seqs.proofs.Numbers.{lt_or_ge, eq_or_ne}
 use Rattle.seqs.proofs.Picking.{pick_yes, pick_no, yes_eq, no_eq, yes_lt, no_lt}

@@ -1,7 +1,6 @@
 use Rattle.buffer.specs.Refusals.{standing}
 use Rattle.seqs.proofs.Picking.{yes_not, no_not, yes_ne, no_ne}
 use mathlib.Core.Path.{sym, ◌∙◌}
-use borrow.Author.Tests.{not-true, not-false}
 use Rattle.buffer.proofs.CodeBuffer.standing.Goals as goal
 
 pub returns-then-not-is_sound : goal.returns-then-not-is_sound

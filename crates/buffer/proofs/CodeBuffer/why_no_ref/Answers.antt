@@ -1,7 +1,6 @@
 -- `why_no_ref` meets its contract: each return is where the chain of tests ends.
 use mathlib.Core.Path.{◌≡◌}
 use mathlib.Core.Bool.{true, false, ◌&&◌}
-use borrow.Author.Tests.{not-true, not-false}
 use lib.Dec.{leb}
 use Rattle.seqs.proofs.Picking.{picks}
 use Rattle.fields.specs.Kinds.{last_code}

@@ -1,9 +1,7 @@
 -- `clear` meets its contract: after i turns, the part is overwritten by i zeros.
 use mathlib.Core.Path.{◌≡◌, refl, sym}
-use Prim.Native.Nat.{◌≤◌, ◌-◌}
 use native.Mathlib.Omega.{arith}
-use lib.ListN.{length, replicate, length-set, length-replicate}
-use Rattle.seqs.specs.Over.{over}
+use lib.ListN.{length, length-set, length-replicate}
 use Rattle.seqs.proofs.Overwrites.{over_nil, over_all}
 use Rattle.buffer.proofs.Appends.{over_zeros}
 use Rattle.buffer.proofs.bytes.clear.Goals as goal

@@ -1,11 +1,8 @@
 -- `clear` meets its contract: after i turns, the part is overwritten by i zeros.
-use mathlib.Core.Path.{◌≡◌, refl, sym}
+use mathlib.Core.Path.{◌≡◌}
 use Prim.Native.Nat.{◌≤◌, ◌-◌}
-use native.Mathlib.Omega.{arith}
-use lib.ListN.{length, replicate, length-set, length-replicate}
+use lib.ListN.{length, replicate}
 use Rattle.seqs.specs.Over.{over}
-use Rattle.seqs.proofs.Overwrites.{over_nil, over_all}
-use Rattle.buffer.proofs.Appends.{over_zeros}
 use Rattle.buffer.proofs.bytes.clear.Given as goal
 
 abbrev pub invariant-loop-i : goal.invariant-loop-i

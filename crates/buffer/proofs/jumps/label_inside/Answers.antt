@@ -1,6 +1,5 @@
 -- `label_inside` meets its contract: what was found among the labels passed.
 use mathlib.Core.Path.{◌≡◌, refl, ◌∙◌}
-use Prim.Native.Nat.{◌-◌, ◌≤◌}
 use native.Mathlib.Omega.{arith}
 use Rattle.buffer.specs.Refusals.{label_inside}
 use Rattle.buffer.proofs.Scan.{scan_step}

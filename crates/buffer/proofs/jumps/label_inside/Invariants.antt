@@ -1,9 +1,7 @@
 -- `label_inside` meets its contract: what was found among the labels passed.
-use mathlib.Core.Path.{◌≡◌, refl, ◌∙◌}
+use mathlib.Core.Path.{◌≡◌}
 use Prim.Native.Nat.{◌-◌, ◌≤◌}
-use native.Mathlib.Omega.{arith}
 use Rattle.buffer.specs.Refusals.{label_inside}
-use Rattle.buffer.proofs.Scan.{scan_step}
 use Rattle.buffer.proofs.jumps.label_inside.Given as goal
 
 abbrev pub invariant-loop-i : goal.invariant-loop-i

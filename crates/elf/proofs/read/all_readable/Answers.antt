@@ -1,7 +1,6 @@
 -- `all_readable` meets its contract: all the entries passed are readable.
-use Rattle.std.proofs.Common.{◌-◌, arith, rules}
-use Rattle.seqs.proofs.Scans.{AllPassed, scans}
-use Rattle.elf.specs.Elf.{readable}
+use Rattle.std.proofs.Common.{arith}
+use Rattle.seqs.proofs.Scans.{scans}
 use Rattle.elf.proofs.read.all_readable.Goals as goal
 
 pub loop-i-init : goal.loop-i-init

@@ -1,6 +1,6 @@
 -- `all_readable` meets its contract: all the entries passed are readable.
-use Rattle.std.proofs.Common.{◌-◌, arith, rules}
-use Rattle.seqs.proofs.Scans.{AllPassed, scans}
+use Rattle.std.proofs.Common.{◌-◌}
+use Rattle.seqs.proofs.Scans.{AllPassed}
 use Rattle.elf.specs.Elf.{readable}
 use Rattle.elf.proofs.read.all_readable.Given as goal
 

@@ -1,5 +1,5 @@
 -- `is_readable` meets its contract.
-use Rattle.std.proofs.Common.{◌+◌, ◌*◌, sym, ◌∙◌, rules, eq-eqb, ne_eqb}
+use Rattle.std.proofs.Common.{◌+◌, ◌*◌, sym, ◌∙◌, eq-eqb, ne_eqb}
 use Rattle.words.specs.Words.{word_at}
 use Rattle.elf.specs.Elf.{rela_words, readable}
 use Rattle.elf.proofs.read.is_readable.Goals as goal

@@ -1,7 +1,7 @@
 -- `put_entries` meets its contract: after i turns the first i entries stand in the table.
-use Rattle.std.proofs.Common.{◌≡◌, ℕ, ◌-◌, ◌≤◌, length, sym, refl, ap, ◌∙◌, arith, rules}
+use Rattle.std.proofs.Common.{◌≡◌, ℕ, length, sym, refl, ap, ◌∙◌, arith}
 use Rattle.seqs.proofs.Overwrites.{length_over, over_nil}
-use Rattle.words.specs.Words.{bytes_of_all, over_words}
+use Rattle.words.specs.Words.{bytes_of_all}
 use Rattle.elf.specs.Elf.{rela_at, words_of_entry, words_of_entries}
 use Rattle.elf.proofs.Entries.{put_one, six_over}
 use Rattle.elf.proofs.read.put_entries.Goals as goal

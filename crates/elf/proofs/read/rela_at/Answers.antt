@@ -1,5 +1,4 @@
 -- `rela_at` meets its contract.
-use Rattle.std.proofs.Common.{rules}
 use Rattle.elf.proofs.read.rela_at.Goals as goal
 
 pub returns : goal.returns

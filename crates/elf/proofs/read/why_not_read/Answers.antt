@@ -1,6 +1,5 @@
 -- `why_not_read` meets its contract, test by test.
-use Rattle.std.proofs.Common.{sym, ◌∙◌, rules}
-use borrow.Author.Tests.{not-true, not-false}
+use Rattle.std.proofs.Common.{sym, ◌∙◌}
 use Rattle.seqs.proofs.Picking.{yes_lt, no_lt, yes_not, no_not}
 use Rattle.elf.specs.Elf.{why_not_read}
 use Rattle.elf.proofs.read.why_not_read.Goals as goal

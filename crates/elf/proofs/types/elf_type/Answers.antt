@@ -1,5 +1,5 @@
 -- `elf_type` meets its contract, architecture by architecture.
-use Rattle.std.proofs.Common.{sym, ◌∙◌, rules}
+use Rattle.std.proofs.Common.{sym, ◌∙◌}
 use Rattle.seqs.proofs.Picking.{yes_eq, no_eq}
 use Rattle.elf.specs.Elf.{elf_type_of}
 use Rattle.elf.proofs.types.elf_type.Goals as goal

@@ -1,8 +1,8 @@
 -- `is_listed` meets its contract: the patterns are the types of the two tables.
-use Rattle.std.proofs.Common.{◌≢◌, refl, inl, inr, ⊎_elim, arith}
+use Rattle.std.proofs.Common.{refl, ⊎_elim, arith}
 use Rattle.seqs.specs.Every.{every}
 use Rattle.elf.specs.Elf.{type_listed}
-use Rattle.elf.proofs.Listed.{listed, one_of_two, Differs, unlisted}
+use Rattle.elf.proofs.Listed.{listed, one_of_two, unlisted}
 use Rattle.elf.proofs.types.is_listed.Goals as goal
 
 pub returns-in_default : goal.returns-in_default

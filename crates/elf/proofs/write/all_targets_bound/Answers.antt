@@ -1,7 +1,6 @@
 -- `all_targets_bound` meets its contract: all the targets passed are bound.
-use Rattle.std.proofs.Common.{ℕ, ◌-◌, ap, ◌∙◌, arith, rules}
-use Rattle.seqs.proofs.Scans.{AllPassed, pass_none, pass_one, pass_fails, pass_all}
-use Rattle.recording.specs.View.{reloc_at}
+use Rattle.std.proofs.Common.{ap, ◌∙◌, arith}
+use Rattle.seqs.proofs.Scans.{pass_none, pass_one, pass_fails, pass_all}
 use Rattle.elf.specs.Elf.{target_bound, all_targets_bound}
 use Rattle.elf.proofs.write.all_targets_bound.Goals as goal
 

@@ -1,8 +1,8 @@
 -- `all_targets_bound` meets its contract: all the targets passed are bound.
-use Rattle.std.proofs.Common.{ℕ, ◌-◌, ap, ◌∙◌, arith, rules}
-use Rattle.seqs.proofs.Scans.{AllPassed, pass_none, pass_one, pass_fails, pass_all}
+use Rattle.std.proofs.Common.{ℕ, ◌-◌}
+use Rattle.seqs.proofs.Scans.{AllPassed}
 use Rattle.recording.specs.View.{reloc_at}
-use Rattle.elf.specs.Elf.{target_bound, all_targets_bound}
+use Rattle.elf.specs.Elf.{target_bound}
 use Rattle.elf.proofs.write.all_targets_bound.Given as goal
 
 abbrev pub invariant-loop-i : goal.invariant-loop-i

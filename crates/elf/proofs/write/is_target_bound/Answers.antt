@@ -1,5 +1,5 @@
 -- `is_target_bound` meets its contract: a symbol, an unknown label, a known one.
-use Rattle.std.proofs.Common.{rules, le-ltb, lt-ltb}
+use Rattle.std.proofs.Common.{le-ltb, lt-ltb}
 use Rattle.buffer.specs.State.{label_target}
 use Rattle.elf.proofs.write.is_target_bound.Goals as goal
 

@@ -1,5 +1,5 @@
 -- `leaves_signed` meets its contract.
-use Rattle.std.proofs.Common.{rules, le-ltb, lt-ltb}
+use Rattle.std.proofs.Common.{le-ltb, lt-ltb}
 use Rattle.elf.specs.Elf.{first_negative}
 use Rattle.elf.proofs.write.leaves_signed.Goals as goal
 

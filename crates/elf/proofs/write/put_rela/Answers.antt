@@ -1,6 +1,5 @@
 -- `put_rela` meets its contract: six words, one after another.
 use Rattle.elf.proofs.Entries.{six_over}
-use Rattle.std.proofs.Common.{rules}
 use Rattle.elf.proofs.write.put_rela.Goals as goal
 
 pub returns : goal.returns

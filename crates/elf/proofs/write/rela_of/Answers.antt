@@ -1,5 +1,5 @@
 -- `rela_of` meets its contract.
-use Rattle.std.proofs.Common.{arith, rules}
+use Rattle.std.proofs.Common.{arith}
 use Rattle.elf.specs.Elf.{rela_of}
 use Rattle.elf.proofs.write.rela_of.Goals as goal
 

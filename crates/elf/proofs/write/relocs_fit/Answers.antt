@@ -1,5 +1,5 @@
 -- `relocs_fit` meets its contract: each count is looked at before the entries are.
-use Rattle.std.proofs.Common.{arith, rules, le-leb}
+use Rattle.std.proofs.Common.{arith, le-leb}
 use borrow.Author.Tests.{lt-leb}
 use Rattle.elf.specs.Elf.{relocs_fit}
 use Rattle.elf.proofs.write.relocs_fit.Goals as goal

@@ -1,5 +1,5 @@
 -- `target_offset` meets its contract.
-use Rattle.std.proofs.Common.{sym, ◌∙◌, arith, rules}
+use Rattle.std.proofs.Common.{sym, ◌∙◌, arith}
 use Rattle.seqs.proofs.Picking.{yes_lt, no_lt}
 use Rattle.buffer.specs.State.{label_target}
 use Rattle.elf.proofs.write.target_offset.Goals as goal

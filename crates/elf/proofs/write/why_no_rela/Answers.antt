@@ -1,5 +1,5 @@
 -- `why_no_rela` meets its contract: no type, a sum that leaves signed 64 bits, neither.
-use Rattle.std.proofs.Common.{sym, ◌∙◌, rules}
+use Rattle.std.proofs.Common.{sym, ◌∙◌}
 use Rattle.seqs.proofs.Picking.{yes_eq, no_eq, pick_yes, pick_no}
 use Rattle.elf.specs.Elf.{why_no_rela}
 use Rattle.elf.proofs.write.why_no_rela.Goals as goal

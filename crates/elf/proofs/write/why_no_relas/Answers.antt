@@ -1,8 +1,7 @@
 -- `why_no_relas` meets its contract: none of the entries passed is refused.
-use Rattle.std.proofs.Common.{ℕ, ◌-◌, arith, rules}
-use Rattle.seqs.proofs.Scans.{NoneRefused, refusing}
-use Rattle.recording.specs.View.{reloc_at}
-use Rattle.elf.specs.Elf.{why_no_rela, why_no_relas}
+use Rattle.std.proofs.Common.{arith, rules}
+use Rattle.seqs.proofs.Scans.{refusing}
+use Rattle.elf.specs.Elf.{why_no_relas}
 use Rattle.elf.proofs.write.why_no_relas.Goals as goal
 
 pub loop-i-init : goal.loop-i-init

@@ -1,5 +1,5 @@
 -- `why_not_written` meets its contract: what is unfit, then entry by entry, then the output.
-use Rattle.std.proofs.Common.{sym, ◌∙◌, rules}
+use Rattle.std.proofs.Common.{sym, ◌∙◌}
 use Rattle.seqs.proofs.Picking.{yes_eq, no_eq, yes_lt, no_lt}
 use Rattle.elf.specs.Elf.{why_not_written}
 use Rattle.elf.proofs.Answers.{unfit_passed}

@@ -1,6 +1,5 @@
 -- `why_unfit` meets its contract, test by test.
-use Rattle.std.proofs.Common.{sym, ◌∙◌, rules}
-use borrow.Author.Tests.{not-true, not-false}
+use Rattle.std.proofs.Common.{sym, ◌∙◌}
 use Rattle.seqs.proofs.Picking.{yes_not, no_not}
 use Rattle.elf.specs.Elf.{why_unfit}
 use Rattle.elf.proofs.write.why_unfit.Goals as goal

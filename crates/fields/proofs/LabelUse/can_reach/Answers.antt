@@ -1,7 +1,7 @@
 -- `can_reach` meets its contract: pages are compared for the paged kinds, the distance for the others.
 use Rattle.fields.specs.declared.FieldInfo.{FieldInfo}
 use Rattle.fields.specs.Reach.{can_reach}
-use Rattle.std.proofs.Common.{sym, ap, ◌∙◌, rules}
+use Rattle.std.proofs.Common.{sym, ap, ◌∙◌}
 use Rattle.fields.proofs.LabelUse.can_reach.Goals as goal
 
 pub returns-then-info : goal.returns-then-info

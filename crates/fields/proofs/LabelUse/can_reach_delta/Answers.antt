@@ -1,9 +1,8 @@
 -- `can_reach_delta` meets its contract: a distance that is no multiple is refused before its range is looked at.
-use borrow.Author.Tests.{not-true, not-false}
 use Rattle.fields.proofs.Signed.{limits_fit}
 use Rattle.fields.specs.declared.FieldInfo.{FieldInfo}
 use Rattle.fields.specs.Reach.{multiple, can_reach_delta}
-use Rattle.std.proofs.Common.{sym, ap, ◌∙◌, rules}
+use Rattle.std.proofs.Common.{sym, ap, ◌∙◌}
 use Rattle.fields.proofs.LabelUse.can_reach_delta.Goals as goal
 
 pub returns-then-not-is_multiple : goal.returns-then-not-is_multiple

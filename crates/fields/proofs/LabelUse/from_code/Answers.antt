@@ -1,7 +1,7 @@
 -- `from_code` meets its contract: the tests are the rows of the definition.
 use Rattle.fields.specs.declared.Decoded.TheVariants.{Unknown}
 use Rattle.fields.specs.Kinds.{codes, decoded}
-use Rattle.std.proofs.Common.{◌≡◌, ℕ, ◌≤◌, get_or, sym, refl, ap, arith, rules}
+use Rattle.std.proofs.Common.{ℕ, ◌≤◌, get_or, sym, ap, arith}
 use lib.ListN.{get_or-eq_default}
 use Rattle.fields.proofs.LabelUse.from_code.Goals as goal
 

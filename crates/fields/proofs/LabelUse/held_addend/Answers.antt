@@ -2,7 +2,7 @@
 use Rattle.fields.proofs.Patching.{code_0_has_four}
 use Rattle.fields.specs.Patch.{held_addend}
 use Rattle.fields.specs.Kinds.{code_of}
-use Rattle.std.proofs.Common.{sym, ◌∙◌, arith, rules, eq-eqb, ne_eqb}
+use Rattle.std.proofs.Common.{sym, ◌∙◌, arith, eq-eqb, ne_eqb}
 use Rattle.fields.proofs.LabelUse.held_addend.Goals as goal
 
 pub returns-then-code-ne0 : goal.returns-then-code-ne0

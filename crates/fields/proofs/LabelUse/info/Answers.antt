@@ -1,5 +1,4 @@
 -- `info` meets its contract, kind by kind.
-use Rattle.std.proofs.Common.{rules}
 use Rattle.fields.proofs.LabelUse.info.Goals as goal
 
 pub returns-in-X86JmpRel32 : goal.returns-in-X86JmpRel32

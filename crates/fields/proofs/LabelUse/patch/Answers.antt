@@ -2,7 +2,7 @@
 use Rattle.fields.proofs.Patching.{patched_other}
 use Rattle.fields.specs.Patch.{held_addend}
 use Rattle.fields.specs.Words64.{plus}
-use Rattle.std.proofs.Common.{sym, ◌∙◌, rules}
+use Rattle.std.proofs.Common.{sym, ◌∙◌}
 use Rattle.fields.proofs.LabelUse.patch.Goals as goal
 
 pub returns-then-field-patch_size : goal.returns-then-field-patch_size

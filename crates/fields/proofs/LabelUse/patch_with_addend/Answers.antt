@@ -1,7 +1,7 @@
 -- `patch_with_addend` meets its contract: bytes that are no field, a field of one byte, a field of four.
 use Rattle.fields.proofs.Patching.{four_unless_one, patched_other, patched_byte, patched_four}
 use Rattle.fields.specs.Words64.{plus}
-use Rattle.std.proofs.Common.{sym, ◌∙◌, arith, rules}
+use Rattle.std.proofs.Common.{sym, ◌∙◌, arith}
 use Rattle.fields.proofs.LabelUse.patch_with_addend.Goals as goal
 
 pub returns-then-field-size : goal.returns-then-field-size

@@ -1,5 +1,4 @@
 -- `patched_word` meets its contract, kind by kind.
-use Rattle.std.proofs.Common.{rules}
 use Rattle.fields.proofs.LabelUse.patched_word.Goals as goal
 
 pub returns-in-X86JmpRel32 : goal.returns-in-X86JmpRel32

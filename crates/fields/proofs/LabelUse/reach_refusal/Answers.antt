@@ -1,7 +1,7 @@
 -- `reach_refusal` meets its contract: each return is one of the definition's tests.
 use Rattle.fields.specs.declared.FieldInfo.{FieldInfo}
 use Rattle.fields.specs.Reach.{reach_refusal}
-use Rattle.std.proofs.Common.{sym, ap, ◌∙◌, rules, le-ltb, lt-ltb}
+use Rattle.std.proofs.Common.{sym, ap, ◌∙◌, le-ltb, lt-ltb}
 use Rattle.fields.proofs.LabelUse.reach_refusal.Goals as goal
 
 pub returns-then-can_reach : goal.returns-then-can_reach

@@ -1,7 +1,7 @@
 -- `start` meets its contract: each return is one case of proofs/WithOrWithoutJump.
 use mathlib.Core.Path.{sym}
 use native.Mathlib.Omega.{arith}
-use borrow.Author.Tests.{not-true, not-false, eqb-true, eqb-false}
+use borrow.Author.Tests.{eqb-true, eqb-false}
 use Rattle.seqs.proofs.Booleans.{true_is_not_false}
 use Rattle.finish.proofs.RelaxedRequires.{clearing}
 use Rattle.finish.proofs.WithOrWithoutJump.{keepable, placed_unbound, started_refused, starts, placed_kept}

@@ -1,6 +1,5 @@
 -- `why_not_laid` meets its contract.
 use mathlib.Core.Path.{sym, ◌∙◌}
-use borrow.Author.Tests.{not-true, not-false}
 use Rattle.refusals.specs.Numbers as refusals
 use Rattle.seqs.proofs.Picking.{yes_not, no_not, yes_lt, no_lt}
 use Rattle.finish.proofs.pooled.why_not_laid.Goals as goal

@@ -1,6 +1,5 @@
 -- `greatest_of` meets its contract: the greatest offset among the labels passed.
 use mathlib.Core.Path.{◌≡◌, refl, ◌∙◌}
-use Prim.Native.Nat.{◌-◌, ◌≤◌}
 use native.Mathlib.Omega.{arith}
 use Rattle.buffer.specs.State.{none}
 use Rattle.buffer.specs.steps.Below.{greatest_below}

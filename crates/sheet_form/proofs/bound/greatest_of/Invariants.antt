@@ -1,10 +1,8 @@
 -- `greatest_of` meets its contract: the greatest offset among the labels passed.
-use mathlib.Core.Path.{◌≡◌, refl, ◌∙◌}
+use mathlib.Core.Path.{◌≡◌}
 use Prim.Native.Nat.{◌-◌, ◌≤◌}
-use native.Mathlib.Omega.{arith}
 use Rattle.buffer.specs.State.{none}
 use Rattle.buffer.specs.steps.Below.{greatest_below}
-use Rattle.buffer.proofs.Below.{below_step}
 use Rattle.sheet_form.proofs.bound.greatest_of.Given as goal
 
 abbrev pub invariant-loop-i : goal.invariant-loop-i

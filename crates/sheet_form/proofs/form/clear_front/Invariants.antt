@@ -1,13 +1,10 @@
 -- `clear_front` meets its contract: the bytes of all words passed are 0.
-use mathlib.Core.Path.{◌≡◌, sym, ◌∙◌}
+use mathlib.Core.Path.{◌≡◌}
 use mathlib.Core.Bool.{true}
 use Prim.Native.Nat.{ℕ, ◌-◌, ◌≤◌}
-use native.Mathlib.Omega.{arith}
 use lib.Dec.{eqb}
 use lib.ListN.{length, get_or}
 use Rattle.seqs.specs.Every.{all}
-use Rattle.seqs.proofs.Every.{all_none}
-use Rattle.sheet_form.proofs.Forming.{word_clear}
 use Rattle.sheet_form.proofs.form.clear_front.Given as goal
 
 abbrev pub invariant-loop-i : goal.invariant-loop-i

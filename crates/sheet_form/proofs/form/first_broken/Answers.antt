@@ -1,10 +1,6 @@
 -- `first_broken` meets its contract: what is left decides.
-use mathlib.Core.Path.{◌≡◌, sym, ◌∙◌}
-use borrow.Author.Tests.{not-true, not-false}
-use Prim.Native.Nat.{◌+◌, ◌*◌, ◌-◌, ◌≤◌}
+use mathlib.Core.Path.{sym, ◌∙◌}
 use native.Mathlib.Omega.{arith}
-use lib.ListN.{length, drop}
-use Rattle.sheet_form.specs.Form.{first_broken, argument_size}
 use Rattle.sheet_form.proofs.Forming.{argument_part, broken_step, broken_here, broken_end}
 use Rattle.sheet_form.proofs.form.first_broken.Goals as goal
 

@@ -1,13 +1,12 @@
 -- `is_clear` meets its contract: all the bytes passed are 0.
 use mathlib.Core.Path.{refl, ap}
 use mathlib.Core.Bool.{not}
-use Prim.Native.Nat.{ℕ, ◌-◌}
+use Prim.Native.Nat.{ℕ}
 use native.Mathlib.Omega.{arith}
 use lib.Dec.{eqb}
-use lib.ListN.{length, get_or}
 use borrow.Author.Tests.{eq-eqb, ne_eqb}
 use Rattle.seqs.proofs.Every.{every_all}
-use Rattle.seqs.proofs.Scans.{AllPassed, pass_one, pass_fails, pass_all}
+use Rattle.seqs.proofs.Scans.{pass_one, pass_fails, pass_all}
 use Rattle.sheet_form.proofs.form.is_clear.Goals as goal
 
 pub loop-i-init : goal.loop-i-init

@@ -1,6 +1,5 @@
 -- `is_formed` meets its contract.
 use mathlib.Core.Path.{sym, ◌∙◌}
-use borrow.Author.Tests.{not-true, not-false}
 use native.Mathlib.Omega.{arith}
 use Rattle.sheet_form.proofs.Forming.{used_fits, used_sum, kind_low, kind_high, out_of_range, formed_clear}
 use Rattle.sheet_form.proofs.form.is_formed.Goals as goal
