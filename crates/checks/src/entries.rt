@@ -154,9 +154,9 @@ fn labels_fit_by(
     each_label_fits(labels, n, events, m, code, index, shift)
 }
 
-// With a large index, which is to stay out of the stack frame of those who have few labels. LLVM never takes a function that calls itself into its caller, and
-// the language has no other way to ask for that. So this one calls itself, in an arm that is never reached: `again` is a slice's length by 2^63, which is 0,
-// and which the compiler can't know. What the arm makes of the answer keeps the call from becoming a loop.
+// With a large index, which is to stay out of the stack frame of those who have few labels: the attribute sees to that. Where it is dropped, a function that
+// calls itself is not taken into its caller either. So this one does, in an arm that is never reached: `again` is a slice's length by 2^63, which is 0. What
+// the arm makes of the answer keeps the call from becoming a loop.
 #[inline(never)]
 fn many_labels_fit(
     labels: &[u8],

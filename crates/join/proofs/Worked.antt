@@ -63,7 +63,7 @@ record Case : Type 0 where
   relocs : List ℕ
   definitions : List ℕ
   output : ℕ
-  joined_labels_lem : ℕ
+  joined_labels : ℕ
   joined_relocs : ℕ
 
 abbrev whole_of : ℕ → ℕ → ℕ → ℕ → ℕ → CodeBufferFinalized
@@ -72,14 +72,14 @@ whole_of arch len alignment labels relocs = record { arch = arch; len = len; ali
 abbrev refused_with : ℕ → Case → Joined × Left
 refused_with why c = (
   record { refusal = why; code = record { arch = 0; len = 0; alignment = 0; layouts = 0; labels = 0; relocs = 0 } },
-  (replicate c.output 170, (replicate c.joined_labels_lem 170, replicate c.joined_relocs 170)),
+  (replicate c.output 170, (replicate c.joined_labels 170, replicate c.joined_relocs 170)),
 )
 
 abbrev answered : CodeBufferFinalized → List ℕ → List ℕ → List ℕ → Joined × Left
 answered code output labels relocs = (record { refusal = 0; code = code }, (output, (labels, relocs)))
 
 abbrev case_of : List ℕ → List ℕ → List ℕ → List ℕ → List ℕ → ℕ → ℕ → ℕ → Case
-case_of pieces code labels relocs definitions output joined_labels_lem joined_relocs =
+case_of pieces code labels relocs definitions output joined_labels joined_relocs =
     record {
       pieces = bytes_of_all pieces;
       code = code;
@@ -87,7 +87,7 @@ case_of pieces code labels relocs definitions output joined_labels_lem joined_re
       relocs = bytes_of_all relocs;
       definitions = bytes_of_all definitions;
       output = output;
-      joined_labels_lem = joined_labels_lem;
+      joined_labels = joined_labels;
       joined_relocs = joined_relocs;
     }
 
@@ -169,7 +169,7 @@ abbrev answer : Case → Joined × Left
 answer c =
     join (record { pieces = c.pieces; code = c.code; labels = c.labels; relocs = c.relocs; definitions = c.definitions })
     (replicate c.output 170)
-    (replicate c.joined_labels_lem 170)
+    (replicate c.joined_labels 170)
     (replicate c.joined_relocs 170)
 
 cases_hold : map (λ (c : Case × (Joined × Left)). answer c.0) cases ≡ map (λ (c : Case × (Joined × Left)). c.1) cases

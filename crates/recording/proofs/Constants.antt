@@ -53,7 +53,7 @@ module _ (t u : List ℕ) (n size : ℕ) (a : Appended t u (n * constant_words) 
             (lt_or_ge c n);
       }
 
-module _ (t : List ℕ) (known labels c : ℕ) (is_Known : c < known) (room : known ≤ length t / constant_size) (limit : labels ≤ most_entries) (none_yet : label_of t c ≡ none) where
+module _ (t : List ℕ) (known labels c : ℕ) (is_known : c < known) (room : known ≤ length t / constant_size) (limit : labels ≤ most_entries) (none_yet : label_of t c ≡ none) where
   abbrev labelled : List ℕ
   labelled = set_word t (c * constant_words + 1) labels
 
@@ -110,7 +110,7 @@ module _ (t : List ℕ) (known labels c : ℕ) (is_Known : c < known) (room : kn
           listed =
               one_more count (λ i. (word_at listed_now i < known) × (label_of labelled (word_at listed_now i) ≢ none))
               (λ i l. rw (old_asked i l, earlier_label i l) (s.listed i l))
-              (rw (new_asked, its_label) (is_Known, λ e. omega arith));
+              (rw (new_asked, its_label) (is_known, λ e. omega arith));
           once =
               λ i j h l.
               ⊎_elim

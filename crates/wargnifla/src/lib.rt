@@ -1,4 +1,5 @@
-// The C functions, on numbers and byte slices, the table of segments alone a slice of structs: what a host in another language links.
+// The C functions, on numbers and byte slices, the table of segments alone a slice of structs. The crate wargnifla_c exports them: that is what a host in
+// another language links.
 // include/wargnifla.h declares them and says what each table and number means. A recording's counts cross the boundary as 52 lent bytes, thirteen words in
 // the order of `CodeBuffer`; what finish and join report as 24, six words in the order of `CodeBufferFinalized`. Fewer bytes than that answer 1, and of all that is
 // lent only a record of zeros is written; bytes past them are not touched.
