@@ -1,7 +1,8 @@
 -- `run_sheet` meets its contract: where the number of open entries that was handed in is right, it may be counted at the end.
 use mathlib.Core.Path.{◌≡◌, sym, ap, ◌∙◌}
 use mathlib.Core.Bool.{true}
-use Prim.Native.Nat.{◌+◌, ◌*◌, ◌≤◌}
+use mathlib.Core.List.{List}
+use Prim.Native.Nat.{◌+◌, ◌*◌, ◌≤◌, ℕ}
 use native.Mathlib.Omega.{arith}
 use lib.ListN.{length}
 use Rattle.words.specs.Words.{word_at}
@@ -16,6 +17,10 @@ use Rattle.sheet.proofs.Counting.{standing_fits, counted_meant, meant_first}
 use Rattle.sheet.proofs.Running.{sheet_cut, sheet_broken, sheet_not_standing, sheet_run, parts_run}
 use Rattle.sheet.proofs.run_sheet.Goals as goal
 
+-- what is known of a sheet that passed the first test, once its count is read
+long : (sheet : List ℕ) {n : ℕ} → is_whole sheet ≡ true → n ≡ word_at sheet 0 → length sheet ≡ 4 + 17 * n
+long sheet whole count = omega (arith, (whole_length sheet whole).1, count)
+
 pub returns-then-not-is_whole : goal.returns-then-not-is_whole
 returns-then-not-is_whole c =
     sheet_cut _ _ (sym c.is_whole.ensures ∙ c.if-not-is_whole.true)
@@ -26,45 +31,34 @@ word_at-n-requires c =
 
 pub slice_bounds-first_broken-end : goal.slice_bounds-first_broken-end
 slice_bounds-first_broken-end c =
-    let whole : is_whole c.args.sheet.now ≡ true = sym c.is_whole.ensures ∙ c.if-not-is_whole.false in
-    let long : length c.args.sheet.now ≡ 4 + 17 * c.word_at-n.result = omega (arith, (whole_length c.args.sheet.now whole).1, c.word_at-n.ensures) in
-    omega (arith, long)
+    omega (arith, long c.args.sheet.now (sym c.is_whole.ensures ∙ c.if-not-is_whole.false) c.word_at-n.ensures)
 
 pub slice_bounds-first_broken-count-2 : goal.slice_bounds-first_broken-count-2
 slice_bounds-first_broken-count-2 c =
-    let whole : is_whole c.args.sheet.now ≡ true = sym c.is_whole.ensures ∙ c.if-not-is_whole.false in
-    let long : length c.args.sheet.now ≡ 4 + 17 * c.word_at-n.result = omega (arith, (whole_length c.args.sheet.now whole).1, c.word_at-n.ensures) in
-    omega (arith, long)
+    omega (arith, long c.args.sheet.now (sym c.is_whole.ensures ∙ c.if-not-is_whole.false) c.word_at-n.ensures)
 
 pub slice_bounds-first_broken-start-2 : goal.slice_bounds-first_broken-start-2
 slice_bounds-first_broken-start-2 c =
-    let whole : is_whole c.args.sheet.now ≡ true = sym c.is_whole.ensures ∙ c.if-not-is_whole.false in
-    let long : length c.args.sheet.now ≡ 4 + 17 * c.word_at-n.result = omega (arith, (whole_length c.args.sheet.now whole).1, c.word_at-n.ensures) in
-    omega (arith, long)
+    omega (arith, long c.args.sheet.now (sym c.is_whole.ensures ∙ c.if-not-is_whole.false) c.word_at-n.ensures)
 
 pub first_broken-broken-requires : goal.first_broken-broken-requires
 first_broken-broken-requires c =
-    let whole : is_whole c.args.sheet.now ≡ true = sym c.is_whole.ensures ∙ c.if-not-is_whole.false in
-    parts_match _ whole _ c.word_at-n.ensures
+    parts_match _ (sym c.is_whole.ensures ∙ c.if-not-is_whole.false) _ c.word_at-n.ensures
 
 pub returns-then-broken-n : goal.returns-then-broken-n
 returns-then-broken-n c =
     let broken : c.first_broken-broken.result ≡ first_broken (kinds_of c.args.sheet.now) (arguments_of c.args.sheet.now) = rw (kinds_part c.args.sheet.now _ c.word_at-n.ensures, arguments_part c.args.sheet.now _ c.word_at-n.ensures) at c.first_broken-broken.ensures in
-    let whole : is_whole c.args.sheet.now ≡ true = sym c.is_whole.ensures ∙ c.if-not-is_whole.false in
-    sheet_broken _ _ whole _ broken (omega (arith, c.if-broken-n.true, c.word_at-n.ensures))
+    sheet_broken _ _ (sym c.is_whole.ensures ∙ c.if-not-is_whole.false) _ broken (omega (arith, c.if-broken-n.true, c.word_at-n.ensures))
 
 pub returns-then-why-ne0 : goal.returns-then-why-ne0
 returns-then-why-ne0 c =
     let broken : c.first_broken-broken.result ≡ first_broken (kinds_of c.args.sheet.now) (arguments_of c.args.sheet.now) = rw (kinds_part c.args.sheet.now _ c.word_at-n.ensures, arguments_part c.args.sheet.now _ c.word_at-n.ensures) at c.first_broken-broken.ensures in
     let unbroken : word_at c.args.sheet.now 0 ≤ c.first_broken-broken.result = omega (arith, c.if-broken-n.false, c.word_at-n.ensures) in
-    let whole : is_whole c.args.sheet.now ≡ true = sym c.is_whole.ensures ∙ c.if-not-is_whole.false in
-    sheet_not_standing _ _ whole _ broken unbroken _ c.why_not_standing-why.ensures c.if-why-ne0.true
+    sheet_not_standing _ _ (sym c.is_whole.ensures ∙ c.if-not-is_whole.false) _ broken unbroken _ c.why_not_standing-why.ensures c.if-why-ne0.true
 
 pub slice_bounds-is_counted_after-end : goal.slice_bounds-is_counted_after-end
 slice_bounds-is_counted_after-end c =
-    let whole : is_whole c.args.sheet.now ≡ true = sym c.is_whole.ensures ∙ c.if-not-is_whole.false in
-    let long : length c.args.sheet.now ≡ 4 + 17 * c.word_at-n.result = omega (arith, (whole_length c.args.sheet.now whole).1, c.word_at-n.ensures) in
-    omega (arith, long)
+    omega (arith, long c.args.sheet.now (sym c.is_whole.ensures ∙ c.if-not-is_whole.false) c.word_at-n.ensures)
 
 pub is_counted_after-kept-requires : goal.is_counted_after-kept-requires
 is_counted_after-kept-requires c =
@@ -76,38 +70,30 @@ is_counted_after-kept-requires c =
 
 pub slice_bounds-run-end : goal.slice_bounds-run-end
 slice_bounds-run-end c =
-    let whole : is_whole c.args.sheet.now ≡ true = sym c.is_whole.ensures ∙ c.if-not-is_whole.false in
-    let long : length c.args.sheet.now ≡ 4 + 17 * c.word_at-n.result = omega (arith, (whole_length c.args.sheet.now whole).1, c.word_at-n.ensures) in
-    omega (arith, long)
+    omega (arith, long c.args.sheet.now (sym c.is_whole.ensures ∙ c.if-not-is_whole.false) c.word_at-n.ensures)
 
 pub slice_bounds-run-count-2 : goal.slice_bounds-run-count-2
 slice_bounds-run-count-2 c =
-    let whole : is_whole c.args.sheet.now ≡ true = sym c.is_whole.ensures ∙ c.if-not-is_whole.false in
-    let long : length c.args.sheet.now ≡ 4 + 17 * c.word_at-n.result = omega (arith, (whole_length c.args.sheet.now whole).1, c.word_at-n.ensures) in
-    omega (arith, long)
+    omega (arith, long c.args.sheet.now (sym c.is_whole.ensures ∙ c.if-not-is_whole.false) c.word_at-n.ensures)
 
 pub slice_bounds-run-start-2 : goal.slice_bounds-run-start-2
 slice_bounds-run-start-2 c =
-    let whole : is_whole c.args.sheet.now ≡ true = sym c.is_whole.ensures ∙ c.if-not-is_whole.false in
-    let long : length c.args.sheet.now ≡ 4 + 17 * c.word_at-n.result = omega (arith, (whole_length c.args.sheet.now whole).1, c.word_at-n.ensures) in
-    omega (arith, long)
+    omega (arith, long c.args.sheet.now (sym c.is_whole.ensures ∙ c.if-not-is_whole.false) c.word_at-n.ensures)
 
 pub run-ran-requires : goal.run-ran-requires
 run-ran-requires c =
     let a = c.args in
     let r = recording_of a.b a.code.now a.labels.now a.events.now a.uses.now a.refs.now a.constants.now a.asked.now a.relocs.now in
     let fits : Fitting r × (a.b.unresolved ≤ most_open) = standing_fits _ (sym c.why_not_standing-why.ensures ∙ c.if-why-ne0.false) in
-    let whole : is_whole c.args.sheet.now ≡ true = sym c.is_whole.ensures ∙ c.if-not-is_whole.false in
-    record { within = (parts_match _ whole _ c.word_at-n.ensures, kinds_few c.args.sheet.now c.word_at-n.result (omega arith)); going = record { fitting = fits.0; few = λ no. fits.1 } }
+    record { within = (parts_match _ (sym c.is_whole.ensures ∙ c.if-not-is_whole.false) _ c.word_at-n.ensures, kinds_few c.args.sheet.now c.word_at-n.result (omega arith)); going = record { fitting = fits.0; few = λ no. fits.1 } }
 
 pub returns : goal.returns
 returns c =
     let broken : c.first_broken-broken.result ≡ first_broken (kinds_of c.args.sheet.now) (arguments_of c.args.sheet.now) = rw (kinds_part c.args.sheet.now _ c.word_at-n.ensures, arguments_part c.args.sheet.now _ c.word_at-n.ensures) at c.first_broken-broken.ensures in
     let unbroken : word_at c.args.sheet.now 0 ≤ c.first_broken-broken.result = omega (arith, c.if-broken-n.false, c.word_at-n.ensures) in
-    let whole : is_whole c.args.sheet.now ≡ true = sym c.is_whole.ensures ∙ c.if-not-is_whole.false in
     rw c.counted.ensures
     (ap (λ (s : Recording). ((c.run-ran.result.refusal, c.run-ran.result.index), s)) (counted_meant _ _)
     ∙ c.run-ran.ensures.relocs_after
     ∙ ap (run_calls _ 0) (meant_first _ _ c.is_counted_after-kept.ensures)
     ∙ parts_run c.args.sheet.now _ _ c.word_at-n.ensures
-    ∙ sheet_run _ _ whole _ broken unbroken _ c.why_not_standing-why.ensures c.if-why-ne0.false)
+    ∙ sheet_run _ _ (sym c.is_whole.ensures ∙ c.if-not-is_whole.false) _ broken unbroken _ c.why_not_standing-why.ensures c.if-why-ne0.false)

@@ -12,23 +12,17 @@ use Rattle.buffer.proofs.CodeBuffer.why_not_align.Goals as goal
 pub returns-then-why-ne0 : goal.returns-then-why-ne0
 unfolding why_align
 returns-then-why-ne0 c =
-    let a = c.args in
-    let stood : c.standing-why.result ≡ standing a.self (leb a.self.code a.lent && leb a.self.events a.room) (leb a.lent most_code && leb a.room most_entries) = rw (← c.both.ensures, ← c.both-2.ensures) c.standing-why.ensures in
-    search (picks, ← stood)
+    search (picks, ← c.both.ensures, ← c.both-2.ensures, ← c.standing-why.ensures)
 
 pub returns-then-not-is_alignment : goal.returns-then-not-is_alignment
 unfolding why_align
 returns-then-not-is_alignment c =
-    let a = c.args in
-    let stood : c.standing-why.result ≡ standing a.self (leb a.self.code a.lent && leb a.self.events a.room) (leb a.lent most_code && leb a.room most_entries) = rw (← c.both.ensures, ← c.both-2.ensures) c.standing-why.ensures in
-    search (picks, ← stood, ← c.is_alignment.ensures)
+    search (picks, ← c.both.ensures, ← c.both-2.ensures, ← c.standing-why.ensures, ← c.is_alignment.ensures)
 
 pub returns-then-both : goal.returns-then-both
 unfolding why_align
 returns-then-both c =
-    let a = c.args in
-    let stood : c.standing-why.result ≡ standing a.self (leb a.self.code a.lent && leb a.self.events a.room) (leb a.lent most_code && leb a.room most_entries) = rw (← c.both.ensures, ← c.both-2.ensures) c.standing-why.ensures in
-    search (picks, ← stood, ← c.is_alignment.ensures, ← c.keeps_events.ensures, ← c.both-3.ensures)
+    search (picks, ← c.both.ensures, ← c.both-2.ensures, ← c.standing-why.ensures, ← c.is_alignment.ensures, ← c.keeps_events.ensures, ← c.both-3.ensures)
 
 pub overflow_sub-lent : goal.overflow_sub-lent
 overflow_sub-lent c =
@@ -40,13 +34,9 @@ overflow_sub-lent c =
 pub returns-then-lent-at : goal.returns-then-lent-at
 unfolding why_align
 returns-then-lent-at c =
-    let a = c.args in
-    let stood : c.standing-why.result ≡ standing a.self (leb a.self.code a.lent && leb a.self.events a.room) (leb a.lent most_code && leb a.room most_entries) = rw (← c.both.ensures, ← c.both-2.ensures) c.standing-why.ensures in
-    search (picks, ← stood, ← c.is_alignment.ensures, ← c.keeps_events.ensures, ← c.both-3.ensures, ← c.padding_within.ensures)
+    search (picks, ← c.both.ensures, ← c.both-2.ensures, ← c.standing-why.ensures, ← c.is_alignment.ensures, ← c.keeps_events.ensures, ← c.both-3.ensures, ← c.padding_within.ensures)
 
 pub returns : goal.returns
 unfolding why_align
 returns c =
-    let a = c.args in
-    let stood : c.standing-why.result ≡ standing a.self (leb a.self.code a.lent && leb a.self.events a.room) (leb a.lent most_code && leb a.room most_entries) = rw (← c.both.ensures, ← c.both-2.ensures) c.standing-why.ensures in
-    search (picks, ← stood, ← c.is_alignment.ensures, ← c.keeps_events.ensures, ← c.both-3.ensures, ← c.padding_within.ensures)
+    search (picks, ← c.both.ensures, ← c.both-2.ensures, ← c.standing-why.ensures, ← c.is_alignment.ensures, ← c.keeps_events.ensures, ← c.both-3.ensures, ← c.padding_within.ensures)

@@ -16,16 +16,12 @@ use Rattle.buffer.proofs.CodeBuffer.why_not_bind.Goals as goal
 pub returns-then-why-ne0 : goal.returns-then-why-ne0
 unfolding why_bind
 returns-then-why-ne0 c =
-    let a = c.args in
-    let stood : c.standing-why.result ≡ standing a.self (leb a.self.labels (length a.labels.now / label_size) && namers_fit a.self a.events a.uses a.refs a.relocs) (leb (length a.labels.now / label_size) most_entries && namers_within a.events a.uses a.refs a.relocs) = rw (← c.namers_fit.ensures, ← c.namers_within.ensures, ← c.both-fit.ensures, ← c.both-within.ensures) c.standing-why.ensures in
-    search (picks, ← stood)
+    search (picks, ← c.namers_fit.ensures, ← c.namers_within.ensures, ← c.both-fit.ensures, ← c.both-within.ensures, ← c.standing-why.ensures)
 
 pub returns-then-self-label : goal.returns-then-self-label
 unfolding why_bind
 returns-then-self-label c =
-    let a = c.args in
-    let stood : c.standing-why.result ≡ standing a.self (leb a.self.labels (length a.labels.now / label_size) && namers_fit a.self a.events a.uses a.refs a.relocs) (leb (length a.labels.now / label_size) most_entries && namers_within a.events a.uses a.refs a.relocs) = rw (← c.namers_fit.ensures, ← c.namers_within.ensures, ← c.both-fit.ensures, ← c.both-within.ensures) c.standing-why.ensures in
-    search (picks, ← stood)
+    search (picks, ← c.namers_fit.ensures, ← c.namers_within.ensures, ← c.both-fit.ensures, ← c.both-within.ensures, ← c.standing-why.ensures)
 
 pub word_at-requires : goal.word_at-requires
 word_at-requires c =
@@ -38,13 +34,9 @@ word_at-requires c =
 pub returns-then-word_at : goal.returns-then-word_at
 unfolding why_bind
 returns-then-word_at c =
-    let a = c.args in
-    let stood : c.standing-why.result ≡ standing a.self (leb a.self.labels (length a.labels.now / label_size) && namers_fit a.self a.events a.uses a.refs a.relocs) (leb (length a.labels.now / label_size) most_entries && namers_within a.events a.uses a.refs a.relocs) = rw (← c.namers_fit.ensures, ← c.namers_within.ensures, ← c.both-fit.ensures, ← c.both-within.ensures) c.standing-why.ensures in
-    search (picks, ← stood, ← c.word_at.ensures)
+    search (picks, ← c.namers_fit.ensures, ← c.namers_within.ensures, ← c.both-fit.ensures, ← c.both-within.ensures, ← c.standing-why.ensures, ← c.word_at.ensures)
 
 pub returns : goal.returns
 unfolding why_bind
 returns c =
-    let a = c.args in
-    let stood : c.standing-why.result ≡ standing a.self (leb a.self.labels (length a.labels.now / label_size) && namers_fit a.self a.events a.uses a.refs a.relocs) (leb (length a.labels.now / label_size) most_entries && namers_within a.events a.uses a.refs a.relocs) = rw (← c.namers_fit.ensures, ← c.namers_within.ensures, ← c.both-fit.ensures, ← c.both-within.ensures) c.standing-why.ensures in
-    search (picks, ← stood, ← c.word_at.ensures)
+    search (picks, ← c.namers_fit.ensures, ← c.namers_within.ensures, ← c.both-fit.ensures, ← c.both-within.ensures, ← c.standing-why.ensures, ← c.word_at.ensures)

@@ -15,23 +15,17 @@ use Rattle.buffer.proofs.CodeBuffer.why_not_jump.Goals as goal
 pub returns-then-why-ne0 : goal.returns-then-why-ne0
 unfolding why_jump
 returns-then-why-ne0 c =
-    let a = c.args in
-    let stood : c.standing-why.result ≡ standing a.self (leb a.self.labels (length a.labels.now / label_size) && leb a.self.events (length a.events.now / event_size)) (leb (length a.labels.now / label_size) most_entries && leb (length a.events.now / event_size) most_entries) = rw (c.both-2.ensures, c.both.ensures) at c.standing-why.ensures in
-    search (picks, ← stood)
+    search (picks, ← c.both.ensures, ← c.both-2.ensures, ← c.standing-why.ensures)
 
 pub returns-then-self-ne-X64 : goal.returns-then-self-ne-X64
 unfolding why_jump
 returns-then-self-ne-X64 c =
-    let a = c.args in
-    let stood : c.standing-why.result ≡ standing a.self (leb a.self.labels (length a.labels.now / label_size) && leb a.self.events (length a.events.now / event_size)) (leb (length a.labels.now / label_size) most_entries && leb (length a.events.now / event_size) most_entries) = rw (c.both-2.ensures, c.both.ensures) at c.standing-why.ensures in
-    search (picks, ← stood)
+    search (picks, ← c.both.ensures, ← c.both-2.ensures, ← c.standing-why.ensures)
 
 pub returns-then-self-label : goal.returns-then-self-label
 unfolding why_jump
 returns-then-self-label c =
-    let a = c.args in
-    let stood : c.standing-why.result ≡ standing a.self (leb a.self.labels (length a.labels.now / label_size) && leb a.self.events (length a.events.now / event_size)) (leb (length a.labels.now / label_size) most_entries && leb (length a.events.now / event_size) most_entries) = rw (c.both-2.ensures, c.both.ensures) at c.standing-why.ensures in
-    search (picks, ← stood)
+    search (picks, ← c.both.ensures, ← c.both-2.ensures, ← c.standing-why.ensures)
 
 pub is_unfit-requires : goal.is_unfit-requires
 is_unfit-requires c =
@@ -45,20 +39,14 @@ is_unfit-requires c =
 pub returns-then-is_unfit : goal.returns-then-is_unfit
 unfolding why_jump
 returns-then-is_unfit c =
-    let a = c.args in
-    let stood : c.standing-why.result ≡ standing a.self (leb a.self.labels (length a.labels.now / label_size) && leb a.self.events (length a.events.now / event_size)) (leb (length a.labels.now / label_size) most_entries && leb (length a.events.now / event_size) most_entries) = rw (c.both-2.ensures, c.both.ensures) at c.standing-why.ensures in
-    search (picks, ← stood, ← c.is_unfit.ensures)
+    search (picks, ← c.both.ensures, ← c.both-2.ensures, ← c.standing-why.ensures, ← c.is_unfit.ensures)
 
 pub returns-then-room-self : goal.returns-then-room-self
 unfolding why_jump
 returns-then-room-self c =
-    let a = c.args in
-    let stood : c.standing-why.result ≡ standing a.self (leb a.self.labels (length a.labels.now / label_size) && leb a.self.events (length a.events.now / event_size)) (leb (length a.labels.now / label_size) most_entries && leb (length a.events.now / event_size) most_entries) = rw (c.both-2.ensures, c.both.ensures) at c.standing-why.ensures in
-    search (picks, ← stood, ← c.is_unfit.ensures)
+    search (picks, ← c.both.ensures, ← c.both-2.ensures, ← c.standing-why.ensures, ← c.is_unfit.ensures)
 
 pub returns : goal.returns
 unfolding why_jump
 returns c =
-    let a = c.args in
-    let stood : c.standing-why.result ≡ standing a.self (leb a.self.labels (length a.labels.now / label_size) && leb a.self.events (length a.events.now / event_size)) (leb (length a.labels.now / label_size) most_entries && leb (length a.events.now / event_size) most_entries) = rw (c.both-2.ensures, c.both.ensures) at c.standing-why.ensures in
-    search (picks, ← stood, ← c.is_unfit.ensures)
+    search (picks, ← c.both.ensures, ← c.both-2.ensures, ← c.standing-why.ensures, ← c.is_unfit.ensures)
