@@ -2,9 +2,11 @@
 #![tactic(auto)]
 
 ghost use Rattle.std.specs.Prelude.{◌≡◌};
+ghost use Rattle.refusals.specs.Answers.{answer_of};
 ghost use Rattle.elf.specs.Elf.{write_relas, read_relas};
 
 use finish::CodeBufferFinalized;
+use refusals::Refusal;
 
 mod read;
 mod types;
@@ -32,13 +34,10 @@ pub fn write_relas(
     relocs: &[u8],
     section: u32,
     output: &mut [u8],
-) -> u32
-    ensures { (result, output.new) ≡ write_relas code labels.now relocs.now section output.old }
+) -> Result<(), Refusal>
+    ensures { (answer_of result, output.new) ≡ write_relas code labels.now relocs.now section output.old }
 {
-    let why = write::why_not_written(code, labels, relocs, output.len());
-    if why != 0 {
-        return why;
-    }
+    write::why_not_written(code, labels, relocs, output.len())?;
     write::put_relas(
         output,
         code.arch,
@@ -47,17 +46,14 @@ pub fn write_relas(
         relocs,
         code.relocs as usize,
     );
-    0
+    Ok(())
 }
 
 // Takes entries back to offset, type, symbol and addend: a table of relocations, with types in the place of kinds.
-pub fn read_relas(relas: &[u8], table: &mut [u8]) -> u32
-    ensures { (result, table.new) ≡ read_relas relas.now table.old }
+pub fn read_relas(relas: &[u8], table: &mut [u8]) -> Result<(), Refusal>
+    ensures { (answer_of result, table.new) ≡ read_relas relas.now table.old }
 {
-    let why = read::why_not_read(relas, table.len() / buffer::RELOC_SIZE);
-    if why != 0 {
-        return why;
-    }
+    read::why_not_read(relas, table.len() / buffer::RELOC_SIZE)?;
     read::put_entries(table, relas, relas.len() / RELA_SIZE);
-    0
+    Ok(())
 }

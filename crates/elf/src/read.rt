@@ -3,9 +3,11 @@ ghost use Rattle.std.specs.Prelude.{◌≡◌, ◌+◌, ◌*◌, ◌≤◌, leng
 ghost use Rattle.seqs.specs.Every.{all};
 ghost use Rattle.words.specs.Words.{over_words};
 ghost use Rattle.buffer.specs.Tables.{reloc_size};
+ghost use Rattle.refusals.specs.Answers.{answer_of};
 ghost use Rattle.elf.specs.Elf.{rela_size, rela_at, readable, relas_fit, why_not_read, words_of_entries};
 
 use crate::{RELA_SIZE, RELA_WORDS, Rela, types};
+use refusals::Refusal;
 
 // Whether entry `i` has an offset of 32 bits, and a type that is listed.
 fn is_readable(relas: &[u8], i: usize) -> bool
@@ -23,14 +25,7 @@ fn all_readable(relas: &[u8], n: usize) -> bool
     requires { n * rela_size ≤ length relas.now }
     ensures { result ≡ all (readable relas.now) n }
 {
-    let mut i: usize = 0;
-    while i < n {
-        if !is_readable(relas, i) {
-            return false;
-        }
-        i += 1;
-    }
-    true
+    (0..n).all(|i| is_readable(relas, i))
 }
 
 fn relas_fit(relas: &[u8]) -> bool
@@ -43,19 +38,19 @@ fn relas_fit(relas: &[u8]) -> bool
 }
 
 // `room` is how many entries the table has room for.
-pub fn why_not_read(relas: &[u8], room: usize) -> u32
-    ensures { result ≡ why_not_read relas.now room }
+pub fn why_not_read(relas: &[u8], room: usize) -> Result<(), Refusal>
+    ensures { answer_of result ≡ why_not_read relas.now room }
 {
     if !relas_fit(relas) {
-        return refusals::MALFORMED;
+        return Err(Refusal::Malformed);
     }
     if buffer::MOST_ENTRIES < room {
-        return refusals::PAST_LIMIT;
+        return Err(Refusal::PastLimit);
     }
     if room < relas.len() / RELA_SIZE {
-        return refusals::TABLE_FULL;
+        return Err(Refusal::TableFull);
     }
-    0
+    Ok(())
 }
 
 fn rela_at(relas: &[u8], i: usize) -> Rela

@@ -9,35 +9,21 @@ pub const NO_TYPE: u32 = 0;
 fn x64_type(kind: u32) -> u32
     ensures { result ≡ slice_index_or x64_types kind no_type }
 {
-    // Abs4: R_X86_64_32
-    if kind == 0 {
-        return 10;
+    match kind {
+        // Abs4: R_X86_64_32
+        0 => 10,
+        // Abs8: R_X86_64_64
+        1 => 1,
+        // X86PCRel4: R_X86_64_PC32
+        2 => 2,
+        // X86CallPCRel4 and X86CallPLTRel4: R_X86_64_PLT32
+        3 | 4 => 4,
+        // X86GOTPCRel4: R_X86_64_GOTPCREL
+        5 => 9,
+        // ElfX86_64TlsGd: R_X86_64_TLSGD
+        9 => 19,
+        _ => NO_TYPE,
     }
-    // Abs8: R_X86_64_64
-    if kind == 1 {
-        return 1;
-    }
-    // X86PCRel4: R_X86_64_PC32
-    if kind == 2 {
-        return 2;
-    }
-    // X86CallPCRel4: R_X86_64_PLT32
-    if kind == 3 {
-        return 4;
-    }
-    // X86CallPLTRel4: R_X86_64_PLT32
-    if kind == 4 {
-        return 4;
-    }
-    // X86GOTPCRel4: R_X86_64_GOTPCREL
-    if kind == 5 {
-        return 9;
-    }
-    // ElfX86_64TlsGd: R_X86_64_TLSGD
-    if kind == 9 {
-        return 19;
-    }
-    NO_TYPE
 }
 
 // And on AArch64.
@@ -84,10 +70,7 @@ pub fn elf_type(arch: u32, kind: u32) -> u32
 pub fn has_types(arch: u32) -> bool
     ensures { result ≡ has_types arch }
 {
-    if arch == fields::X64 {
-        return true;
-    }
-    arch == fields::AARCH64
+    arch == fields::X64 || arch == fields::AARCH64
 }
 
 // Whether a type stands in one of the two tables.

@@ -7,10 +7,12 @@ ghost use Rattle.buffer.specs.State.{label_target};
 ghost use Rattle.buffer.specs.Tables.{label_size, reloc_words, reloc_size};
 ghost use Rattle.recording.specs.View.{reloc_at};
 ghost use Rattle.checks.specs.steps.Handed.{TargetsNamed};
+ghost use Rattle.refusals.specs.Answers.{answer_of};
 ghost use Rattle.elf.specs.Elf.{rela_size, target_bound, all_targets_bound, target_offset, rela_of, leaves_signed, why_no_rela, why_no_relas, relocs_fit, within_limits, why_unfit, why_not_written, words_of_rela, words_of_relas};
 
 use crate::{RELA_SIZE, RELA_WORDS, Rela, types};
 use finish::CodeBufferFinalized;
+use refusals::Refusal;
 
 // 2^63: an addend from here on is negative.
 const FIRST_NEGATIVE: u64 = 1 << 63;
@@ -35,15 +37,10 @@ fn all_targets_bound(labels: &[u8], count: u32, relocs: &[u8], n: usize) -> bool
     requires relocs_within { n * reloc_size ≤ length relocs.now }
     ensures { result ≡ all_targets_bound labels.now count relocs.now n }
 {
-    let mut i: usize = 0;
-    while i < n {
+    (0..n).all(|i| {
         let target = words::word_at(relocs, i * buffer::RELOC_WORDS + 2);
-        if !is_target_bound(labels, count, target) {
-            return false;
-        }
-        i += 1;
-    }
-    true
+        is_target_bound(labels, count, target)
+    })
 }
 
 // What a target adds to the addend: a label its offset, a symbol nothing.
@@ -76,37 +73,32 @@ fn leaves_signed(addend: u64, offset: u32) -> bool
 }
 
 // 24 and 25, of entry `i`.
-fn why_no_rela(arch: u32, labels: &[u8], relocs: &[u8], i: usize) -> u32
+fn why_no_rela(arch: u32, labels: &[u8], relocs: &[u8], i: usize) -> Result<(), Refusal>
     requires relocs_within { i * reloc_size + reloc_size ≤ length relocs.now }
     requires labels_within { (label_target ≤ word_at relocs.now (i * reloc_words + 2) → (word_at relocs.now (i * reloc_words + 2) - label_target) * label_size + label_size ≤ length labels.now) }
-    ensures { result ≡ why_no_rela arch labels.now (reloc_at relocs.now i) }
+    ensures { answer_of result ≡ why_no_rela arch labels.now (reloc_at relocs.now i) }
 {
     let k = i * buffer::RELOC_WORDS;
     if types::elf_type(arch, words::word_at(relocs, k + 1)) == types::NO_TYPE {
-        return refusals::NO_ELF_TYPE;
+        return Err(Refusal::NoElfType);
     }
     let offset = target_offset(labels, words::word_at(relocs, k + 2));
     if leaves_signed(addend_at(relocs, i), offset) {
-        return refusals::ADDEND_OVERFLOW;
+        return Err(Refusal::AddendOverflow);
     }
-    0
+    Ok(())
 }
 
 // The first of these numbers, of the first `n` entries.
-fn why_no_relas(arch: u32, labels: &[u8], relocs: &[u8], n: usize) -> u32
+fn why_no_relas(arch: u32, labels: &[u8], relocs: &[u8], n: usize) -> Result<(), Refusal>
     requires relocs_within { n * reloc_size ≤ length relocs.now }
     requires targets_named { TargetsNamed relocs.now n labels.now }
-    ensures { result ≡ why_no_relas arch labels.now relocs.now n }
+    ensures { answer_of result ≡ why_no_relas arch labels.now relocs.now n }
 {
-    let mut i: usize = 0;
-    while i < n {
-        let why = why_no_rela(arch, labels, relocs, i);
-        if why != 0 {
-            return why;
-        }
-        i += 1;
+    for i in 0..n {
+        why_no_rela(arch, labels, relocs, i)?;
     }
-    0
+    Ok(())
 }
 
 fn relocs_fit(code: CodeBufferFinalized, labels: &[u8], relocs: &[u8]) -> bool
@@ -124,44 +116,41 @@ fn relocs_fit(code: CodeBufferFinalized, labels: &[u8], relocs: &[u8]) -> bool
 fn within_limits(labels: &[u8], relocs: &[u8]) -> bool
     ensures { result ≡ within_limits labels.now relocs.now }
 {
-    buffer::both(
-        labels.len() / buffer::LABEL_SIZE <= buffer::MOST_ENTRIES,
-        relocs.len() / buffer::RELOC_SIZE <= buffer::MOST_ENTRIES,
-    )
+    labels.len() / buffer::LABEL_SIZE <= buffer::MOST_ENTRIES
+        && relocs.len() / buffer::RELOC_SIZE <= buffer::MOST_ENTRIES
 }
 
 // 1, 3, and 24 of the architecture.
-fn why_unfit(code: CodeBufferFinalized, labels: &[u8], relocs: &[u8]) -> u32
-    ensures { result ≡ why_unfit code labels.now relocs.now }
+fn why_unfit(code: CodeBufferFinalized, labels: &[u8], relocs: &[u8]) -> Result<(), Refusal>
+    ensures { answer_of result ≡ why_unfit code labels.now relocs.now }
 {
     if !relocs_fit(code, labels, relocs) {
-        return refusals::MALFORMED;
+        return Err(Refusal::Malformed);
     }
     if !within_limits(labels, relocs) {
-        return refusals::PAST_LIMIT;
+        return Err(Refusal::PastLimit);
     }
     if !types::has_types(code.arch) {
-        return refusals::NO_ELF_TYPE;
+        return Err(Refusal::NoElfType);
     }
-    0
+    Ok(())
 }
 
-pub fn why_not_written(code: CodeBufferFinalized, labels: &[u8], relocs: &[u8], room: usize) -> u32
-    ensures { result ≡ why_not_written code labels.now relocs.now room }
+pub fn why_not_written(
+    code: CodeBufferFinalized,
+    labels: &[u8],
+    relocs: &[u8],
+    room: usize,
+) -> Result<(), Refusal>
+    ensures { answer_of result ≡ why_not_written code labels.now relocs.now room }
 {
-    let unfit = why_unfit(code, labels, relocs);
-    if unfit != 0 {
-        return unfit;
-    }
+    why_unfit(code, labels, relocs)?;
     let n = code.relocs as usize;
-    let why = why_no_relas(code.arch, labels, relocs, n);
-    if why != 0 {
-        return why;
-    }
+    why_no_relas(code.arch, labels, relocs, n)?;
     if room < n * RELA_SIZE {
-        return refusals::ELF_OUTPUT_TOO_SMALL;
+        return Err(Refusal::ElfOutputTooSmall);
     }
-    0
+    Ok(())
 }
 
 // The symbol of a target: its own number, or `section` where it is a label's.
@@ -213,9 +202,7 @@ pub fn put_relas(output: &mut [u8], arch: u32, labels: &[u8], section: u32, relo
     requires targets_named { TargetsNamed relocs.now n labels.now }
     ensures { output.new ≡ over_words output.old (words_of_relas arch labels.now section relocs.now n) }
 {
-    let mut i: usize = 0;
-    while i < n {
+    for i in 0..n {
         put_rela(output, i, rela_of(arch, labels, section, relocs, i));
-        i += 1;
     }
 }

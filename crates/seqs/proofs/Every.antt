@@ -68,7 +68,7 @@ unfolding all
 all_both f g zero = refl
 all_both f g (suc n) = rw (all_both f g n) (four (all f n) (all g n) (f n) (g n))
 
-all_first : (f : ℕ → Bool) (n : ℕ) → all f (suc n) ≡ (f 0 && all (λ (i : ℕ). f (suc i)) n)
+pub all_first : (f : ℕ → Bool) (n : ℕ) → all f (suc n) ≡ (f 0 && all (λ (i : ℕ). f (suc i)) n)
 unfolding all
 all_first f zero = sym (and-true (f 0))
 all_first f (suc n) = rw (all_first f n) (and_assoc (f 0) (all (λ (i : ℕ). f (suc i)) n) (f (suc n)))

@@ -6,3 +6,4 @@ pub mod Booleans
 pub mod Every
 pub mod Scans
 pub mod Counting
+pub mod Ranges

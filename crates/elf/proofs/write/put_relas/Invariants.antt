@@ -7,5 +7,3 @@ use Rattle.elf.proofs.write.put_relas.Given as goal
 abbrev pub invariant-loop-i : goal.invariant-loop-i
 invariant-loop-i l = (l.i ≤ l.n) × (l.output ≡ over_words l.initial.output (words_of_relas l.arch l.labels l.section l.relocs l.i))
 
-abbrev pub decreases-loop-i : goal.decreases-loop-i
-decreases-loop-i l = l.n - l.i

@@ -1,33 +1,20 @@
 -- `why_no_relas` meets its contract: none of the entries passed is refused.
-use Rattle.std.proofs.Common.{arith, rules}
-use Rattle.seqs.proofs.Scans.{refusing}
+use Rattle.std.proofs.Common.{rules}
+use Rattle.refusals.proofs.Chains.{entries_refused, refused_entry}
 use Rattle.elf.specs.Elf.{why_no_relas}
 use Rattle.elf.proofs.write.why_no_relas.Goals as goal
 
 pub loop-i-init : goal.loop-i-init
-unfolding why_no_relas
-loop-i-init c = search refusing
+loop-i-init c = search entries_refused
 
-pub returns-then-why-ne0 : goal.returns-then-why-ne0
+pub returns-in_err-why_no_rela : goal.returns-in_err-why_no_rela
 unfolding why_no_relas
-returns-then-why-ne0 c = search refusing
-
-pub overflow_add-i : goal.overflow_add-i
-unfolding why_no_relas
-overflow_add-i c = search rules
-
-pub loop-i-smaller : goal.loop-i-smaller
-unfolding why_no_relas
-loop-i-smaller c = search rules
+returns-in_err-why_no_rela c =
+    refused_entry c.in_err-why_no_rela.field-0.0 c.loop-i.invariant c.loop-i-test.true (search rules) c.in_err-why_no_rela.ensures
 
 pub loop-i-preserved : goal.loop-i-preserved
-unfolding why_no_relas
-loop-i-preserved c = search refusing
+loop-i-preserved c = search (rules, entries_refused)
 
 pub returns : goal.returns
 unfolding why_no_relas
-returns c = search refusing
-
-pub why_no_rela-why-requires : goal.why_no_rela-why-requires
-why_no_rela-why-requires c =
-    record { relocs_within = omega arith; labels_within = c.requires.targets_named.known _ c.loop-i-test.true }
+returns c = search entries_refused
