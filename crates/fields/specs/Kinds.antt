@@ -1,5 +1,5 @@
 -- The kinds of field that name a label: document 01, "fields". Codes follow the order of asmkit's enum `LabelUse`.
-use Rattle.std.specs.Prelude.{ℕ, Bool, true, false, ◌||◌, List, [], ◌∷◌, ◌==◌, slice_index_or}
+use Rattle.std.specs.Prelude.{ℕ, Bool, true, false, ◌||◌, List, [], ◌∷◌, ◌==◌, Result, Ok, Err, slice_index_or}
 use Rattle.fields.specs.declared.LabelUse.{LabelUse}
 use Rattle.fields.specs.declared.LabelUse.TheVariants.{
   X86JmpRel32,
@@ -13,8 +13,8 @@ use Rattle.fields.specs.declared.LabelUse.TheVariants.{
   A64AddAbsLo12,
 }
 use Rattle.fields.specs.declared.FieldInfo.{FieldInfo}
-use Rattle.fields.specs.declared.Decoded.{Decoded}
-use Rattle.fields.specs.declared.Decoded.TheVariants.{Use, Unsupported, Unknown}
+use Rattle.fields.specs.declared.NoField.{NoField}
+use Rattle.fields.specs.declared.NoField.TheVariants as no_field
 
 -- The nine kinds. `code`; `size` in bytes; `x86`: of X86 and X64, else of AArch64; `branch`: codes 9, 10 and 11; `paged`: counts 4,096-byte pages;
 -- `words`: takes multiples of 4 alone; the distance, counted from `from` bytes after the field's first one, lies in -low..high.
@@ -55,6 +55,20 @@ is_arch false arch = arch == arch_a64
 
 abbrev pub supports_arch : LabelUse → ℕ → Bool
 supports_arch k arch = is_arch (info k).x86 arch
+
+-- what a code of asmkit's enum stands for here
+pub data Decoded : Type 0 where
+  Use : LabelUse → Decoded
+  -- no architecture here has such a field
+  Unsupported : Decoded
+  -- of no kind
+  Unknown : Decoded
+
+-- what the conversion of a code gives
+abbrev pub decoded_of : Result LabelUse NoField → Decoded
+decoded_of (Ok kind) = Use kind
+decoded_of (Err no_field.Unsupported) = Unsupported
+decoded_of (Err no_field.Unknown) = Unknown
 
 -- 2 to 8 are the RISC-V kinds, 15 is A64Ldr12
 abbrev pub codes : List Decoded

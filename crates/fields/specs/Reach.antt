@@ -2,10 +2,8 @@
 use Rattle.std.specs.Prelude.{ℕ, ◌*◌, ◌/◌, ◌%◌, Bool, true, false, cond, ◌&&◌, ◌==◌, nat_lt}
 use Rattle.refusals.specs.Numbers as refusals
 use Rattle.fields.specs.Words64.{minus, range}
-use Rattle.fields.specs.Kinds.{info}
+use Rattle.fields.specs.Kinds.{info, Decoded, Use, Unsupported, Unknown}
 use Rattle.fields.specs.declared.LabelUse.{LabelUse}
-use Rattle.fields.specs.declared.Decoded.{Decoded}
-use Rattle.fields.specs.declared.Decoded.TheVariants.{Use, Unsupported, Unknown}
 
 -- d is a multiple of 4, where that is asked
 abbrev pub multiple : Bool → ℕ → Bool
