@@ -5,9 +5,7 @@ use Rattle.refusals.specs.Numbers as refusals
 use Rattle.seqs.specs.Pick.{pick, first, or_else}
 use Rattle.words.specs.Words.{word_at}
 use Rattle.encoder.specs.Padding.{padding_within}
-use Rattle.fields.specs.declared.Decoded.{Decoded}
-use Rattle.fields.specs.declared.Decoded.TheVariants.{Use, Unsupported, Unknown}
-use Rattle.fields.specs.Kinds.{arch_x86, arch_x64, arch_a64, is_arch, decoded, supports_arch, unsupported_code, last_code}
+use Rattle.fields.specs.Kinds.{Decoded, Use, Unsupported, Unknown, arch_x86, arch_x64, arch_a64, is_arch, decoded, supports_arch, unsupported_code, last_code}
 use Rattle.relax.specs.Events.{event_at, end_of, event_size, no_condition, most_jump, short_len}
 use Rattle.buffer.specs.declared.CodeBuffer.{CodeBuffer}
 use Rattle.buffer.specs.State.{none, label_target, keeps_events}

@@ -15,10 +15,9 @@ use crate::{
 pub fn is_foreign(code: u32, arch: u32) -> bool
     ensures { result ≡ foreign (decoded code) arch }
 {
-    match fields::LabelUse::from_code(code) {
-        fields::Decoded::Use(kind) => !kind.supports_arch(arch),
-        fields::Decoded::Unsupported => true,
-        fields::Decoded::Unknown => true,
+    match fields::LabelUse::try_from(code) {
+        Ok(kind) => !kind.supports_arch(arch),
+        Err(_) => true,
     }
 }
 
