@@ -5,8 +5,7 @@ use mathlib.Core.List.{List, [], ◌∷◌, map}
 use Prim.Native.Nat.{ℕ, suc, ◌+◌}
 use lib.ListN.{length, get_or}
 use Rattle.seqs.proofs.Overwrites.{length_over}
-use Rattle.fields.specs.declared.Decoded.{Decoded}
-use Rattle.fields.specs.declared.Decoded.TheVariants.{Use, Unsupported, Unknown}
+use Rattle.fields.specs.Kinds.{Decoded, Use, Unsupported, Unknown}
 use Rattle.relax.specs.declared.LayoutEvent.{LayoutEvent}
 use Rattle.buffer.specs.State.{none}
 use Rattle.recording.specs.View as view

@@ -12,10 +12,8 @@ use Rattle.seqs.proofs.Numbers.{eq_or_ne}
 use Rattle.seqs.proofs.Overwrites.{length_over}
 use Rattle.words.specs.Words.{bytes_of}
 use Rattle.fields.specs.declared.LabelUse.{LabelUse}
-use Rattle.fields.specs.declared.Decoded.{Decoded}
-use Rattle.fields.specs.declared.Decoded.TheVariants.{Use, Unsupported, Unknown}
 use Rattle.fields.specs.Words64.{plus, sign_extend}
-use Rattle.fields.specs.Kinds.{decoded, patch_size}
+use Rattle.fields.specs.Kinds.{Decoded, Use, Unsupported, Unknown, decoded, patch_size}
 use Rattle.fields.specs.Patch.{patched_word, patched, held_addend}
 use Rattle.fields.proofs.Patching.{four_unless_one, patched_field}
 use Rattle.relax.specs.declared.LayoutEvent.{LayoutEvent}

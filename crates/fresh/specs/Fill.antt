@@ -3,10 +3,8 @@
 -- `at` takes a recorded offset to its new one.
 use Rattle.std.specs.Prelude.{Bool, List, [], ◌∷◌, ℕ, ◌+◌, get_or, take, drop}
 use Rattle.seqs.specs.Over.{over}
-use Rattle.fields.specs.declared.Decoded.{Decoded}
-use Rattle.fields.specs.declared.Decoded.TheVariants.{Use, Unsupported, Unknown}
 use Rattle.fields.specs.Words64.{plus, sign_extend}
-use Rattle.fields.specs.Kinds.{decoded, patch_size}
+use Rattle.fields.specs.Kinds.{Decoded, Use, Unsupported, Unknown, decoded, patch_size}
 use Rattle.fields.specs.Patch.{patched, patched_use}
 use Rattle.relax.specs.declared.LayoutEvent.{LayoutEvent}
 use Rattle.buffer.specs.State.{none}
