@@ -5,8 +5,7 @@
 ghost use Rattle.std.specs.Prelude.{◌≡◌, ℕ, ◌+◌, ◌-◌, ◌*◌, ◌≤◌, List, [], ◌∷◌, length, take, drop};
 ghost use Rattle.seqs.specs.Over.{over};
 ghost use Rattle.words.specs.Words.{word_at};
-ghost use Rattle.fields.specs.declared.Decoded.TheVariants.{Use};
-ghost use Rattle.fields.specs.Kinds.{decoded, patch_size};
+ghost use Rattle.fields.specs.Kinds.{Use, decoded, patch_size};
 ghost use Rattle.fields.specs.Words64.{plus, minus, sign_extend};
 ghost use Rattle.fields.specs.Patch.{patched, patched_use};
 ghost use Rattle.relax.specs.Events.{event_at, event_size, start_of, extent_of, end_of};
@@ -21,7 +20,7 @@ ghost use Rattle.lookup.specs.steps.Index.{Indexed};
 ghost use Rattle.layout.specs.steps.Layout.{start_at, Rising};
 ghost use Rattle.emit.specs.steps.Emit.{jump_form, branch_form, Encodes, Writes, Keeps, Emits, use_filled, uses_filled, UseFits, UsesFit, ref_filled, refs_filled, RefFits, RefsFit, field_reaches, refs_reach, RefsKnown, jumps_filled, JumpFits, JumpsFit, mapped_words, WordsFit};
 
-use fields::{Decoded, LabelUse};
+use fields::LabelUse;
 use relax::{Condition, FarBranch, LayoutEvent, RelaxableJump, Segment};
 
 fn short_opcode(cc: Condition) -> u8
@@ -232,11 +231,10 @@ fn patch_use(output: &mut [u8], uses: &[u8], labels: &[u8], i: usize)
     let at = words::word_at(uses, i * buffer::USE_WORDS);
     let number = words::word_at(uses, i * buffer::USE_WORDS + 1) as usize;
     let label = words::word_at(labels, number);
-    let kind = LabelUse::from_code(words::word_at(uses, i * buffer::USE_WORDS + 2));
+    let kind = LabelUse::try_from(words::word_at(uses, i * buffer::USE_WORDS + 2));
     match kind {
-        Decoded::Use(kind) => patch_held(output, kind, at, label),
-        Decoded::Unsupported => {}
-        Decoded::Unknown => {}
+        Ok(kind) => patch_held(output, kind, at, label),
+        Err(_) => {}
     }
 }
 
@@ -267,12 +265,11 @@ fn patch_ref(output: &mut [u8], refs: &[u8], labels: &[u8], at: u32, i: usize)
     ensures { output.new ≡ ref_filled refs.now labels.now at i output.old }
 {
     let label = ref_label(refs, labels, i);
-    let kind = LabelUse::from_code(words::word_at(refs, i * buffer::REF_WORDS + 2));
+    let kind = LabelUse::try_from(words::word_at(refs, i * buffer::REF_WORDS + 2));
     let addend = words::word_at(refs, i * buffer::REF_WORDS + 3);
     match kind {
-        Decoded::Use(kind) => patch_field(output, kind, at, label, addend),
-        Decoded::Unsupported => {}
-        Decoded::Unknown => {}
+        Ok(kind) => patch_field(output, kind, at, label, addend),
+        Err(_) => {}
     }
 }
 
@@ -319,12 +316,11 @@ fn ref_reaches(refs: &[u8], at: u32, label: u32, i: usize) -> bool
     requires { i * ref_size + ref_size ≤ length refs.now }
     ensures { result ≡ field_reaches (decoded (word_at refs.now (i * ref_words + 2))) at label (word_at refs.now (i * ref_words + 3)) }
 {
-    let kind = LabelUse::from_code(words::word_at(refs, i * buffer::REF_WORDS + 2));
+    let kind = LabelUse::try_from(words::word_at(refs, i * buffer::REF_WORDS + 2));
     let far = distance(at, label, words::word_at(refs, i * buffer::REF_WORDS + 3));
     match kind {
-        Decoded::Use(kind) => kind.can_reach_delta(far),
-        Decoded::Unsupported => true,
-        Decoded::Unknown => true,
+        Ok(kind) => kind.can_reach_delta(far),
+        Err(_) => true,
     }
 }
 

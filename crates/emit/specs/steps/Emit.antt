@@ -3,10 +3,8 @@
 use Rattle.std.specs.Prelude.{◌≡◌, ℕ, zero, suc, ◌+◌, ◌*◌, ◌<◌, ◌≤◌, Bool, true, false, ◌≢◌, List, length, take, slice_index_or}
 use Rattle.seqs.specs.Every.{all}
 use Rattle.words.specs.Words.{word_at, set_word}
-use Rattle.fields.specs.declared.Decoded.{Decoded}
-use Rattle.fields.specs.declared.Decoded.TheVariants.{Use, Unsupported, Unknown}
 use Rattle.fields.specs.Words64.{plus, minus, sign_extend}
-use Rattle.fields.specs.Kinds.{decoded, patch_size}
+use Rattle.fields.specs.Kinds.{Decoded, Use, Unsupported, Unknown, decoded, patch_size}
 use Rattle.fields.specs.Reach.{can_reach_delta}
 use Rattle.relax.specs.declared.Condition.{Condition}
 use Rattle.relax.specs.declared.Condition.TheVariants.{Always, On}
