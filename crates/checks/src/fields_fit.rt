@@ -44,20 +44,18 @@ pub fn moves(events: &[u8], n: usize) -> bool
 fn size_of(code: u32) -> u64
     ensures { (result ≡ size_of (decoded code)) × (result ≤ 4) }
 {
-    match fields::LabelUse::from_code(code) {
-        fields::Decoded::Use(kind) => kind.patch_size() as u64,
-        fields::Decoded::Unsupported => 0,
-        fields::Decoded::Unknown => 0,
+    match fields::LabelUse::try_from(code) {
+        Ok(kind) => kind.patch_size() as u64,
+        Err(_) => 0,
     }
 }
 
 fn reach_of(code: u32, offset: u32, label: u32) -> u32
     ensures { result ≡ reach_of (decoded code) offset label }
 {
-    match fields::LabelUse::from_code(code) {
-        fields::Decoded::Use(kind) => kind.reach_refusal(offset, label),
-        fields::Decoded::Unsupported => 0,
-        fields::Decoded::Unknown => 0,
+    match fields::LabelUse::try_from(code) {
+        Ok(kind) => refusals::answer_of(kind.reach_refusal(offset, label)),
+        Err(_) => 0,
     }
 }
 
