@@ -1,11 +1,10 @@
 -- A coarse index: what filling it keeps, and what it says of an offset.
-use mathlib.Core.Path.{◌≡◌, refl, ◌∙◌}
+use mathlib.Core.Path.{◌≡◌}
 use mathlib.Core.Logic.{⊎_elim}
 use mathlib.Core.List.{List}
-use Prim.Native.Nat.{ℕ, ◌+◌, ◌/◌, ◌^◌, ◌≤◌, ◌<◌, max}
+use Prim.Native.Nat.{ℕ, ◌+◌, ◌/◌, ◌^◌, ◌≤◌, ◌<◌}
 use native.Mathlib.Omega.{arith}
-use lib.ListN.{length, get_or, set, length-set}
-use lib.Seq.{get_or-set_same, get_or-set_other}
+use lib.ListN.{length, get_or}
 use lib.Pow.{shr_mono, shr_lt}
 use Rattle.seqs.proofs.Numbers.{lt_or_ge, eq_or_ne}
 use Rattle.lookup.specs.steps.Index.{parts, index_size, part, Rises, Before, Indexed, Filled, Marked, Narrowed, Around}
@@ -119,26 +118,6 @@ module _ {index : List ℕ} {key : ℕ → ℕ} {n shift : ℕ} (offset : ℕ) {
   -- What `narrow` finds: a search for the offset has to look between these alone.
   pub narrowed_around : Around key n offset low high
   narrowed_around = ⊎_elim around_all around_part (lt_or_ge (length index) index_size)
-
--- Filling entry by entry: before the first, one entry more, and at the end.
-pub marked_none : (index : List ℕ) (next v : ℕ) → Marked index index next next v next
-marked_none index next v = record { size = refl; reached = omega arith; kept = λ p l. refl; marks = λ p h l. absurd (omega arith) }
-
-pub marked_one : {before index : List ℕ} {next p v : ℕ} → Marked before index next p v p → p < length index → Marked before (set index p v) next (p + 1) v (p + 1)
-marked_one {before} {index} {next} {p} {v} m l =
-    record {
-      size = length-set index p v ∙ m.size;
-      reached = omega (arith, m.reached);
-      kept = λ q h. get_or-set_other index p q v 0 (λ e. omega (arith, m.reached)) ∙ m.kept q h;
-      marks = λ q h k.
-          ⊎_elim
-          (λ (same : q ≡ p). rw same (get_or-set_same index p v 0 l))
-          (λ other. get_or-set_other index p q v 0 other ∙ m.marks q h (omega arith))
-          (eq_or_ne q p);
-    }
-
-pub marked_end : {before index : List ℕ} {next p to v : ℕ} → Marked before index next p v p → to ≤ p → p ≤ max next to → Marked before index next to v p
-marked_end m h k = record { size = m.size; reached = omega (arith, m.reached); kept = m.kept; marks = m.marks }
 
 -- Shifted by 22 bits every offset lies in the parts that are told apart.
 pub shift_grows : (end shift told : ℕ) → end < 2 ^ 32 → shift ≤ 22 → 1024 ≤ told → told ≤ end / 2 ^ shift → shift < 22

@@ -3,8 +3,8 @@
 // The offsets stand in tables of several forms, so that a user's own loop hands them to `mark`, in order, and then closes the index.
 #![tactic(auto)]
 
-ghost use Rattle.std.specs.Prelude.{◌≡◌, true, ◌+◌, ◌/◌, ◌^◌, ◌≤◌, ◌<◌, length, get_or};
-ghost use Rattle.lookup.specs.steps.Index.{parts, index_size, large_size, most_keys, part, Marked, Narrowed};
+ghost use Rattle.std.specs.Prelude.{◌≡◌, ℕ, true, ◌+◌, ◌/◌, ◌^◌, ◌≤◌, ◌<◌, length, get_or};
+ghost use Rattle.lookup.specs.steps.Index.{parts, index_size, large_size, most_keys, part, Marked, Narrowed, Parted};
 
 // An index has an entry for each part that is told apart, one for what lies past them, and one for the end. It is at least so long; a shorter slice is none.
 pub const SIZE: usize = 1026;
@@ -18,7 +18,7 @@ pub const LARGE_SIZE: usize = 16386;
 pub const FEW: usize = 24;
 
 // An entry is a word of 32 bits.
-pub const MOST_KEYS: usize = 4294967295;
+pub const MOST_KEYS: usize = u32::MAX as usize;
 
 // Where a search by halving starts and ends.
 #[derive(Clone, Copy)]
@@ -27,37 +27,42 @@ pub struct Span {
     pub high: usize,
 }
 
+// By halving: where a test of numbers turns from true to false, between two numbers. It is asked below the second alone.
+pub fn partition_point<F: Fn(usize) -> bool>(mut low: usize, mut high: usize, before: F) -> usize
+    requires order { low ≤ high }
+    requires callable { (i : ℕ) → low ≤ i → i < high → F.pre before i }
+    ensures { Parted (F.post before) low high result }
+{
+    while low < high {
+        let mid = low + (high - low) / 2;
+        if before(mid) {
+            low = mid + 1;
+        } else {
+            high = mid;
+        }
+    }
+    low
+}
+
 // Whether an index of so many offsets pays for so many searches.
 pub fn pays(keys: usize, searches: usize) -> bool
     ensures { result ≡ true → keys ≤ most_keys }
 {
-    if keys < FEW {
-        return false;
-    }
-    if MOST_KEYS < keys {
-        return false;
-    }
-    FEW <= searches
+    FEW <= keys && keys <= MOST_KEYS && FEW <= searches
 }
 
 // How long an index of so many offsets is best, of those that have room in a large one.
 pub fn size_for(keys: usize) -> usize
     ensures { (index_size ≤ result) × (result ≤ large_size) }
 {
-    if keys < MANY {
-        return SIZE;
-    }
-    LARGE_SIZE
+    if keys < MANY { SIZE } else { LARGE_SIZE }
 }
 
 // The parts that an index of a length tells apart; those of the shortest where it is none.
 fn parts_of(size: usize) -> usize
     ensures { (index_size ≤ size → result ≡ parts size) × (1024 ≤ result) }
 {
-    if size < SIZE {
-        return SIZE - 2;
-    }
-    size - 2
+    size.max(SIZE) - 2
 }
 
 // The least shift by which offsets up to `end` lie in the parts that an index of a length tells apart.
@@ -74,16 +79,12 @@ pub fn shift_for(end: u32, size: usize) -> u32
 }
 
 // The part that an offset lies in, for an index of a length.
+#[tactic(auto, unfolding(crate::specs::steps::Index::part))]
 fn part_of(offset: u32, shift: u32, size: usize) -> usize
     requires { (shift < 32) × (index_size ≤ size) }
     ensures { (result ≡ part size shift offset) × (result ≤ parts size) }
 {
-    let past = size - 2;
-    let found = (offset >> shift) as usize;
-    if found < past {
-        return found;
-    }
-    past
+    ((offset >> shift) as usize).min(size - 2)
 }
 
 // Writes `value` into the entries from `next` up to `to`. The first entry that is not written yet.
@@ -91,12 +92,10 @@ fn fill(index: &mut [u32], next: usize, to: usize, value: u32) -> usize
     requires { to ≤ length index.old }
     ensures { Marked index.old index.new next to value result }
 {
-    let mut p = next;
-    while p < to {
-        index[p] = value;
-        p += 1;
+    if next < to {
+        index[next..to].fill(value);
     }
-    p
+    next.max(to)
 }
 
 // Marks offset number `i`, the offsets before it being marked: the entries from `next` up to its own part count those. The first entry that is left.
@@ -117,14 +116,6 @@ pub fn close(index: &mut [u32], next: usize, n: usize) -> usize
     fill(index, next, size, n as u32)
 }
 
-// How many offsets lie in the parts before part `p`.
-fn count_at(index: &[u32], p: usize) -> usize
-    requires { p < length index.now }
-    ensures { result ≡ get_or index.now p 0 }
-{
-    index[p] as usize
-}
-
 // Between which of the `n` offsets a search for an offset starts: between all of them where there is no index, an empty slice.
 pub fn narrow(index: &[u32], shift: u32, n: usize, offset: u32) -> Span
     requires { shift < 32 }
@@ -135,7 +126,7 @@ pub fn narrow(index: &[u32], shift: u32, n: usize, offset: u32) -> Span
     }
     let own = part_of(offset, shift, index.len());
     Span {
-        low: count_at(index, own),
-        high: count_at(index, own + 1),
+        low: index[own] as usize,
+        high: index[own + 1] as usize,
     }
 }

@@ -1,5 +1,5 @@
 -- A coarse index into n rising offsets `key`: for each part how many of them lie before it.
-use Rattle.std.specs.Prelude.{◌≡◌, List, ℕ, ◌+◌, ◌-◌, ◌/◌, ◌^◌, ◌≤◌, ◌<◌, min, max, length, get_or}
+use Rattle.std.specs.Prelude.{◌≡◌, Bool, true, false, List, ℕ, ◌+◌, ◌-◌, ◌/◌, ◌^◌, ◌≤◌, ◌<◌, min, max, length, get_or}
 
 -- the entries of an index, at least, and of a large one; what an entry can count
 abbrev pub index_size : ℕ
@@ -61,3 +61,10 @@ pub record Around (key : ℕ → ℕ) (n offset low high : ℕ) : Type 0 where
   pub within : high ≤ n
   pub under : (j : ℕ) → j < low → key j < offset
   pub above : (j : ℕ) → high ≤ j → j < n → offset < key j
+
+-- where the answers to a test turn from true to false, from `low` to `high`: the last number before it was answered true, the first from it on false
+pub record Parted (answered : ℕ → Bool → Type 0) (low high r : ℕ) : Type 0 where
+  pub first : low ≤ r
+  pub last : r ≤ high
+  pub before : low < r → answered (r - 1) true
+  pub after : r < high → answered r false
