@@ -10,9 +10,7 @@ use lib.Seq.{length-take-le, take-take}
 use borrow.Author.Tests.{ne_eqb}
 use Rattle.seqs.specs.Over.{over}
 use Rattle.words.specs.Words.{word_at}
-use Rattle.fields.specs.declared.Decoded.{Decoded}
-use Rattle.fields.specs.declared.Decoded.TheVariants.{Use, Unsupported, Unknown}
-use Rattle.fields.specs.Kinds.{decoded}
+use Rattle.fields.specs.Kinds.{Decoded, Use, Unsupported, Unknown, decoded}
 use Rattle.relax.specs.declared.LayoutEvent.{LayoutEvent}
 use Rattle.relax.specs.declared.Segment.{Segment}
 use Rattle.relax.specs.Events.{event_at, end_of, no_event}

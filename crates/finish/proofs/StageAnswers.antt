@@ -16,10 +16,8 @@ use Rattle.seqs.proofs.Overwrites.{length_over}
 use Rattle.seqs.proofs.Picking.{no_eq, yes_eq, passed, neither}
 use Rattle.seqs.proofs.Scans.{each_none}
 use Rattle.words.specs.Words.{word_at, over_words}
-use Rattle.fields.specs.declared.Decoded.{Decoded}
-use Rattle.fields.specs.declared.Decoded.TheVariants.{Use, Unsupported, Unknown}
 use Rattle.fields.specs.Words64.{plus, minus, sign_extend}
-use Rattle.fields.specs.Kinds.{decoded}
+use Rattle.fields.specs.Kinds.{Decoded, Use, Unsupported, Unknown, decoded}
 use Rattle.relax.specs.declared.LayoutEvent.{LayoutEvent}
 use Rattle.relax.specs.declared.Segment.{Segment}
 use Rattle.relax.specs.Events.{event_at}

@@ -4,10 +4,8 @@ use Rattle.std.specs.Prelude.{Bool, true, not, ◌&&◌, ◌||◌, List, [], ◌
 use Rattle.refusals.specs.Numbers as refusals
 use Rattle.seqs.specs.Every.{every}
 use Rattle.seqs.specs.Pick.{pick, first, or_else}
-use Rattle.fields.specs.declared.Decoded.{Decoded}
-use Rattle.fields.specs.declared.Decoded.TheVariants.{Use, Unsupported, Unknown}
 use Rattle.fields.specs.Words64.{plus, minus, sign_extend}
-use Rattle.fields.specs.Kinds.{decoded}
+use Rattle.fields.specs.Kinds.{Decoded, Use, Unsupported, Unknown, decoded}
 use Rattle.fields.specs.Reach.{can_reach_delta}
 use Rattle.relax.specs.declared.LayoutEvent.{LayoutEvent}
 use Rattle.relax.specs.Events.{end_of, start_of}
