@@ -1,5 +1,5 @@
 -- Types: which numbers are one, and that every kind's is.
-use Rattle.std.proofs.Common.{◌≡◌, ℕ, ◌+◌, ◌<◌, ◌≤◌, Bool, true, false, ◌&&◌, ◌||◌, eqb, ltb, ◌≢◌, ◌⊎◌, List, length, get_or, sym, refl, ◌∙◌, subst, inl, inr, ⊎_elim, arith, ltb-true, ne_eqb}
+use Rattle.std.proofs.Common.{◌≡◌, ℕ, ◌<◌, ◌≤◌, Bool, true, false, ◌&&◌, ◌||◌, eqb, ltb, ◌≢◌, ap, List, length, get_or, sym, refl, ◌∙◌, subst, ⊎_elim, arith, ltb-true, ne_eqb}
 use lib.ListN.{get_or-eq_default}
 use Rattle.seqs.specs.Every.{every}
 use Rattle.seqs.proofs.Booleans.{both_true, true_is_not_false}
@@ -9,48 +9,41 @@ use Rattle.seqs.proofs.Picking.{yes_eq, no_eq}
 use Rattle.fields.specs.Kinds.{arch_x64, arch_a64}
 use Rattle.elf.specs.Elf.{no_type, x64_types, a64_types, elf_type_of, type_listed}
 
--- a number is one of the types if it equals one
-pub listed : {t : ℕ} (k : ℕ) → type_listed k ≡ true → t ≡ k → true ≡ type_listed t
-listed k h e = rw e (sym h)
-
-pub one_of_two : (k t : ℕ) → k ≤ t → t < k + 2 → (t ≡ k) ⊎ (t ≡ k + 1)
-one_of_two k t l h = ⊎_elim (λ (e : t ≡ k). inl e) (λ (n : t ≢ k). inr (omega arith)) (eq_or_ne t k)
-
--- and none if it differs from all eleven
-pub record Differs (t : ℕ) : Type 0 where
-  pub r_64 : t ≢ 1
-  pub r_pc32 : t ≢ 2
-  pub r_plt32 : t ≢ 4
-  pub r_gotpcrel : t ≢ 9
-  pub r_32 : t ≢ 10
-  pub r_tlsgd : t ≢ 19
-  pub r_abs64 : t ≢ 257
-  pub r_abs32 : t ≢ 258
-  pub r_adr_prel_pg_hi21 : t ≢ 275
-  pub r_add_abs_lo12_nc : t ≢ 277
-  pub r_call26 : t ≢ 283
-
-pub unlisted : {t : ℕ} → Differs t → false ≡ type_listed t
+-- A number that differs from all eleven is no type.
+pub unlisted : {t : ℕ} → t ≢ 1 → t ≢ 2 → t ≢ 4 → t ≢ 9 → t ≢ 10 → t ≢ 19 → t ≢ 257 → t ≢ 258 → t ≢ 275 → t ≢ 277 → t ≢ 283 → false ≡ type_listed t
 unfolding type_listed every
-unlisted {t} d =
+unlisted {t} r_64 r_pc32 r_plt32 r_gotpcrel r_32 r_tlsgd r_abs64 r_abs32 r_page r_low12 r_call26 =
     ⊎_elim
     (λ (z : t ≡ 0). rw z)
     (λ (n : t ≢ 0).
     rw (
       ne_eqb t 0 n,
-      ne_eqb t 1 d.r_64,
-      ne_eqb t 2 d.r_pc32,
-      ne_eqb t 4 d.r_plt32,
-      ne_eqb t 9 d.r_gotpcrel,
-      ne_eqb t 10 d.r_32,
-      ne_eqb t 19 d.r_tlsgd,
-      ne_eqb t 257 d.r_abs64,
-      ne_eqb t 258 d.r_abs32,
-      ne_eqb t 275 d.r_adr_prel_pg_hi21,
-      ne_eqb t 277 d.r_add_abs_lo12_nc,
-      ne_eqb t 283 d.r_call26,
+      ne_eqb t 1 r_64,
+      ne_eqb t 2 r_pc32,
+      ne_eqb t 4 r_plt32,
+      ne_eqb t 9 r_gotpcrel,
+      ne_eqb t 10 r_32,
+      ne_eqb t 19 r_tlsgd,
+      ne_eqb t 257 r_abs64,
+      ne_eqb t 258 r_abs32,
+      ne_eqb t 275 r_page,
+      ne_eqb t 277 r_low12,
+      ne_eqb t 283 r_call26,
     ))
     (eq_or_ne t 0)
+
+-- and one that does not is one
+pub listed : {t : ℕ} → (t ≢ 1 → t ≢ 2 → t ≢ 4 → t ≢ 9 → t ≢ 10 → t ≢ 19 → t ≢ 257 → t ≢ 258 → t ≢ 275 → t ≢ 277 → t ≢ 283 → ⊥) → true ≡ type_listed t
+unfolding type_listed every
+listed {t} h = by (type_listed t) refl
+  where
+    apart : (k : ℕ) → type_listed t ≡ false → type_listed k ≡ true → t ≢ k
+    apart k none type e = true_is_not_false (sym type ∙ ap type_listed (sym e) ∙ none)
+
+    by : (b : Bool) → type_listed t ≡ b → true ≡ b
+    by true e = refl
+    by false e =
+        absurd (h (apart 1 e refl) (apart 2 e refl) (apart 4 e refl) (apart 9 e refl) (apart 10 e refl) (apart 19 e refl) (apart 257 e refl) (apart 258 e refl) (apart 275 e refl) (apart 277 e refl) (apart 283 e refl))
 
 -- A row of a table is no type, or a listed one; either way a word.
 abbrev row : ℕ → Bool

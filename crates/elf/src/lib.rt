@@ -1,9 +1,10 @@
 // A finished record's relocations as ELF's Elf64_Rela entries, for the system's linker, and back.
 #![tactic(auto)]
 
-ghost use Rattle.std.specs.Prelude.{◌≡◌};
+ghost use Rattle.std.specs.Prelude.{◌≡◌, ◌+◌, ◌*◌, ◌≤◌, length};
+ghost use Rattle.recording.specs.View.{reloc_at};
 ghost use Rattle.refusals.specs.Answers.{answer_of};
-ghost use Rattle.elf.specs.Elf.{write_relas, read_relas};
+ghost use Rattle.elf.specs.Elf.{rela_size, rela_at, write_relas, read_relas};
 
 use finish::CodeBufferFinalized;
 use refusals::Refusal;
@@ -24,6 +25,15 @@ pub struct Rela {
     pub elf_type: u32,
     pub symbol: u32,
     pub addend: u64,
+}
+
+// The addend of entry `i`: of an Elf64_Rela, or of a relocation as the tables have it, which is of six words with the addend last too.
+fn addend_at(entries: &[u8], i: usize) -> u64
+    requires { i * rela_size + rela_size ≤ length entries.now }
+    ensures { (result ≡ (rela_at entries.now i).addend) × (result ≡ (reloc_at entries.now i).addend) }
+{
+    let k = i * RELA_WORDS;
+    words::word_at(entries, k + 4) as u64 + words::word_at(entries, k + 5) as u64 * 4294967296
 }
 
 // Writes an entry for each relocation to `output`, in recorded order. `labels` and `relocs` are the tables that finish left with the record; a label

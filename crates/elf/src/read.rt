@@ -6,7 +6,7 @@ ghost use Rattle.buffer.specs.Tables.{reloc_size};
 ghost use Rattle.refusals.specs.Answers.{answer_of};
 ghost use Rattle.elf.specs.Elf.{rela_size, rela_at, readable, relas_fit, why_not_read, words_of_entries};
 
-use crate::{RELA_SIZE, RELA_WORDS, Rela, types};
+use crate::{RELA_SIZE, RELA_WORDS, Rela, addend_at, types};
 use refusals::Refusal;
 
 // Whether entry `i` has an offset of 32 bits, and a type that is listed.
@@ -15,10 +15,7 @@ fn is_readable(relas: &[u8], i: usize) -> bool
     ensures { result ≡ readable relas.now i }
 {
     let k = i * RELA_WORDS;
-    if words::word_at(relas, k + 1) != 0 {
-        return false;
-    }
-    types::is_listed(words::word_at(relas, k + 2))
+    words::word_at(relas, k + 1) == 0 && types::is_listed(words::word_at(relas, k + 2))
 }
 
 fn all_readable(relas: &[u8], n: usize) -> bool
@@ -31,10 +28,7 @@ fn all_readable(relas: &[u8], n: usize) -> bool
 fn relas_fit(relas: &[u8]) -> bool
     ensures { result ≡ relas_fit relas.now }
 {
-    if relas.len() % RELA_SIZE != 0 {
-        return false;
-    }
-    all_readable(relas, relas.len() / RELA_SIZE)
+    relas.len() % RELA_SIZE == 0 && all_readable(relas, relas.len() / RELA_SIZE)
 }
 
 // `room` is how many entries the table has room for.
@@ -62,8 +56,7 @@ fn rela_at(relas: &[u8], i: usize) -> Rela
         offset: words::word_at(relas, k),
         elf_type: words::word_at(relas, k + 2),
         symbol: words::word_at(relas, k + 3),
-        addend: words::word_at(relas, k + 4) as u64
-            + words::word_at(relas, k + 5) as u64 * 4294967296,
+        addend: addend_at(relas, i),
     }
 }
 
@@ -73,8 +66,7 @@ pub fn put_entries(table: &mut [u8], relas: &[u8], n: usize)
     requires relas_within { n * rela_size ≤ length relas.now }
     ensures { table.new ≡ over_words table.old (words_of_entries relas.now n) }
 {
-    let mut i: usize = 0;
-    while i < n {
+    for i in 0..n {
         let rela = rela_at(relas, i);
         buffer::relocs::put_reloc(
             table,
@@ -84,6 +76,5 @@ pub fn put_entries(table: &mut [u8], relas: &[u8], n: usize)
             rela.symbol,
             rela.addend,
         );
-        i += 1;
     }
 }

@@ -2,7 +2,7 @@
 ghost use Rattle.std.specs.Prelude.{◌≡◌, slice_index_or};
 ghost use Rattle.elf.specs.Elf.{no_type, x64_types, a64_types, elf_type_of, has_types, type_listed};
 
-// No type: R_X86_64_NONE, R_AARCH64_NONE.
+// No type: R_X86_64_NONE, R_AARCH64_NONE. A number and no Option: it is ELF's own, and the definition `elf_type_of` gives it.
 pub const NO_TYPE: u32 = 0;
 
 // The type of a kind on X64.
@@ -30,40 +30,30 @@ fn x64_type(kind: u32) -> u32
 fn aarch64_type(kind: u32) -> u32
     ensures { result ≡ slice_index_or a64_types kind no_type }
 {
-    // Abs4: R_AARCH64_ABS32
-    if kind == 0 {
-        return 258;
+    match kind {
+        // Abs4: R_AARCH64_ABS32
+        0 => 258,
+        // Abs8: R_AARCH64_ABS64
+        1 => 257,
+        // Arm64Call: R_AARCH64_CALL26
+        8 => 283,
+        // Aarch64AdrPrelPgHi21: R_AARCH64_ADR_PREL_PG_HI21
+        19 => 275,
+        // Aarch64AddAbsLo12Nc: R_AARCH64_ADD_ABS_LO12_NC
+        20 => 277,
+        _ => NO_TYPE,
     }
-    // Abs8: R_AARCH64_ABS64
-    if kind == 1 {
-        return 257;
-    }
-    // Arm64Call: R_AARCH64_CALL26
-    if kind == 8 {
-        return 283;
-    }
-    // Aarch64AdrPrelPgHi21: R_AARCH64_ADR_PREL_PG_HI21
-    if kind == 19 {
-        return 275;
-    }
-    // Aarch64AddAbsLo12Nc: R_AARCH64_ADD_ABS_LO12_NC
-    if kind == 20 {
-        return 277;
-    }
-    NO_TYPE
 }
 
 // The type of a kind, or `NO_TYPE`.
 pub fn elf_type(arch: u32, kind: u32) -> u32
     ensures { result ≡ elf_type_of arch kind }
 {
-    if arch == fields::X64 {
-        return x64_type(kind);
+    match arch {
+        fields::X64 => x64_type(kind),
+        fields::AARCH64 => aarch64_type(kind),
+        _ => NO_TYPE,
     }
-    if arch == fields::AARCH64 {
-        return aarch64_type(kind);
-    }
-    NO_TYPE
 }
 
 // Whether the architecture has types.
@@ -74,6 +64,7 @@ pub fn has_types(arch: u32) -> bool
 }
 
 // Whether a type stands in one of the two tables.
+#[tactic(auto, using(crate::proofs::Listed::unlisted, crate::proofs::Listed::listed))]
 pub fn is_listed(elf_type: u32) -> bool
     ensures { result ≡ type_listed elf_type }
 {

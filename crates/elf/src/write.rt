@@ -10,7 +10,7 @@ ghost use Rattle.checks.specs.steps.Handed.{TargetsNamed};
 ghost use Rattle.refusals.specs.Answers.{answer_of};
 ghost use Rattle.elf.specs.Elf.{rela_size, target_bound, all_targets_bound, target_offset, rela_of, leaves_signed, why_no_rela, why_no_relas, relocs_fit, within_limits, why_unfit, why_not_written, words_of_rela, words_of_relas};
 
-use crate::{RELA_SIZE, RELA_WORDS, Rela, types};
+use crate::{RELA_SIZE, RELA_WORDS, Rela, addend_at, types};
 use finish::CodeBufferFinalized;
 use refusals::Refusal;
 
@@ -22,14 +22,9 @@ fn is_target_bound(labels: &[u8], count: u32, target: u32) -> bool
     requires { count * label_size ≤ length labels.now }
     ensures { result ≡ target_bound labels.now count target }
 {
-    if target < buffer::LABEL_TARGET {
-        return true;
-    }
-    let label = target - buffer::LABEL_TARGET;
-    if count <= label {
-        return false;
-    }
-    words::word_at(labels, label as usize) != buffer::NONE
+    target < buffer::LABEL_TARGET
+        || target - buffer::LABEL_TARGET < count
+            && words::word_at(labels, (target - buffer::LABEL_TARGET) as usize) != buffer::NONE
 }
 
 fn all_targets_bound(labels: &[u8], count: u32, relocs: &[u8], n: usize) -> bool
@@ -49,27 +44,17 @@ fn target_offset(labels: &[u8], target: u32) -> u32
     ensures { result ≡ target_offset labels.now target }
 {
     if target < buffer::LABEL_TARGET {
-        return 0;
+        0
+    } else {
+        words::word_at(labels, (target - buffer::LABEL_TARGET) as usize)
     }
-    words::word_at(labels, (target - buffer::LABEL_TARGET) as usize)
-}
-
-fn addend_at(relocs: &[u8], i: usize) -> u64
-    requires { i * reloc_size + reloc_size ≤ length relocs.now }
-    ensures { result ≡ (reloc_at relocs.now i).addend }
-{
-    let k = i * buffer::RELOC_WORDS;
-    words::word_at(relocs, k + 4) as u64 + words::word_at(relocs, k + 5) as u64 * 4294967296
 }
 
 // Whether the sum leaves signed 64 bits.
 fn leaves_signed(addend: u64, offset: u32) -> bool
     ensures { result ≡ leaves_signed addend offset }
 {
-    if addend < FIRST_NEGATIVE {
-        return FIRST_NEGATIVE <= addend + offset as u64;
-    }
-    false
+    addend < FIRST_NEGATIVE && FIRST_NEGATIVE <= addend + offset as u64
 }
 
 // 24 and 25, of entry `i`.
@@ -104,13 +89,9 @@ fn why_no_relas(arch: u32, labels: &[u8], relocs: &[u8], n: usize) -> Result<(),
 fn relocs_fit(code: CodeBufferFinalized, labels: &[u8], relocs: &[u8]) -> bool
     ensures { result ≡ relocs_fit code labels.now relocs.now }
 {
-    if labels.len() / buffer::LABEL_SIZE < code.labels as usize {
-        return false;
-    }
-    if relocs.len() / buffer::RELOC_SIZE < code.relocs as usize {
-        return false;
-    }
-    all_targets_bound(labels, code.labels, relocs, code.relocs as usize)
+    code.labels as usize <= labels.len() / buffer::LABEL_SIZE
+        && code.relocs as usize <= relocs.len() / buffer::RELOC_SIZE
+        && all_targets_bound(labels, code.labels, relocs, code.relocs as usize)
 }
 
 fn within_limits(labels: &[u8], relocs: &[u8]) -> bool
@@ -158,9 +139,10 @@ fn symbol_of(target: u32, section: u32) -> u32
     ensures { result ≡ pick (nat_lt target label_target) target section }
 {
     if target < buffer::LABEL_TARGET {
-        return target;
+        target
+    } else {
+        section
     }
-    section
 }
 
 // Relocation `i` as an entry.

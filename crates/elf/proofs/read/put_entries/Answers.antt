@@ -1,13 +1,10 @@
 -- `put_entries` meets its contract: after i turns the first i entries stand in the table.
-use Rattle.std.proofs.Common.{◌≡◌, ℕ, length, sym, refl, ap, ◌∙◌, arith}
+use Rattle.std.proofs.Common.{ℕ, length, sym, refl, ap, ◌∙◌, arith}
 use Rattle.seqs.proofs.Overwrites.{length_over, over_nil}
 use Rattle.words.specs.Words.{bytes_of_all}
 use Rattle.elf.specs.Elf.{rela_at, words_of_entry, words_of_entries}
 use Rattle.elf.proofs.Entries.{put_one, six_over}
 use Rattle.elf.proofs.read.put_entries.Goals as goal
-
-pub rela_at-rela-requires : goal.rela_at-rela-requires
-rela_at-rela-requires c = omega arith
 
 pub loop-i-init : goal.loop-i-init
 loop-i-init c = (omega arith, sym (over_nil _ 0))
@@ -28,7 +25,3 @@ pub shape_of-table : goal.shape_of-table
 shape_of-table c =
     let a = c.args in
     ap length c.loop-i.invariant.1 ∙ length_over a.table.now 0 (bytes_of_all (words_of_entries a.relas.now c.loop-i.i))
-
-pub returns : goal.returns
-returns c =
-    let all : c.loop-i.i ≡ c.args.n = omega arith in rw all at c.loop-i.invariant.1

@@ -1,20 +1,17 @@
 -- `elf_type` meets its contract, architecture by architecture.
-use Rattle.std.proofs.Common.{sym, ◌∙◌}
-use Rattle.seqs.proofs.Picking.{yes_eq, no_eq}
+use Rattle.std.proofs.Common.{rules}
+use Rattle.seqs.proofs.Picking.{picks}
 use Rattle.elf.specs.Elf.{elf_type_of}
 use Rattle.elf.proofs.types.elf_type.Goals as goal
 
-pub returns-then-arch-eq-X64 : goal.returns-then-arch-eq-X64
+pub returns-in-2 : goal.returns-in-2
 unfolding elf_type_of
-returns-then-arch-eq-X64 c =
-    c.x64_type.ensures ∙ sym (yes_eq _ 2 _ _ c.if-arch-eq-X64.true)
+returns-in-2 c = search (rules, picks)
 
-pub returns-then-arch-eq-AARCH64 : goal.returns-then-arch-eq-AARCH64
+pub returns-in-6 : goal.returns-in-6
 unfolding elf_type_of
-returns-then-arch-eq-AARCH64 c =
-    c.aarch64_type.ensures ∙ sym (no_eq _ 2 _ _ c.if-arch-eq-X64.false ∙ yes_eq _ 6 _ _ c.if-arch-eq-AARCH64.true)
+returns-in-6 c = search (rules, picks)
 
-pub returns : goal.returns
+pub returns-in_default : goal.returns-in_default
 unfolding elf_type_of
-returns c =
-    sym (no_eq _ 2 _ _ c.if-arch-eq-X64.false ∙ no_eq _ 6 _ _ c.if-arch-eq-AARCH64.false)
+returns-in_default c = search (rules, picks)

@@ -1,5 +1,5 @@
 -- `put_relas` meets its contract: after i turns the first i entries stand in the output.
-use Rattle.std.proofs.Common.{◌≡◌, ℕ, List, length, sym, refl, ap, ◌∙◌, arith}
+use Rattle.std.proofs.Common.{ℕ, List, length, sym, refl, ap, ◌∙◌, arith}
 use Rattle.seqs.proofs.Overwrites.{length_over, over_nil}
 use Rattle.words.specs.Words.{bytes_of_all}
 use Rattle.recording.specs.View.{reloc_at}
@@ -32,7 +32,3 @@ shape_of-output c =
     let a = c.args in
     let words = words_of_relas a.arch a.labels.now a.section a.relocs.now c.loop-i.i in
     ap length c.loop-i.invariant.1 ∙ length_over a.output.now 0 (bytes_of_all words)
-
-pub returns : goal.returns
-returns c =
-    let all : c.loop-i.i ≡ c.args.n = omega arith in rw all at c.loop-i.invariant.1
