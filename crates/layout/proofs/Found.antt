@@ -1,5 +1,5 @@
 -- A label found once: the last event that starts at or before it says, under every choice, where `map` takes it.
-use mathlib.Core.Path.{◌≡◌, refl, sym, ◌∙◌, ap}
+use mathlib.Core.Path.{◌≡◌, sym, ◌∙◌, ap}
 use mathlib.Core.Logic.{◌≢◌}
 use mathlib.Core.List.{List, []}
 use Prim.Native.Nat.{ℕ, zero, suc, ◌+◌, ◌-◌, ◌≤◌, ◌<◌}
@@ -21,7 +21,7 @@ use Rattle.fresh.proofs.Events.{starts_rise}
 use Rattle.fresh.proofs.Loops.{length_segments, segments_get_d, after_suc, after_start_lem, decided_skip, decided_last}
 use Rattle.pool.specs.steps.Pool.{offset_bound}
 use Rattle.layout.specs.steps.Layout.{zero_segment, start_at, Sorted, Between}
-use Rattle.layout.specs.steps.Targets.{end_in, Stands, Shown, Finds}
+use Rattle.layout.specs.steps.Targets.{end_in, old_end_before, Stands, Shown, Finds}
 
 -- An unbound label stays unbound.
 pub finds_none : (es : List LayoutEvent) (t : ℕ) → t ≡ none → Finds es t 0 t
@@ -60,6 +60,9 @@ module _ {es : List LayoutEvent} {ss : List Segment} {events : List ℕ} {n all 
     );
     room = omega (arith, shown.fits);
   }
+
+  pub ends_stand : (k : ℕ) → k ≤ all → 0 < k → Stands ss events n (k - 1)
+  ends_stand k h some = end_stands (k - 1) (omega arith)
 
   module _ {t : ℕ} (bound : t ≢ none) where
     late : (k : ℕ) → Between ss all t k k → (c : Choice) (j : ℕ) → k ≤ j → j < length (segments 0 0 es c) → t < (get_or (segments 0 0 es c) j zero_segment).old_start
@@ -146,33 +149,33 @@ module _ {es : List LayoutEvent} {ss : List Segment} {events : List ℕ} {n all 
           ap (λ (x : Cursor). x.old) (after_suc es 0 0 [] k (omega arith)),
         )
 
-    -- The same, as the search finds it: `found` events start at or before the label.
+    -- The same, as the search finds it: `begun` events start at or before the label.
     module _ (small : t ≤ offset_bound) where
-      pub locates_past : (found : ℕ) → Between ss all t found found → found ≢ 0 → (end : ℕ) → end ≡ end_in ss events n (found - 1) → end ≤ t → Finds es t found (t - end)
-      locates_past zero b some end e h = absurd (some refl)
-      locates_past (suc k) b some end e h =
-          let z : suc k - 1 ≡ k = omega arith in
-          finds_past b small end ((rw z at e) ∙ end_shown k (omega (arith, b.within))) h
+      -- All of them end at or before it.
+      pub locates : (begun : ℕ) → Between ss all t begun begun → (end : ℕ) → end ≡ old_end_before ss events n begun → end ≤ t → Finds es t begun (t - end)
+      locates zero b end e h = let z : t - end ≡ t = omega (arith, e) in rw z (finds_first small b)
+      locates (suc k) b end e h = finds_past b small end (e ∙ end_shown k (omega (arith, b.within))) h
 
-      pub locates_inside_first : (found : ℕ) → Between ss all t found found → found ≡ 1 → (end : ℕ) → end ≡ end_in ss events n (found - 1) → t < end → Finds es t 0 t
-      locates_inside_first found b one end e h =
-          let b' = rw one at b in
-          let z : found - 1 ≡ 0 = omega (arith, one) in
-          finds_inside_first small b' (omega (arith, (rw z at e) ∙ end_shown 0 (omega (arith, b'.within))))
+      -- The last of them holds it.
+      module _ (begun : ℕ) (b : Between ss all t begun begun) (end : ℕ) (e : end ≡ old_end_before ss events n begun) (h : t < end) where
+        pub some_begun : 0 < begun
+        some_begun = some begun e
+          where
+            some : (k : ℕ) → end ≡ old_end_before ss events n k → 0 < k
+            some zero z = absurd (omega arith)
+            some (suc k) z = omega arith
 
-      pub locates_inside : (found : ℕ) → Between ss all t found found → found ≢ 0 → found ≢ 1 → (end : ℕ) → end ≡ end_in ss events n (found - 1) → t < end
-          → (before : ℕ) → before ≡ end_in ss events n (found - 2) → Finds es t (found - 1) (t - before)
-      locates_inside zero b some more end e h before f = absurd (some refl)
-      locates_inside (suc zero) b some more end e h before f = absurd (more refl)
-      locates_inside (suc (suc k)) b some more end e h before f =
-          let z : suc (suc k) - 1 ≡ suc k = omega arith in
-          let y : suc (suc k) - 2 ≡ k = omega arith in
-          let passed = finds_inside b (omega (arith, (rw z at e) ∙ end_shown (suc k) (omega (arith, b.within)))) small before ((rw y at f) ∙ end_shown k (omega (arith, b.within))) in
-          rw z passed
+        located : (k : ℕ) → begun ≡ suc k → (before : ℕ) → before ≡ old_end_before ss events n k → (before ≤ t) × Finds es t k (t - before)
+        located zero z before f =
+            let b' = rw z at b in
+            let y : t - before ≡ t = omega (arith, f) in
+            (omega (arith, f), rw y (finds_inside_first small b' (omega (arith, (rw z at e) ∙ end_shown 0 (omega (arith, b'.within))))))
+        located (suc k) z before f =
+            let b' = rw z at b in
+            let g : before ≡ end_of (get_or es k no_event) = f ∙ end_shown k (omega (arith, b'.within)) in (
+              omega (arith, passed_under b', g),
+              finds_inside b' (omega (arith, (rw z at e) ∙ end_shown (suc k) (omega (arith, b'.within)))) small before g,
+            )
 
-      pub passes_under : (found : ℕ) → Between ss all t found found → found ≢ 0 → found ≢ 1 → (before : ℕ) → before ≡ end_in ss events n (found - 2) → before ≤ t
-      passes_under zero b some more before f = absurd (some refl)
-      passes_under (suc zero) b some more before f = absurd (more refl)
-      passes_under (suc (suc k)) b some more before f =
-          let y : suc (suc k) - 2 ≡ k = omega arith in
-          omega (arith, passed_under b, (rw y at f) ∙ end_shown k (omega (arith, b.within)))
+        pub locates_before : (before : ℕ) → before ≡ old_end_before ss events n (begun - 1) → (before ≤ t) × Finds es t (begun - 1) (t - before)
+        locates_before before f = located (begun - 1) (omega (arith, some_begun)) before f

@@ -1,6 +1,6 @@
 -- A round's scan, event by event.
 use mathlib.Core.Path.{◌≡◌, refl, sym, ◌∙◌, ap}
-use mathlib.Core.Bool.{Bool, true, false, ◌||◌, or-true, or-false}
+use mathlib.Core.Bool.{Bool, true, false, ◌||◌, or-true, or-false, and-false}
 use mathlib.Core.List.{List}
 use Prim.Native.Nat.{ℕ, ◌+◌, ◌<◌}
 use native.Mathlib.Omega.{arith}
@@ -10,11 +10,13 @@ use lib.Seq.{take_all, set-get_or, length-take-le}
 use Rattle.seqs.specs.Over.{over}
 use Rattle.seqs.proofs.Overwrites.{over_nil, over_copy, get_d_over_after}
 use Rattle.relax.specs.declared.Segment.{Segment}
+use Rattle.relax.specs.Events.{event_at}
 use Rattle.fresh.specs.Fresh.{Choice}
 use Rattle.fresh.specs.Rounds.{any, join}
 use Rattle.fresh.proofs.Choices.{length_join, join_get_d, any_suc}
 use Rattle.recording.proofs.Views.{length_entries, get_d_entries}
-use Rattle.layout.specs.steps.Targets.{is_missed_at, missed}
+use Rattle.layout.specs.steps.Layout.{zero_segment}
+use Rattle.layout.specs.steps.Targets.{is_missed, is_missed_at, missed}
 
 -- the scan has passed i events, f being those that it lengthens
 pub record Scanned (f c : Choice) (i : ℕ) (long : Choice) (grew : Bool) : Type 0 where
@@ -53,21 +55,28 @@ module _ (ss : List Segment) (events : List ℕ) (n : ℕ) (c : Choice) where
   count : length (missed ss events c n) ≡ n
   count = length_entries (λ (i : ℕ). is_missed_at ss events (get_or c i false) i) n
 
-  module _ (i : ℕ) (long : Choice) (grew : Bool) (q : Scanned (missed ss events c n) c i long grew) (h : i < n) (r : Bool)
-      (e : r ≡ is_missed_at ss events (get_or long i false) i) where
-    said : get_or (missed ss events c n) i false ≡ r
+  module _ {i : ℕ} {long : Choice} {grew : Bool} (q : Scanned (missed ss events c n) c i long grew) (h : i < n) where
+    said : get_or (missed ss events c n) i false ≡ is_missed_at ss events (get_or long i false) i
     said =
         get_d_entries (λ (j : ℕ). is_missed_at ss events (get_or c j false) j) n i false h
-        ∙ (rw (← scanned_at _ c i long grew q (omega (arith, count))) (sym e))
+        ∙ rw (← scanned_at _ c i long grew q (omega (arith, count))) refl
 
-    pub scan_mark : (long' : Choice) (grew' : Bool) → r ≡ true → long' ≡ set long i true → grew' ≡ true → Scanned (missed ss events c n) c (i + 1) long' grew'
-    scan_mark long' grew' t a b = rw (a, b) (scanned_mark _ c i long grew q (omega (arith, count)) (said ∙ t))
+    -- A short one that does not reach,
+    pub scan_mark : {r : Bool} {long' : Choice} {grew' : Bool} → get_or long i false ≡ false → r ≡ is_missed ss (event_at events i) (get_or ss i zero_segment) → r ≡ true
+        → long' ≡ set long i true → grew' ≡ true → Scanned (missed ss events c n) c (i + 1) long' grew'
+    scan_mark s e t a b = rw (a, b) (scanned_mark _ c i long grew q (omega (arith, count)) (said ∙ rw (s, ← e) t))
 
-    pub scan_keep : (long' : Choice) (grew' : Bool) → r ≡ false → long' ≡ long → grew' ≡ grew → Scanned (missed ss events c n) c (i + 1) long' grew'
-    scan_keep long' grew' t a b = rw (a, b) (scanned_keep _ c i long grew q (omega (arith, count)) (said ∙ t))
+    -- an event that does,
+    pub scan_near : {r : Bool} {long' : Choice} {grew' : Bool} → r ≡ is_missed ss (event_at events i) (get_or ss i zero_segment) → r ≡ false → long' ≡ long → grew' ≡ grew
+        → Scanned (missed ss events c n) c (i + 1) long' grew'
+    scan_near e t a b = rw (a, b) (scanned_keep _ c i long grew q (omega (arith, count)) (said ∙ rw (← e, t) (and-false _)))
 
-  pub scan_all : (long : Choice) (grew : Bool) → Scanned (missed ss events c n) c n long grew
+    -- and a long one.
+    pub scan_long : {long' : Choice} {grew' : Bool} → get_or long i false ≡ true → long' ≡ long → grew' ≡ grew → Scanned (missed ss events c n) c (i + 1) long' grew'
+    scan_long s a b = rw (a, b) (scanned_keep _ c i long grew q (omega (arith, count)) (said ∙ rw s refl))
+
+  pub scan_all : {long : Choice} {grew : Bool} → Scanned (missed ss events c n) c n long grew
       → (long ≡ over c 0 (join c (missed ss events c n))) × (grew ≡ any (missed ss events c n))
-  scan_all long grew q =
+  scan_all q =
       let f = missed ss events c n in
       (q.mixed ∙ ap (λ (l : Choice). over c 0 l) (take_all n (join c f) (omega (arith, length_join c f, count))), q.seen ∙ ap any (take_all n f (omega (arith, count))))

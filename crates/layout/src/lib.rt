@@ -2,7 +2,7 @@
 // asmkit's core/relax.rs (see NOTICE). The table is a lent slice of `Segment`; only `segment_at` and `put_segment` reach into it.
 #![tactic(auto)]
 
-ghost use Rattle.std.specs.Prelude.{◌≡◌, ◌≢◌, List, [], ℕ, ◌+◌, ◌*◌, ◌≤◌, ◌<◌, length, get_or, take, set};
+ghost use Rattle.std.specs.Prelude.{◌≡◌, ◌≢◌, List, [], ℕ, ◌+◌, ◌-◌, ◌*◌, ◌≤◌, ◌<◌, length, get_or, take, set};
 ghost use Rattle.seqs.specs.Over.{over};
 ghost use Rattle.words.specs.Words.{word_at};
 ghost use Rattle.lookup.specs.steps.Index.{index_size, most_keys, Indexed};
@@ -11,13 +11,13 @@ ghost use Rattle.relax.specs.Events.{event_at, event_size};
 ghost use Rattle.buffer.specs.State.{none};
 ghost use Rattle.buffer.specs.Tables.{most_entries, most_code};
 ghost use Rattle.recording.specs.View.{entries};
-ghost use Rattle.fresh.specs.Forms.{width};
+ghost use Rattle.fresh.specs.Forms.{width, role_of};
 ghost use Rattle.fresh.specs.Rounds.{any, join};
 ghost use Rattle.fresh.specs.Segments.{segment, image, map_offset};
 ghost use Rattle.fresh.specs.Segments as fresh;
 ghost use Rattle.fresh.specs.steps.Runs.{behind_of, ahead_of};
 ghost use Rattle.pool.specs.steps.Pool.{pool_start, pool_event, PoolFits, offset_bound};
-ghost use Rattle.layout.specs.steps.Targets.{in_reach, end_in, Stands, Shown, Finds, Aims, Aiming, SamePast, Placed, with_target, with_end, Ended, end_before, Adds, is_missed_at, missed};
+ghost use Rattle.layout.specs.steps.Targets.{in_reach, end_in, old_end_before, Stands, Shown, Finds, Aims, label_of, Aiming, held, SamePast, Placed, with_target, with_end, Ended, end_before, Adds, is_missed, missed};
 ghost use Rattle.layout.specs.steps.Layout.{zero_segment, start_at, Rising, Sorted, Between, Follows, Recorded, all_events, end_from, finished_length, Laid, Known, Labelled, Relaxed};
 
 use relax::{LayoutEvent, Segment};
@@ -52,11 +52,8 @@ fn fill_index(index: &mut [u32], shift: u32, segments: &[Segment], n: usize)
     ensures { Indexed index.new (start_at segments.now) n shift }
 {
     let mut next: usize = 0;
-    let mut i: usize = 0;
-    while i < n {
-        let segment = segment_at(segments, i);
-        next = lookup::mark(index, shift, next, i, segment.old_start);
-        i += 1;
+    for i in 0..n {
+        next = lookup::mark(index, shift, next, i, segment_at(segments, i).old_start);
     }
     lookup::close(index, next, n);
 }
@@ -100,9 +97,10 @@ fn place(segment: Segment, offset: u32) -> u32
     ensures { result ≡ image segment offset }
 {
     if offset < segment.old_end {
-        return offset - segment.old_start + segment.new_start;
+        offset - segment.old_start + segment.new_start
+    } else {
+        offset - segment.old_end + segment.new_end
     }
-    offset - segment.old_end + segment.new_end
 }
 
 // The new offset of what was recorded at an offset.
@@ -115,11 +113,10 @@ pub fn map(segments: &[Segment], n: usize, index: &[u32], shift: u32, offset: u3
     if offset == buffer::NONE {
         return offset;
     }
-    let found = find(segments, n, index, shift, offset);
-    if found == 0 {
-        return offset;
+    match find(segments, n, index, shift, offset) {
+        0 => offset,
+        found => place(segment_at(segments, found - 1), offset),
     }
-    place(segment_at(segments, found - 1), offset)
 }
 
 // How many bytes an event takes at the new offset `at`.
@@ -174,12 +171,10 @@ fn layout_events(segments: &mut [Segment], events: &[u8], long: &[bool], n: usiz
         new_start: 0,
         new_end: 0,
     };
-    let mut i: usize = 0;
-    while i < n {
+    for i in 0..n {
         let event = relax::event_at(events, i);
         last = next_segment(event, long[i], last.old_end, last.new_end);
         put_segment(segments, i, last);
-        i += 1;
     }
     last
 }
@@ -201,8 +196,7 @@ fn layout_pool(
 {
     let mut from = old;
     let mut to = new;
-    let mut j: usize = 0;
-    while j < m {
+    for j in 0..m {
         let size = pool::size_at(constants, asked, j);
         let multiple = pool::constant_alignment(size);
         let old_end = from + encoder::padding_len(from, multiple);
@@ -219,7 +213,6 @@ fn layout_pool(
         );
         from = old_end + size;
         to = new_end + size;
-        j += 1;
     }
     to
 }
@@ -246,35 +239,36 @@ pub fn layout(
     layout_pool(segments, constants, asked, n, m, code, new)
 }
 
-// How far behind the end of its short form an event reaches.
-fn behind_of(event: LayoutEvent) -> u32
-    ensures { result ≡ behind_of event }
-{
-    match event {
-        LayoutEvent::Jump(_) => 128,
-        LayoutEvent::Align(_) => 0,
-        LayoutEvent::Far(branch) => {
-            if branch.code == fields::BRANCH_14 {
-                32772
-            } else {
-                1048580
-            }
-        }
-    }
+// How far an event reaches from the end of its short form.
+#[derive(Clone, Copy)]
+struct Reach {
+    behind: u32,
+    ahead: u32,
 }
 
-// How far ahead of it.
-fn ahead_of(event: LayoutEvent) -> u32
-    ensures { result ≡ ahead_of event }
+fn reach_of(event: LayoutEvent) -> Reach
+    ensures { (result.behind ≡ behind_of event) × (result.ahead ≡ ahead_of event) }
 {
     match event {
-        LayoutEvent::Jump(_) => 127,
-        LayoutEvent::Align(_) => 0,
+        LayoutEvent::Jump(_) => Reach {
+            behind: 128,
+            ahead: 127,
+        },
+        LayoutEvent::Align(_) => Reach {
+            behind: 0,
+            ahead: 0,
+        },
         LayoutEvent::Far(branch) => {
             if branch.code == fields::BRANCH_14 {
-                32760
+                Reach {
+                    behind: 32772,
+                    ahead: 32760,
+                }
             } else {
-                1048568
+                Reach {
+                    behind: 1048580,
+                    ahead: 1048568,
+                }
             }
         }
     }
@@ -284,11 +278,9 @@ fn ahead_of(event: LayoutEvent) -> u32
 fn in_reach(event: LayoutEvent, end: u32, label: u32) -> bool
     ensures { result ≡ in_reach event end label }
 {
-    if end as u64 <= label as u64 + behind_of(event) as u64 {
-        label as u64 <= end as u64 + ahead_of(event) as u64
-    } else {
-        false
-    }
+    let reach = reach_of(event);
+    end as u64 <= label as u64 + reach.behind as u64
+        && label as u64 <= end as u64 + reach.ahead as u64
 }
 
 // The recorded end of event `i`: of the first `n` by their table, of the pool's alignments by their segment.
@@ -297,10 +289,21 @@ fn recorded_end(segments: &[Segment], events: &[u8], n: usize, i: usize) -> u32
     ensures { result ≡ end_in segments.now events.now n i }
 {
     if i < n {
-        return relax::event_end(relax::event_at(events, i)) as u32;
+        relax::event_end(relax::event_at(events, i)) as u32
+    } else {
+        segment_at(segments, i).old_end
     }
-    let segment = segment_at(segments, i);
-    segment.old_end
+}
+
+// The recorded end of the first `k` events.
+fn recorded_end_before(segments: &[Segment], events: &[u8], n: usize, k: usize) -> u32
+    requires { 0 < k → Stands segments.now events.now n (k - 1) }
+    ensures { result ≡ old_end_before segments.now events.now n k }
+{
+    match k {
+        0 => 0,
+        _ => recorded_end(segments, events, n, k - 1),
+    }
 }
 
 // Where the label of a jump is found, whatever the choice of long jumps: `beyond` bytes past the new end of the first `passed` events.
@@ -331,32 +334,33 @@ fn locate(
             beyond: offset,
         };
     }
-    let found = find(segments, all, index, shift, offset);
-    if found == 0 {
-        return Target {
-            passed: 0,
-            beyond: offset,
-        };
-    }
-    let end = recorded_end(segments, events, n, found - 1);
+    let begun = find(segments, all, index, shift, offset);
+    let end = recorded_end_before(segments, events, n, begun);
     if end <= offset {
-        let passed = found as u32;
-        let beyond = offset - end;
-        return Target { passed, beyond };
-    }
-    if found == 1 {
         return Target {
-            passed: 0,
-            beyond: offset,
+            passed: begun as u32,
+            beyond: offset - end,
         };
     }
-    let before = recorded_end(segments, events, n, found - 2);
-    let passed = (found - 1) as u32;
-    let beyond = offset - before;
-    Target { passed, beyond }
+    // The last of them holds the label.
+    Target {
+        passed: (begun - 1) as u32,
+        beyond: offset - recorded_end_before(segments, events, n, begun - 1),
+    }
 }
 
-// That of the label which event `i` names; `NONE` in the place of `passed` where it names none.
+// The label that an event names.
+pub fn label_of(event: LayoutEvent) -> Option<u32>
+    ensures { result ≡ label_of (role_of event) }
+{
+    match event {
+        LayoutEvent::Jump(jump) => Some(jump.label),
+        LayoutEvent::Align(_) => None,
+        LayoutEvent::Far(branch) => Some(branch.label),
+    }
+}
+
+// That of the label which event `i` names, if it names one.
 fn target_of(
     segments: &[Segment],
     events: &[u8],
@@ -366,44 +370,36 @@ fn target_of(
     index: &[u32],
     shift: u32,
     i: usize,
-) -> Target
+) -> Option<Target>
     requires shown { ((es : List LayoutEvent) × Shown es segments.now events.now n all) }
     requires indexed { Indexed index.now (start_at segments.now) all shift }
     requires known { Known (event_at events.now i) labels.now }
     requires in_range { i < n }
-    ensures { (es : List LayoutEvent) → Shown es segments.now events.now n all → Aims es (word_at labels.now) (event_at events.now i) result.passed result.beyond }
+    ensures { (es : List LayoutEvent) → Shown es segments.now events.now n all → Aims es (word_at labels.now) (event_at events.now i) (held result).passed (held result).beyond }
 {
-    let event = relax::event_at(events, i);
-    match event {
-        LayoutEvent::Jump(jump) => {
-            let offset = words::word_at(labels, jump.label as usize);
-            locate(segments, events, n, all, index, shift, offset)
-        }
-        LayoutEvent::Align(_) => Target {
-            passed: buffer::NONE,
-            beyond: 0,
-        },
-        LayoutEvent::Far(branch) => {
-            let offset = words::word_at(labels, branch.label as usize);
-            locate(segments, events, n, all, index, shift, offset)
-        }
-    }
+    let label = label_of(relax::event_at(events, i))?;
+    let offset = words::word_at(labels, label as usize);
+    Some(locate(segments, events, n, all, index, shift, offset))
 }
 
-// Writes the target of event `i` into its row, and nothing else of it.
-fn put_target(segments: &mut [Segment], i: usize, target: Target)
+// Writes the target of event `i` into its row, and nothing else of it. A row is four numbers that C lends, so `NONE` in the place of `passed` stands for no
+// target.
+fn put_target(segments: &mut [Segment], i: usize, target: Option<Target>)
     requires { i < length segments.old }
-    ensures { segments.new ≡ set segments.old i (with_target (get_or segments.old i zero_segment) target.passed target.beyond) }
+    ensures { segments.new ≡ set segments.old i (with_target (get_or segments.old i zero_segment) (held target).passed (held target).beyond) }
 {
+    let target = target.unwrap_or(Target {
+        passed: buffer::NONE,
+        beyond: 0,
+    });
     let row = segment_at(segments, i);
     put_segment(
         segments,
         i,
         Segment {
-            old_start: row.old_start,
             old_end: target.beyond,
             new_start: target.passed,
-            new_end: row.new_end,
+            ..row
         },
     );
 }
@@ -425,11 +421,9 @@ fn find_targets(
     ensures aiming { (es : List LayoutEvent) → Shown es segments.old events.now n all → Aiming es (word_at labels.now) events.now n segments.new }
     ensures same_past { SamePast n segments.old segments.new }
 {
-    let mut i: usize = 0;
-    while i < n {
+    for i in 0..n {
         let target = target_of(segments, events, labels, n, all, index, shift, i);
         put_target(segments, i, target);
-        i += 1;
     }
 }
 
@@ -443,10 +437,8 @@ fn put_end(segments: &mut [Segment], i: usize, end: u32)
         segments,
         i,
         Segment {
-            old_start: row.old_start,
-            old_end: row.old_end,
-            new_start: row.new_start,
             new_end: end,
+            ..row
         },
     );
 }
@@ -463,12 +455,10 @@ fn end_events(segments: &mut [Segment], events: &[u8], long: &[bool], n: usize) 
         new_start: 0,
         new_end: 0,
     };
-    let mut i: usize = 0;
-    while i < n {
+    for i in 0..n {
         let event = relax::event_at(events, i);
         last = next_segment(event, long[i], last.old_end, last.new_end);
         put_end(segments, i, last.new_end);
-        i += 1;
     }
     last
 }
@@ -499,29 +489,25 @@ fn end_before(segments: &[Segment], k: usize) -> u32
     requires { k ≤ length segments.now }
     ensures { result ≡ end_before segments.now k }
 {
-    if k == 0 {
-        return 0;
+    match k {
+        0 => 0,
+        _ => segment_at(segments, k - 1).new_end,
     }
-    let row = segment_at(segments, k - 1);
-    row.new_end
 }
 
-// Whether event `i`, long or not, is a short jump or branch that does not reach its label.
-fn is_missed(segments: &[Segment], events: &[u8], long: bool, i: usize) -> bool
+// Whether event `i` is a jump or branch that, were it short, would not reach its label.
+fn is_missed(segments: &[Segment], events: &[u8], i: usize) -> bool
     requires within { (i < length segments.now) × (i * event_size + event_size ≤ length events.now) }
     requires adds { Adds segments.now (get_or segments.now i zero_segment) }
-    ensures { result ≡ is_missed_at segments.now events.now long i }
+    ensures { result ≡ is_missed segments.now (event_at events.now i) (get_or segments.now i zero_segment) }
 {
-    if long {
-        return false;
-    }
     let row = segment_at(segments, i);
-    if row.new_start == buffer::NONE {
-        return false;
-    }
-    let target = row.old_end + end_before(segments, row.new_start as usize);
-    let near = in_reach(relax::event_at(events, i), row.new_end, target);
-    !near
+    row.new_start != buffer::NONE
+        && !in_reach(
+            relax::event_at(events, i),
+            row.new_end,
+            row.old_end + end_before(segments, row.new_start as usize),
+        )
 }
 
 // A round's scan: every short jump or branch of the first `n` events that does not reach becomes long. Whether there was one.
@@ -532,14 +518,11 @@ fn lengthen(segments: &[Segment], events: &[u8], long: &mut [bool], n: usize) ->
     ensures value { result ≡ any (missed segments.now events.now long.old n) }
 {
     let mut grew = false;
-    let mut i: usize = 0;
-    while i < n {
-        let is_long = long[i];
-        if is_missed(segments, events, is_long, i) {
+    for i in 0..n {
+        if !long[i] && is_missed(segments, events, i) {
             long[i] = true;
             grew = true;
         }
-        i += 1;
     }
     grew
 }

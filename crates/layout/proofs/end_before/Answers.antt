@@ -1,4 +1,5 @@
 -- `end_before` meets its contract.
+use Rattle.std.proofs.Common.{rules}
 use mathlib.Core.Path.{◌≡◌, refl, ap}
 use mathlib.Core.Logic.{◌≢◌}
 use mathlib.Core.List.{List}
@@ -14,9 +15,7 @@ end-of-last : (ss : List Segment) (k : ℕ) → k ≢ 0 → (get_or ss (k - 1) z
 end-of-last ss zero some = absurd (some refl)
 end-of-last ss (suc k) some = let e : suc k - 1 ≡ k = omega arith in ap (λ (i : ℕ). (get_or ss i zero_segment).new_end) e
 
-pub returns-then-k-eq0 : goal.returns-then-k-eq0
-returns-then-k-eq0 c = rw c.if-k-eq0.true refl
-
-pub returns : goal.returns
-returns c =
-    rw c.segment_at-row.ensures (end-of-last _ _ c.if-k-eq0.false)
+pub returns-in_default : goal.returns-in_default
+returns-in_default c =
+    let some : c.args.k ≢ 0 = search rules in
+    rw c.segment_at.ensures (end-of-last _ _ some)

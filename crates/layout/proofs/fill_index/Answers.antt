@@ -8,8 +8,8 @@ use Rattle.layout.proofs.fill_index.Goals as goal
 pub loop-i-init : goal.loop-i-init
 loop-i-init c = (filled_none _ _ _ _ c.requires.within.1 c.requires.within.0, omega arith, refl)
 
-pub segment_at-segment-requires : goal.segment_at-segment-requires
-segment_at-segment-requires c =
+pub segment_at-requires : goal.segment_at-requires
+segment_at-requires c =
     omega (arith, c.requires.sorted.fits)
 
 pub mark-next-requires : goal.mark-next-requires
@@ -18,7 +18,7 @@ mark-next-requires c =
 
 pub loop-i-preserved : goal.loop-i-preserved
 loop-i-preserved c =
-    let said = rw c.segment_at-segment.ensures at c.mark-next.ensures in
+    let said = rw c.segment_at.ensures at c.mark-next.ensures in
     (filled_one (sorted_rises c.requires.sorted) c.loop-i.invariant.0 (omega arith) said, omega arith, c.mark-next.ensures.size ∙ c.loop-i.invariant.2)
 
 pub close-requires : goal.close-requires

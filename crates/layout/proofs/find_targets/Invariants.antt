@@ -1,6 +1,6 @@
 -- `find_targets` meets its contract: a turn writes one target more, and leaves what is searched.
 use mathlib.Core.List.{List}
-use Prim.Native.Nat.{◌-◌, ◌≤◌}
+use Prim.Native.Nat.{◌≤◌}
 use Rattle.words.specs.Words.{word_at}
 use Rattle.relax.specs.declared.LayoutEvent.{LayoutEvent}
 use Rattle.layout.specs.steps.Targets.{Shown, SamePast}
@@ -12,6 +12,3 @@ invariant-loop-i l =
     (l.i ≤ l.n)
     × ((es : List LayoutEvent) → Shown es l.initial.segments l.events l.n l.all → Targeted es (word_at l.labels) l.events l.n l.all l.i l.segments)
     × SamePast l.n l.initial.segments l.segments
-
-abbrev pub decreases-loop-i : goal.decreases-loop-i
-decreases-loop-i l = l.n - l.i

@@ -1,4 +1,5 @@
 -- `map` meets its contract: the last segment that starts at or before the offset decides.
+use Rattle.std.proofs.Common.{rules, ◌≢◌}
 use mathlib.Core.Path.{◌∙◌}
 use Prim.Native.Nat.{◌-◌, ◌<◌}
 use native.Mathlib.Omega.{arith}
@@ -8,25 +9,26 @@ use Rattle.layout.proofs.map.Goals as goal
 pub returns-then-offset-eq-NONE : goal.returns-then-offset-eq-NONE
 returns-then-offset-eq-NONE c = map_none _ _ c.if-offset-eq-NONE.true
 
-pub find-found-requires : goal.find-found-requires
-find-found-requires c =
-    record { sorted = rising_sorted c.requires.rising; indexed = c.requires.indexed }
+pub find-requires-clause-sorted : goal.find-requires-clause-sorted
+find-requires-clause-sorted c = rising_sorted c.requires.rising
 
-pub returns-then-found-eq0 : goal.returns-then-found-eq0
-returns-then-found-eq0 c =
-    found_none _ _ _ (rising_sorted c.requires.rising) _ c.find-found.ensures c.if-offset-eq-NONE.false c.if-found-eq0.true
+pub returns-in-0 : goal.returns-in-0
+returns-in-0 c =
+    found_none _ _ _ (rising_sorted c.requires.rising) _ c.find.ensures c.if-offset-eq-NONE.false c.in-0.is
 
 pub place-requires : goal.place-requires
 place-requires c =
     let p = c.requires in
-    let b = c.find-found.ensures in
-    let k = c.find-found.result in
+    let b = c.find.ensures in
+    let k = c.find.result in
+    let some : k ≢ 0 = search rules in
     let s = c.segment_at.ensures in
-    let w : k - 1 < c.args.n = omega (arith, b.within, c.if-found-eq0.false) in
+    let w : k - 1 < c.args.n = omega (arith, b.within, some) in
     let small = p.rising.small (k - 1) w in
-    rw s (b.under (k - 1) (omega (arith, c.if-found-eq0.false)), p.in_range c.if-offset-eq-NONE.false, small.0, small.1)
+    rw s (b.under (k - 1) (omega (arith, some)), p.in_range c.if-offset-eq-NONE.false, small.0, small.1)
 
-pub returns : goal.returns
-returns c =
-    let found = found_last _ _ _ (rising_sorted c.requires.rising) _ c.find-found.ensures c.if-offset-eq-NONE.false c.if-found-eq0.false in
+pub returns-in_default : goal.returns-in_default
+returns-in_default c =
+    let some : c.find.result ≢ 0 = search rules in
+    let found = found_last _ _ _ (rising_sorted c.requires.rising) _ c.find.ensures c.if-offset-eq-NONE.false some in
     c.place.ensures ∙ rw c.segment_at.ensures found

@@ -9,7 +9,7 @@ unfolding image
 returns-then-offset-segment c =
     let a = c.args in rw (lt-ltb a.offset a.segment.old_end c.if-offset-segment.true, image) refl
 
-pub returns : goal.returns
+pub returns-else-offset-segment : goal.returns-else-offset-segment
 unfolding image
-returns c =
+returns-else-offset-segment c =
     let a = c.args in rw (le-ltb a.offset a.segment.old_end c.if-offset-segment.false, image) refl

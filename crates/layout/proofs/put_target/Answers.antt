@@ -3,4 +3,4 @@ use Rattle.layout.proofs.put_target.Goals as goal
 
 pub returns : goal.returns
 returns c =
-    rw c.segment_at-row.ensures at c.put_segment.ensures
+    rw (c.segment_at-row.ensures, c.unwrap_or-target.ensures) at c.put_segment.ensures

@@ -17,10 +17,10 @@ pub returns-then-i-n : goal.returns-then-i-n
 returns-then-i-n c =
     rw (lt-ltb _ _ c.if-i-n.true) (c.event_end.ensures ∙ ap end_of c.event_at.ensures)
 
-pub segment_at-segment-requires : goal.segment_at-segment-requires
-segment_at-segment-requires c =
+pub segment_at-requires : goal.segment_at-requires
+segment_at-requires c =
     c.requires.room
 
-pub returns : goal.returns
-returns c =
-    rw (le-ltb _ _ c.if-i-n.false, c.segment_at-segment.ensures)
+pub returns-else-i-n : goal.returns-else-i-n
+returns-else-i-n c =
+    rw (le-ltb _ _ c.if-i-n.false, c.segment_at.ensures)

@@ -4,7 +4,7 @@
 --   new_start  of a jump, `passed`: how many events these are; 0xFFFFFFFF where the event is no jump
 --   new_end    the event's new end, under the choice of the round
 -- So a round looks nothing up: whatever the choice, the label stands `beyond` bytes past the new end of the first `passed` events.
-use Rattle.std.specs.Prelude.{◌≡◌, ◌≢◌, Bool, true, false, not, cond, ◌&&◌, List, ℕ, zero, suc, ◌+◌, ◌*◌, ◌≤◌, ◌<◌, ltb, leb, eqb, length, get_or}
+use Rattle.std.specs.Prelude.{◌≡◌, ◌≢◌, Bool, true, false, not, cond, ◌&&◌, List, ℕ, zero, suc, ◌+◌, ◌*◌, ◌≤◌, ◌<◌, ltb, leb, eqb, length, get_or, Option, Some, None, unwrap_or}
 use Rattle.seqs.specs.Over.{over}
 use Rattle.relax.specs.declared.LayoutEvent.{LayoutEvent}
 use Rattle.relax.specs.declared.Segment.{Segment}
@@ -12,12 +12,13 @@ use Rattle.relax.specs.Events.{event_at, start_of, end_of, event_size, no_event}
 use Rattle.buffer.specs.State.{none}
 use Rattle.buffer.specs.Tables.{most_entries}
 use Rattle.recording.specs.View.{entries}
-use Rattle.fresh.specs.Forms.{Branch, pads, branches, role_of}
+use Rattle.fresh.specs.Forms.{Branch, Role, pads, branches, role_of}
 use Rattle.fresh.specs.Fresh.{Choice}
 use Rattle.fresh.specs.Segments.{segments, map_offset}
 use Rattle.fresh.specs.Order.{Ordered}
 use Rattle.fresh.specs.steps.Runs.{behind_of, ahead_of, after}
 use Rattle.pool.specs.steps.Pool.{offset_bound}
+use Rattle.layout.specs.declared.Target.{Target}
 use Rattle.layout.specs.steps.Layout.{zero_segment, start_at}
 
 -- a label's offset minus the end of an event's short form lies as near as the event reaches: of a jump in -128..127
@@ -27,6 +28,11 @@ in_reach e end label = leb end (label + behind_of e) && leb label (end + ahead_o
 -- the recorded end of event i: of the first n by their table, of the pool's by their segment
 abbrev pub end_in : List Segment → List ℕ → ℕ → ℕ → ℕ
 end_in ss events n i = cond (ltb i n) (end_of (event_at events i)) (get_or ss i zero_segment).old_end
+
+-- the recorded end of the first k events
+abbrev pub old_end_before : List Segment → List ℕ → ℕ → ℕ → ℕ
+old_end_before ss events n zero = 0
+old_end_before ss events n (suc k) = end_in ss events n k
 
 -- what is read for that end lies in its table
 pub record Stands (ss : List Segment) (events : List ℕ) (n i : ℕ) : Type 0 where
@@ -58,6 +64,15 @@ pub record Finds (es : List LayoutEvent) (t passed beyond : ℕ) : Type 0 where
 pub record Aims (es : List LayoutEvent) (at : ℕ → ℕ) (e : LayoutEvent) (passed beyond : ℕ) : Type 0 where
   pub rests : role_of e ≡ pads → passed ≡ none
   pub finds : (b : Branch) → role_of e ≡ branches b → Finds es (at b.label) passed beyond
+
+-- the label that an event names
+abbrev pub label_of : Role → Option ℕ
+label_of pads = None
+label_of (branches b) = Some b.label
+
+-- what a row holds of a target, or of none
+abbrev pub held : Option Target → Target
+held target = unwrap_or target (record { passed = none; beyond = 0 })
 
 -- the first n rows do
 pub record Aiming (es : List LayoutEvent) (at : ℕ → ℕ) (events : List ℕ) (n : ℕ) (ss : List Segment) : Type 0 where
