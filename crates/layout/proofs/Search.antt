@@ -1,14 +1,17 @@
--- The binary search of a segment: what each turn leaves, and what is found decides.
+-- The search of a segment by halving: where it starts and ends, and what is found decides.
 use mathlib.Core.Path.{◌≡◌, refl, sym}
 use mathlib.Core.Logic.{◌≢◌}
+use mathlib.Core.Bool.{Bool}
 use mathlib.Core.List.{List}
-use Prim.Native.Nat.{ℕ, ◌+◌, ◌-◌, ◌≤◌, ◌<◌}
+use Prim.Native.Nat.{ℕ, ◌-◌, ◌≤◌, ◌<◌}
 use native.Mathlib.Omega.{arith}
+use lib.Dec.{leb}
 use lib.ListN.{length, get_or, take}
 use lib.Seq.{get_or-take, length-take-le}
 use borrow.Author.Tests.{eq-eqb, ne_eqb}
-use Rattle.lookup.specs.steps.Index.{part, Rises, Indexed, Narrowed}
+use Rattle.lookup.specs.steps.Index.{part, Rises, Indexed, Narrowed, Parted}
 use Rattle.lookup.proofs.Index.{narrowed_around}
+use Rattle.lookup.proofs.Partition.{divided_most}
 use Rattle.relax.specs.declared.Segment.{Segment}
 use Rattle.buffer.specs.State.{none}
 use Rattle.fresh.specs.Segments.{image, map_offset}
@@ -28,28 +31,19 @@ sorted_rises sorted = record { rises = sorted.rises }
 pub rising_sorted : {ss : List Segment} {n : ℕ} → Rising ss n → Sorted ss n
 rising_sorted rise = record { fits = rise.fits; rises = rise.rises }
 
+-- Where the search ends.
+pub between_last : {ss : List Segment} {n offset low high r : ℕ} {answered : ℕ → Bool → Type 0} → Sorted ss n → Between ss n offset low high → Parted answered low high r
+    → ((i : ℕ) (b : Bool) → answered i b → b ≡ leb (start_at ss i) offset) → Between ss n offset r r
+between_last sorted b p computes =
+    let found = divided_most (sorted_rises sorted) b.within p b.under b.above computes in
+    record { order = omega arith; within = omega (arith, p.last, b.within); under = λ j l. omega (arith, found.below j l); above = λ j l k. omega (arith, found.above j l k) }
+
 -- `map` keeps 0xFFFFFFFF.
 pub map_none : (ss : List Segment) (offset : ℕ) → offset ≡ none → offset ≡ map_offset ss offset
 unfolding map_offset
 map_none ss offset e = rw (eq-eqb offset none e, map_offset) refl
 
 module _ (ss : List Segment) (n offset : ℕ) (rise : Sorted ss n) where
-  pub between_right : (lo hi mid : ℕ) → Between ss n offset lo hi → lo ≤ mid → mid < hi → start_at ss mid ≤ offset → Between ss n offset (mid + 1) hi
-  between_right lo hi mid b h k e = record {
-    order = omega arith;
-    within = b.within;
-    under = λ j w. omega (arith, rise.rises j mid (omega arith) (omega (arith, b.within)));
-    above = b.above;
-  }
-
-  pub between_left : (lo hi mid : ℕ) → Between ss n offset lo hi → lo ≤ mid → mid < hi → offset < start_at ss mid → Between ss n offset lo mid
-  between_left lo hi mid b h k e = record {
-    order = h;
-    within = omega (arith, b.within);
-    under = b.under;
-    above = λ j w v. omega (arith, rise.rises mid j w v);
-  }
-
   count : length (take n ss) ≡ n
   count = length-take-le n ss rise.fits
 

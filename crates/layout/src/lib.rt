@@ -77,18 +77,9 @@ fn find(segments: &[Segment], n: usize, index: &[u32], shift: u32, offset: u32) 
     ensures { Between segments.now n offset result result }
 {
     let span = lookup::narrow(index, shift, n, offset);
-    let mut low = span.low;
-    let mut high = span.high;
-    while low < high {
-        let mid = low + (high - low) / 2;
-        let segment = segment_at(segments, mid);
-        if segment.old_start <= offset {
-            low = mid + 1;
-        } else {
-            high = mid;
-        }
-    }
-    low
+    lookup::partition_point(span.low, span.high, |i| {
+        segment_at(segments, i).old_start <= offset
+    })
 }
 
 // Where a segment takes an offset at or past its start.
