@@ -3,11 +3,11 @@ ghost use Rattle.std.specs.Prelude.{◌≡◌, true, false, not, List, [], ◌�
 ghost use Rattle.refusals.specs.Numbers as refusals;
 ghost use Rattle.seqs.specs.Pick.{first, or_else};
 ghost use Rattle.words.specs.Words.{word_at};
-ghost use Rattle.lookup.specs.steps.Index.{index_size, Indexed};
+ghost use Rattle.lookup.specs.steps.Index.{index_size, large_size, Indexed};
 ghost use Rattle.relax.specs.declared.LayoutEvent.{LayoutEvent};
 ghost use Rattle.relax.specs.declared.Segment.{Segment};
 ghost use Rattle.relax.specs.Events.{event_at};
-ghost use Rattle.buffer.specs.Tables.{label_size, use_size};
+ghost use Rattle.buffer.specs.Tables.{most_entries, label_size, use_size};
 ghost use Rattle.recording.specs.View as tables;
 ghost use Rattle.layout.specs.steps.Layout.{start_at};
 ghost use Rattle.buffer.specs.steps.Count.{NamersFit, open_count};
@@ -211,83 +211,10 @@ fn index_size(all: usize) -> usize
     0
 }
 
-// With fewer than an index pays for, a few marks and none.
-pub(crate) fn tiny_relaxed(
-    b: CodeBuffer,
-    code: &[u8],
-    labels: &mut [u8],
-    events: &[u8],
-    refs: &[u8],
-    constants: &[u8],
-    asked: &[u8],
-    relocs: &mut [u8],
-    segments: &mut [Segment],
-    output: &mut [u8],
-) -> Outcome
-    requires layable { Layable code.now labels.old events.now refs.now constants.now asked.now relocs.old output.old (length segments.old) b.arch b.code b.labels b.events b.asked b.refs b.relocs }
-    requires in_range { b.events + b.asked < 24 }
-    ensures { (us : List tables.Use) → (result, (labels.new, (relocs.new, (segments.new, output.new)))) ≡ relaxed (laid_pooled b.arch b.code (take b.code code.now) (tables.entries (word_at labels.old) b.labels) (tables.entries (event_at events.now) b.events) us (tables.entries (tables.ref_at refs.now) b.refs) constants.now asked.now b.asked) b.relocs labels.old relocs.old segments.old output.old }
-{
-    let all = b.events as usize + b.asked as usize;
-    let mut long = [false; lookup::FEW];
-    let mut index = [0u32; 0];
-    relax_and_write(
-        b,
-        code,
-        labels,
-        events,
-        refs,
-        constants,
-        asked,
-        relocs,
-        segments,
-        output,
-        &mut long[0..all],
-        &mut index[0..0],
-    )
-}
-
-// With few events and constants a few marks and a short index are enough.
-pub(crate) fn small_relaxed(
-    b: CodeBuffer,
-    code: &[u8],
-    labels: &mut [u8],
-    events: &[u8],
-    refs: &[u8],
-    constants: &[u8],
-    asked: &[u8],
-    relocs: &mut [u8],
-    segments: &mut [Segment],
-    output: &mut [u8],
-) -> Outcome
-    requires layable { Layable code.now labels.old events.now refs.now constants.now asked.now relocs.old output.old (length segments.old) b.arch b.code b.labels b.events b.asked b.refs b.relocs }
-    requires in_bound { b.events + b.asked ≤ few_marks }
-    ensures { (us : List tables.Use) → (result, (labels.new, (relocs.new, (segments.new, output.new)))) ≡ relaxed (laid_pooled b.arch b.code (take b.code code.now) (tables.entries (word_at labels.old) b.labels) (tables.entries (event_at events.now) b.events) us (tables.entries (tables.ref_at refs.now) b.refs) constants.now asked.now b.asked) b.relocs labels.old relocs.old segments.old output.old }
-{
-    let all = b.events as usize + b.asked as usize;
-    let mut long = [false; checks::entries::FEW_MARKS];
-    let mut index = [0; lookup::SIZE];
-    let size = index_size(all);
-    relax_and_write(
-        b,
-        code,
-        labels,
-        events,
-        refs,
-        constants,
-        asked,
-        relocs,
-        segments,
-        output,
-        &mut long[0..all],
-        &mut index[0..size],
-    )
-}
-
-// With more, marks for as many as there can be, which are to stay out of the stack frame of a small finish: it calls itself, in an arm that is never reached,
-// for the reason that checks' `many_labels_fit` has.
+// With MARKS marks, one for each event at least, and room for an index of INDEX entries, of which it takes `size`. The attribute keeps large arrays out of the
+// stack frame of a small finish.
 #[inline(never)]
-pub(crate) fn large_relaxed(
+fn relaxed_with<const MARKS: usize, const INDEX: usize>(
     b: CodeBuffer,
     code: &[u8],
     labels: &mut [u8],
@@ -298,34 +225,18 @@ pub(crate) fn large_relaxed(
     relocs: &mut [u8],
     segments: &mut [Segment],
     output: &mut [u8],
-    again: usize,
+    size: usize,
 ) -> Outcome
-    requires { (again ≡ 0) × Layable code.now labels.old events.now refs.now constants.now asked.now relocs.old output.old (length segments.old) b.arch b.code b.labels b.events b.asked b.refs b.relocs }
+    requires layable { Layable code.now labels.old events.now refs.now constants.now asked.now relocs.old output.old (length segments.old) b.arch b.code b.labels b.events b.asked b.refs b.relocs }
+    requires marked { (b.events + b.asked ≤ MARKS) × (MARKS ≤ most_entries) }
+    requires indexed { (size ≤ INDEX) × (INDEX ≤ large_size) }
     ensures { (us : List tables.Use) → (result, (labels.new, (relocs.new, (segments.new, output.new)))) ≡ relaxed (laid_pooled b.arch b.code (take b.code code.now) (tables.entries (word_at labels.old) b.labels) (tables.entries (event_at events.now) b.events) us (tables.entries (tables.ref_at refs.now) b.refs) constants.now asked.now b.asked) b.relocs labels.old relocs.old segments.old output.old }
 {
-    if again != 0 {
-        let before = large_relaxed(
-            b,
-            code,
-            labels,
-            events,
-            refs,
-            constants,
-            asked,
-            relocs,
-            segments,
-            output,
-            again - 1,
-        );
-        if before.refusal != 0 {
-            return refused(before.refusal);
-        }
-        return before;
-    }
     let all = b.events as usize + b.asked as usize;
-    let mut long = [false; buffer::MOST_ENTRIES];
-    let mut index = [0; lookup::LARGE_SIZE];
-    let size = lookup::size_for(all);
+    let mut marks = [false; MARKS];
+    let mut entries = [0; INDEX];
+    let long = &mut marks[..];
+    let index = &mut entries[..];
     relax_and_write(
         b,
         code,
@@ -358,28 +269,21 @@ pub(crate) fn relaxed(
     requires { Layable code.now labels.old events.now refs.now constants.now asked.now relocs.old output.old (length segments.old) b.arch b.code b.labels b.events b.asked b.refs b.relocs }
     ensures { (us : List tables.Use) → (result, (labels.new, (relocs.new, (segments.new, output.new)))) ≡ relaxed (laid_pooled b.arch b.code (take b.code code.now) (tables.entries (word_at labels.old) b.labels) (tables.entries (event_at events.now) b.events) us (tables.entries (tables.ref_at refs.now) b.refs) constants.now asked.now b.asked) b.relocs labels.old relocs.old segments.old output.old }
 {
-    if (b.events as usize + b.asked as usize) < lookup::FEW {
-        return tiny_relaxed(
-            b, code, labels, events, refs, constants, asked, relocs, segments, output,
+    let all = b.events as usize + b.asked as usize;
+    if all < lookup::FEW {
+        return relaxed_with::<{ lookup::FEW }, 0>(
+            b, code, labels, events, refs, constants, asked, relocs, segments, output, 0,
         );
     }
-    if b.events as usize + b.asked as usize <= checks::entries::FEW_MARKS {
-        return small_relaxed(
+    if all <= checks::entries::FEW_MARKS {
+        return relaxed_with::<{ checks::entries::FEW_MARKS }, { lookup::SIZE }>(
             b, code, labels, events, refs, constants, asked, relocs, segments, output,
+            index_size(all),
         );
     }
-    large_relaxed(
-        b,
-        code,
-        labels,
-        events,
-        refs,
-        constants,
-        asked,
-        relocs,
-        segments,
-        output,
-        code.len() / 9223372036854775808,
+    relaxed_with::<{ buffer::MOST_ENTRIES }, { lookup::LARGE_SIZE }>(
+        b, code, labels, events, refs, constants, asked, relocs, segments, output,
+        lookup::size_for(all),
     )
 }
 
