@@ -1,33 +1,11 @@
--- `each_label_fits` meets its contract: all the labels passed fit.
-use Rattle.checks.specs.Entries.{labels_fit}
-use Rattle.seqs.proofs.Scans.{scans}
-use borrow.Author.Rules.{rules}
+-- `each_label_fits` meets its contract: `all` asks of each label whether it fits.
+use Rattle.std.proofs.Common.{rules, ℕ}
+use borrow.Author.Tests.{tests}
+use Rattle.seqs.proofs.Ranges.{all_of_range}
+use Rattle.words.specs.Words.{word_at}
+use Rattle.checks.specs.Entries.{label_fits, labels_fit}
 use Rattle.checks.proofs.entries.each_label_fits.Goals as goal
-
-pub loop-i-init : goal.loop-i-init
-unfolding labels_fit
-loop-i-init c = search scans
-
-pub label_fits-requires : goal.label_fits-requires
-unfolding labels_fit
-label_fits-requires c = search rules
-
-pub returns-then-not-label_fits : goal.returns-then-not-label_fits
-unfolding labels_fit
-returns-then-not-label_fits c = search scans
-
-pub overflow_add-i : goal.overflow_add-i
-unfolding labels_fit
-overflow_add-i c = search rules
-
-pub loop-i-smaller : goal.loop-i-smaller
-unfolding labels_fit
-loop-i-smaller c = search rules
-
-pub loop-i-preserved : goal.loop-i-preserved
-unfolding labels_fit
-loop-i-preserved c = search scans
 
 pub returns : goal.returns
 unfolding labels_fit
-returns c = search scans
+returns c = all_of_range (λ (i : ℕ). label_fits c.args.events.now c.args.m c.args.code (word_at c.args.labels.now i)) c.args.n c.all.ensures.ran (λ x b q k. search (rules, tests))

@@ -1,15 +1,9 @@
--- `is_each_marked` meets its contract: all the constants passed are marked or have no label.
-use Rattle.seqs.proofs.Scans.{scans}
+-- `is_each_marked` meets its contract: `all` asks of each constant whether it has no label or is marked.
+use Rattle.std.proofs.Common.{rules}
+use borrow.Author.Tests.{tests}
+use Rattle.seqs.proofs.Ranges.{all_of_range}
+use Rattle.checks.specs.steps.Handed.{unlabelled_or}
 use Rattle.checks.proofs.entries.is_each_marked.Goals as goal
 
-pub loop-i-init : goal.loop-i-init
-loop-i-init c = search scans
-
-pub returns-then-not-is_marked : goal.returns-then-not-is_marked
-returns-then-not-is_marked c = search scans
-
-pub loop-i-preserved : goal.loop-i-preserved
-loop-i-preserved c = search scans
-
 pub returns : goal.returns
-returns c = search scans
+returns c = all_of_range (unlabelled_or c.args.constants.now c.args.seen.now) c.args.n c.all.ensures.ran (λ x b q k. search (rules, tests))

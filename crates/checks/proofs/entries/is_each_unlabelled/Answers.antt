@@ -1,15 +1,9 @@
--- `is_each_unlabelled` meets its contract: none of the constants passed has a label.
-use Rattle.seqs.proofs.Scans.{scans}
+-- `is_each_unlabelled` meets its contract: `all` asks of each constant whether it has no label.
+use Rattle.std.proofs.Common.{rules}
+use borrow.Author.Tests.{tests}
+use Rattle.seqs.proofs.Ranges.{all_of_range}
+use Rattle.checks.specs.steps.Handed.{unlabelled}
 use Rattle.checks.proofs.entries.is_each_unlabelled.Goals as goal
 
-pub loop-i-init : goal.loop-i-init
-loop-i-init c = search scans
-
-pub returns-then-not-is_unlabelled : goal.returns-then-not-is_unlabelled
-returns-then-not-is_unlabelled c = search scans
-
-pub loop-i-preserved : goal.loop-i-preserved
-loop-i-preserved c = search scans
-
 pub returns : goal.returns
-returns c = search scans
+returns c = all_of_range (unlabelled c.args.constants.now) c.args.n c.all.ensures.ran (λ x b q k. search (rules, tests))

@@ -16,8 +16,8 @@ returns-then-not-is_new c =
     let l = c.loop-i in
     record { value = pass_fails l.invariant.0 (omega arith) c.is_new.ensures (rw c.if-not-is_new.true refl); marking = λ e. absurd (true_is_not_false (sym e)) }
 
-pub word_at-label-requires : goal.word_at-label-requires
-word_at-label-requires c =
+pub label_of-label-requires : goal.label_of-label-requires
+label_of-label-requires c =
     let new : New c.args.asked.now c.args.constants.now c.args.known c.loop-i.i c.loop-i.seen c.loop-i.taken = new_entry c.loop-i.invariant.1 (sym c.is_new.ensures ∙ c.if-not-is_new.false) in
     omega (arith, new.room, c.word_at-constant.ensures)
 
@@ -29,14 +29,14 @@ bounds-seen-constant c =
 pub bounds-taken-label : goal.bounds-taken-label
 bounds-taken-label c =
     let new : New c.args.asked.now c.args.constants.now c.args.known c.loop-i.i c.loop-i.seen c.loop-i.taken = new_entry c.loop-i.invariant.1 (sym c.is_new.ensures ∙ c.if-not-is_new.false) in
-    let label = rw c.word_at-constant.ensures at c.word_at-label.ensures in
+    let label = rw c.word_at-constant.ensures at c.label_of-label.ensures in
     omega (arith, new.label, label)
 
 pub loop-i-preserved : goal.loop-i-preserved
 loop-i-preserved c =
     let new : New c.args.asked.now c.args.constants.now c.args.known c.loop-i.i c.loop-i.seen c.loop-i.taken = new_entry c.loop-i.invariant.1 (sym c.is_new.ensures ∙ c.if-not-is_new.false) in
     let l = c.loop-i in
-    let label = rw c.word_at-constant.ensures at c.word_at-label.ensures in (
+    let label = rw c.word_at-constant.ensures at c.label_of-label.ensures in (
       pass_one l.invariant.0 (omega arith) c.is_new.ensures (rw c.if-not-is_new.false refl),
       marking_next l.invariant.1 new c.word_at-constant.ensures label,
       simp length-set l.invariant.2,
