@@ -14,10 +14,8 @@ use Rattle.words.specs.Words.{bytes_of, word_at}
 use Rattle.encoder.specs.Nops.{form, nops_by, nops}
 use Rattle.encoder.proofs.Forms.{up_to_9}
 use Rattle.fields.specs.declared.LabelUse.{LabelUse}
-use Rattle.fields.specs.declared.Decoded.{Decoded}
-use Rattle.fields.specs.declared.Decoded.TheVariants.{Use, Unsupported, Unknown}
 use Rattle.fields.specs.Words64.{plus}
-use Rattle.fields.specs.Kinds.{patch_size, decoded}
+use Rattle.fields.specs.Kinds.{Decoded, Use, Unsupported, Unknown, patch_size, decoded}
 use Rattle.fields.specs.Patch.{patched_word, patched, held_addend}
 use Rattle.buffer.specs.State.{none}
 use Rattle.buffer.specs.Calls.{padding}

@@ -10,10 +10,9 @@ use Rattle.encoder.specs.Intel.{nop_length, AreNops}
 use Rattle.encoder.specs.Padding.{Spends}
 use Rattle.encoder.proofs.Reading.{nop_opens}
 use Rattle.fields.specs.declared.LabelUse.{LabelUse}
-use Rattle.fields.specs.declared.Decoded.TheVariants.{Use}
 use Rattle.fields.specs.Words64.{plus, minus, sign_extend}
 use Rattle.fields.specs.Bits.{bits}
-use Rattle.fields.specs.Kinds.{arch_a64, info, code_of, patch_size, decoded}
+use Rattle.fields.specs.Kinds.{Use, arch_a64, info, code_of, patch_size, decoded}
 use Rattle.fields.specs.Meaning.{meaning, demanded, load_multiple, Clear, in_field}
 use Rattle.relax.specs.declared.LayoutEvent.TheVariants.{Jump, Align}
 use Rattle.relax.specs.declared.RelaxableJump.{RelaxableJump}

@@ -15,9 +15,7 @@ use Rattle.seqs.proofs.Numbers.{lt_or_ge, eq_or_ne}
 use Rattle.seqs.proofs.Picking.{passed, neither}
 use Rattle.words.specs.Words.{word_at}
 use Rattle.fields.specs.declared.LabelUse.{LabelUse}
-use Rattle.fields.specs.declared.Decoded.{Decoded}
-use Rattle.fields.specs.declared.Decoded.TheVariants.{Use}
-use Rattle.fields.specs.Kinds.{info, patch_size, is_arch, decoded}
+use Rattle.fields.specs.Kinds.{Decoded, Use, info, patch_size, is_arch, decoded}
 use Rattle.fields.specs.Reach.{can_reach, reach_refusal}
 use Rattle.relax.specs.declared.Alignment.{Alignment}
 use Rattle.relax.specs.declared.LayoutEvent.{LayoutEvent}

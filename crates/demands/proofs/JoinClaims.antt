@@ -11,9 +11,8 @@ use Rattle.words.specs.Words.{word_at, bytes_of}
 use Rattle.encoder.specs.Intel.{AreNops}
 use Rattle.encoder.specs.Padding.{padding_within}
 use Rattle.fields.specs.declared.LabelUse.{LabelUse}
-use Rattle.fields.specs.declared.Decoded.TheVariants.{Use}
 use Rattle.fields.specs.Words64.{plus, sign_extend}
-use Rattle.fields.specs.Kinds.{arch_a64, code_of, patch_size, decoded}
+use Rattle.fields.specs.Kinds.{Use, arch_a64, code_of, patch_size, decoded}
 use Rattle.fields.specs.Meaning.{meaning, demanded, load_multiple, Clear}
 use Rattle.relax.specs.declared.LayoutEvent.TheVariants.{Jump, Align}
 use Rattle.relax.specs.declared.RelaxableJump.{RelaxableJump}

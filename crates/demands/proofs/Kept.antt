@@ -11,10 +11,8 @@ use Rattle.seqs.specs.Over.{over}
 use Rattle.seqs.proofs.Numbers.{lt_or_ge, eq_or_ne}
 use Rattle.seqs.proofs.Overwrites.{length_over, over_nil, part_before, drop_over, part_over}
 use Rattle.fields.specs.declared.LabelUse.{LabelUse}
-use Rattle.fields.specs.declared.Decoded.{Decoded}
-use Rattle.fields.specs.declared.Decoded.TheVariants.{Use, Unsupported, Unknown}
 use Rattle.fields.specs.Words64.{plus, sign_extend}
-use Rattle.fields.specs.Kinds.{decoded, patch_size}
+use Rattle.fields.specs.Kinds.{Decoded, Use, Unsupported, Unknown, decoded, patch_size}
 use Rattle.fields.specs.Patch.{patched, patched_use, held_addend}
 use Rattle.fields.proofs.Patching.{patched_other}
 use Rattle.relax.specs.declared.LayoutEvent.{LayoutEvent}

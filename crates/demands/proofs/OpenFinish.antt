@@ -13,9 +13,7 @@ use Rattle.seqs.specs.Pick.{pick, first, or_else}
 use Rattle.seqs.specs.Every.{every}
 use Rattle.seqs.proofs.Picking.{pick_yes, pick_no, pick_either, no_lt, yes_ne}
 use Rattle.fields.specs.declared.LabelUse.{LabelUse}
-use Rattle.fields.specs.declared.Decoded.{Decoded}
-use Rattle.fields.specs.declared.Decoded.TheVariants.{Use, Unsupported, Unknown}
-use Rattle.fields.specs.Kinds.{info, decoded}
+use Rattle.fields.specs.Kinds.{Decoded, Use, Unsupported, Unknown, info, decoded}
 use Rattle.fields.specs.Reach.{can_reach, reach_refusal, reach_of}
 use Rattle.relax.specs.declared.Segment.{Segment}
 use Rattle.buffer.specs.State.{none}

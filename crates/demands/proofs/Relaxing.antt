@@ -27,10 +27,8 @@ use Rattle.fields.specs.declared.LabelUse.TheVariants.{
   A64AddAbsLo12,
 }
 use Rattle.fields.specs.Meaning.{covers, in_field}
-use Rattle.fields.specs.declared.Decoded.{Decoded}
-use Rattle.fields.specs.declared.Decoded.TheVariants.{Use}
 use Rattle.fields.specs.Words64.{plus, minus, sign_extend}
-use Rattle.fields.specs.Kinds.{info, patch_size, decoded}
+use Rattle.fields.specs.Kinds.{Decoded, Use, info, patch_size, decoded}
 use Rattle.fields.specs.Reach.{can_reach_delta}
 use Rattle.fields.specs.Patch.{patched}
 use Rattle.relax.specs.declared.LayoutEvent.{LayoutEvent}

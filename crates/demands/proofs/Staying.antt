@@ -24,10 +24,9 @@ use Rattle.fields.specs.declared.LabelUse.TheVariants.{
   A64Adrp21,
   A64AddAbsLo12,
 }
-use Rattle.fields.specs.declared.Decoded.TheVariants.{Use}
 use Rattle.fields.specs.Words64.{modulus, plus, minus, sign_extend}
 use Rattle.fields.specs.Bits.{bits}
-use Rattle.fields.specs.Kinds.{code_of, patch_size, decoded}
+use Rattle.fields.specs.Kinds.{Use, code_of, patch_size, decoded}
 use Rattle.fields.specs.Reach.{can_reach, can_reach_delta}
 use Rattle.fields.specs.Patch.{held_addend, patched_use}
 use Rattle.fields.specs.Meaning.{meaning, demanded, Clear}

@@ -5,10 +5,9 @@ use Rattle.words.specs.Words.{word_at}
 use Rattle.encoder.specs.Padding.{padding_length, padding_within, Spends}
 use Rattle.encoder.specs.Intel.{AreNops}
 use Rattle.fields.specs.declared.LabelUse.{LabelUse}
-use Rattle.fields.specs.declared.Decoded.TheVariants.{Use}
 use Rattle.fields.specs.Words64.{plus, minus, sign_extend}
 use Rattle.fields.specs.Bits.{bits}
-use Rattle.fields.specs.Kinds.{arch_a64, code_of, patch_size, decoded}
+use Rattle.fields.specs.Kinds.{Use, arch_a64, code_of, patch_size, decoded}
 use Rattle.fields.specs.Meaning.{meaning, demanded, load_multiple, Clear, in_field}
 use Rattle.relax.specs.declared.LayoutEvent.{LayoutEvent}
 use Rattle.relax.specs.declared.LayoutEvent.TheVariants.{Jump, Align}

@@ -3,9 +3,8 @@ use Rattle.std.specs.Prelude.{◌≡◌, true, false, List, ℕ, ◌+◌, ◌-�
 use Rattle.words.specs.Words.{word_at}
 use Rattle.encoder.specs.Intel.{AreNops}
 use Rattle.fields.specs.declared.LabelUse.{LabelUse}
-use Rattle.fields.specs.declared.Decoded.TheVariants.{Use}
 use Rattle.fields.specs.Words64.{plus, sign_extend}
-use Rattle.fields.specs.Kinds.{code_of, patch_size, decoded}
+use Rattle.fields.specs.Kinds.{Use, code_of, patch_size, decoded}
 use Rattle.fields.specs.Meaning.{meaning, demanded, load_multiple, Clear}
 use Rattle.relax.specs.declared.LayoutEvent.TheVariants.{Jump, Align}
 use Rattle.relax.specs.declared.RelaxableJump.{RelaxableJump}
