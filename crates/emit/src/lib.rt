@@ -67,9 +67,9 @@ pub fn put_jump(part: &mut [u8], cc: Condition, long: bool)
 {
     if long {
         put_long(part, cc);
-        return;
+    } else {
+        put_short(part, cc);
     }
-    put_short(part, cc);
 }
 
 // Fills `part` with a branch whose displacement is as recorded: `word`, or its inverse over a B.
@@ -80,9 +80,9 @@ fn put_branch(part: &mut [u8], code: u32, word: u32, long: bool)
     if long {
         words::put_word(part, 0, fields::skipping(code, word));
         words::put_word(part, 1, fields::OPEN_B);
-        return;
+    } else {
+        words::put_word(part, 0, word);
     }
-    words::put_word(part, 0, word);
 }
 
 // Fills `part` with what an event takes, whatever its recorded bytes; of a branch these are `word`.
@@ -93,8 +93,7 @@ fn put_event(part: &mut [u8], event: LayoutEvent, word: u32, long: bool, at: u32
 {
     match event {
         LayoutEvent::Jump(jump) => {
-            let cc = jump.cc;
-            put_jump(part, cc, long);
+            put_jump(part, jump.cc, long);
         }
         LayoutEvent::Align(_) => {
             buffer::bytes::pad(arch, part);
@@ -120,8 +119,7 @@ fn recorded_word(code: &[u8], event: LayoutEvent) -> u32
     ensures { Keeps event result (part code.now (start_of event) (extent_of event)) }
 {
     match event {
-        LayoutEvent::Jump(_) => 0,
-        LayoutEvent::Align(_) => 0,
+        LayoutEvent::Jump(_) | LayoutEvent::Align(_) => 0,
         LayoutEvent::Far(branch) => {
             let start = branch.start as usize;
             let end = start + 4;
@@ -194,13 +192,11 @@ pub fn emit_events(
 {
     let mut old: usize = 0;
     let mut new: usize = 0;
-    let mut i: usize = 0;
-    while i < n {
+    for i in 0..n {
         let segment = layout::segment_at(segments, i);
         emit_segment(output, code, events, i, long[i], segment, old, new, arch);
         old = segment.old_end as usize;
         new = segment.new_end as usize;
-        i += 1;
     }
     copy_run(output, code, old, len, new);
 }
@@ -224,15 +220,22 @@ fn patch_held(output: &mut [u8], kind: LabelUse, at: u32, label: u32)
     kind.patch(&mut output[start..end], at, label);
 }
 
+// The offset of the label that an entry names, of uses or of refs, which starts at word `k` of its table.
+fn label_of(table: &[u8], k: usize, labels: &[u8]) -> u32
+    requires { (k * 4 + 8 ≤ length table.now) × (word_at table.now (k + 1) * label_size + label_size ≤ length labels.now) }
+    ensures { result ≡ word_at labels.now (word_at table.now (k + 1)) }
+{
+    words::word_at(labels, words::word_at(table, k + 1) as usize)
+}
+
 fn patch_use(output: &mut [u8], uses: &[u8], labels: &[u8], i: usize)
     requires { UseFits (length output.old) uses.now labels.now i }
     ensures { output.new ≡ use_filled uses.now labels.now i output.old }
 {
-    let at = words::word_at(uses, i * buffer::USE_WORDS);
-    let number = words::word_at(uses, i * buffer::USE_WORDS + 1) as usize;
-    let label = words::word_at(labels, number);
-    let kind = LabelUse::try_from(words::word_at(uses, i * buffer::USE_WORDS + 2));
-    match kind {
+    let k = i * buffer::USE_WORDS;
+    let at = words::word_at(uses, k);
+    let label = label_of(uses, k, labels);
+    match LabelUse::try_from(words::word_at(uses, k + 2)) {
         Ok(kind) => patch_held(output, kind, at, label),
         Err(_) => {}
     }
@@ -243,20 +246,9 @@ pub fn patch_uses(output: &mut [u8], uses: &[u8], labels: &[u8], count: usize)
     requires { UsesFit (length output.old) uses.now labels.now count }
     ensures { output.new ≡ uses_filled output.old uses.now labels.now count }
 {
-    let mut i: usize = 0;
-    while i < count {
+    for i in 0..count {
         patch_use(output, uses, labels, i);
-        i += 1;
     }
-}
-
-// The offset of the label that ref `i` names.
-fn ref_label(refs: &[u8], labels: &[u8], i: usize) -> u32
-    requires { (i * ref_size + ref_size ≤ length refs.now) × (word_at refs.now (i * ref_words + 1) * label_size + label_size ≤ length labels.now) }
-    ensures { result ≡ word_at labels.now (word_at refs.now (i * ref_words + 1)) }
-{
-    let number = words::word_at(refs, i * buffer::REF_WORDS + 1) as usize;
-    words::word_at(labels, number)
 }
 
 // Fills ref `i`, whose field stands at `at`.
@@ -264,10 +256,10 @@ fn patch_ref(output: &mut [u8], refs: &[u8], labels: &[u8], at: u32, i: usize)
     requires { RefFits (length output.old) refs.now labels.now at i }
     ensures { output.new ≡ ref_filled refs.now labels.now at i output.old }
 {
-    let label = ref_label(refs, labels, i);
-    let kind = LabelUse::try_from(words::word_at(refs, i * buffer::REF_WORDS + 2));
-    let addend = words::word_at(refs, i * buffer::REF_WORDS + 3);
-    match kind {
+    let k = i * buffer::REF_WORDS;
+    let label = label_of(refs, k, labels);
+    let addend = words::word_at(refs, k + 3);
+    match LabelUse::try_from(words::word_at(refs, k + 2)) {
         Ok(kind) => patch_field(output, kind, at, label, addend),
         Err(_) => {}
     }
@@ -289,8 +281,7 @@ pub fn patch_refs(
     requires refs_fit { RefsFit (length output.old) refs.now labels.now segments.now n count }
     ensures { output.new ≡ refs_filled output.old refs.now labels.now segments.now n count }
 {
-    let mut i: usize = 0;
-    while i < count {
+    for i in 0..count {
         let at = layout::map(
             segments,
             n,
@@ -299,7 +290,6 @@ pub fn patch_refs(
             words::word_at(refs, i * buffer::REF_WORDS),
         );
         patch_ref(output, refs, labels, at, i);
-        i += 1;
     }
 }
 
@@ -316,9 +306,9 @@ fn ref_reaches(refs: &[u8], at: u32, label: u32, i: usize) -> bool
     requires { i * ref_size + ref_size ≤ length refs.now }
     ensures { result ≡ field_reaches (decoded (word_at refs.now (i * ref_words + 2))) at label (word_at refs.now (i * ref_words + 3)) }
 {
-    let kind = LabelUse::try_from(words::word_at(refs, i * buffer::REF_WORDS + 2));
-    let far = distance(at, label, words::word_at(refs, i * buffer::REF_WORDS + 3));
-    match kind {
+    let k = i * buffer::REF_WORDS;
+    let far = distance(at, label, words::word_at(refs, k + 3));
+    match LabelUse::try_from(words::word_at(refs, k + 2)) {
         Ok(kind) => kind.can_reach_delta(far),
         Err(_) => true,
     }
@@ -339,22 +329,16 @@ pub fn refs_reach(
     requires refs_known { RefsKnown refs.now labels.now count }
     ensures { result ≡ refs_reach refs.now labels.now segments.now n count }
 {
-    let mut i: usize = 0;
-    while i < count {
-        let at = layout::map(
-            segments,
-            n,
-            index,
-            shift,
-            words::word_at(refs, i * buffer::REF_WORDS),
-        );
-        let label = layout::map(segments, n, index, shift, ref_label(refs, labels, i));
-        if !ref_reaches(refs, at, label, i) {
-            return false;
-        }
-        i += 1;
-    }
-    true
+    (0..count).all(|i| {
+        let at = words::word_at(refs, i * buffer::REF_WORDS);
+        let label = label_of(refs, i * buffer::REF_WORDS, labels);
+        ref_reaches(
+            refs,
+            layout::map(segments, n, index, shift, at),
+            layout::map(segments, n, index, shift, label),
+            i,
+        )
+    })
 }
 
 // A jump's displacement is a field: its last byte where it is short, else its last four. `start` is the jump's.
@@ -429,11 +413,9 @@ pub fn patch_jumps(
     requires { JumpsFit (length output.old) events.now labels.now long.now segments.now n }
     ensures { output.new ≡ jumps_filled output.old events.now labels.now long.now segments.now n }
 {
-    let mut i: usize = 0;
-    while i < n {
+    for i in 0..n {
         let segment = layout::segment_at(segments, i);
         patch_jump(output, events, labels, long[i], segment, i);
-        i += 1;
     }
 }
 
@@ -452,11 +434,9 @@ pub fn map_words(
     requires words_fit { WordsFit table.old stride count }
     ensures { table.new ≡ mapped_words (map_offset (take n segments.now)) table.old stride count }
 {
-    let mut i: usize = 0;
-    while i < count {
+    for i in 0..count {
         let k = i * stride;
         let offset = words::word_at(table, k);
         words::put_word(table, k, layout::map(segments, n, index, shift, offset));
-        i += 1;
     }
 }

@@ -1,5 +1,5 @@
 -- `emit_events` meets its contract: after i turns the first i events and the runs before them are written, and `old` and `new` are where the layout stands.
-use Rattle.std.proofs.Common.{◌≡◌, ◌-◌, ◌≤◌, length, take}
+use Rattle.std.proofs.Common.{◌≡◌, take}
 use Rattle.seqs.specs.Over.{over}
 use Rattle.relax.specs.Events.{event_at}
 use Rattle.recording.specs.View.{entries}
@@ -7,7 +7,4 @@ use Rattle.fresh.specs.steps.Runs.{after, runs_to}
 use Rattle.emit.proofs.emit_events.Given as goal
 
 abbrev pub invariant-loop-i : goal.invariant-loop-i
-invariant-loop-i l = (l.i ≤ l.n) × (after l.i 0 0 (entries (event_at l.events) l.n) l.long ≡ record { old = l.old; new = l.new }) × (length l.output ≡ length l.initial.output) × (l.output ≡ over l.initial.output 0 (runs_to l.i l.arch 0 0 (take l.len l.code) (entries (event_at l.events) l.n) l.long))
-
-abbrev pub decreases-loop-i : goal.decreases-loop-i
-decreases-loop-i l = l.n - l.i
+invariant-loop-i l = (after l.i 0 0 (entries (event_at l.events) l.n) l.long ≡ record { old = l.old; new = l.new }) × (l.output ≡ over l.initial.output 0 (runs_to l.i l.arch 0 0 (take l.len l.code) (entries (event_at l.events) l.n) l.long))

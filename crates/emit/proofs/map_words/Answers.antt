@@ -1,13 +1,12 @@
 -- `map_words` meets its contract: after i turns the first i of the words are mapped.
-use Rattle.std.proofs.Common.{◌≡◌, refl, ◌∙◌, arith}
-use Rattle.words.proofs.Laws.{length_set_word}
+use Rattle.std.proofs.Common.{◌≡◌, refl, arith}
 use Rattle.emit.specs.steps.Emit.{mapped_words}
 use Rattle.emit.proofs.Turns.{mapped_next, mapped_turn}
 use Rattle.emit.proofs.map_words.Goals as goal
 
 pub loop-i-init : goal.loop-i-init
 unfolding mapped_words
-loop-i-init c = (omega arith, refl, refl)
+loop-i-init c = refl
 
 pub overflow_mul-k : goal.overflow_mul-k
 overflow_mul-k c =
@@ -19,7 +18,7 @@ word_at-offset-requires c =
 
 pub map-requires : goal.map-requires
 map-requires c =
-    record { rising = c.requires.rising; indexed = c.requires.indexed; in_range = rw (c.word_at-offset.ensures, mapped_next (record { some = c.requires.words_fit.some; mapped = c.loop-i.invariant.2 })) (c.requires.words_fit.recorded _ c.loop-i-test.true) }
+    record { rising = c.requires.rising; indexed = c.requires.indexed; in_range = rw (c.word_at-offset.ensures, mapped_next (record { some = c.requires.words_fit.some; mapped = c.loop-i.invariant })) (c.requires.words_fit.recorded _ c.loop-i-test.true) }
 
 pub put_word-requires : goal.put_word-requires
 put_word-requires c =
@@ -27,8 +26,8 @@ put_word-requires c =
 
 pub loop-i-preserved : goal.loop-i-preserved
 loop-i-preserved c =
-    (omega arith, rw c.put_word.ensures (length_set_word _ _ _ ∙ c.loop-i.invariant.1), mapped_turn (record { some = c.requires.words_fit.some; mapped = c.loop-i.invariant.2 }) c.word_at-offset.ensures c.map.ensures c.put_word.ensures)
+    mapped_turn (record { some = c.requires.words_fit.some; mapped = c.loop-i.invariant }) c.word_at-offset.ensures c.map.ensures c.put_word.ensures
 
 pub returns : goal.returns
 returns c =
-    let all : c.loop-i.i ≡ c.args.count = omega arith in rw all at c.loop-i.invariant.2
+    let all : c.loop-i.i ≡ c.args.count = omega arith in rw all at c.loop-i.invariant

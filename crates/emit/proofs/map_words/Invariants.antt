@@ -1,11 +1,8 @@
 -- `map_words` meets its contract: after i turns the first i of the words are mapped.
-use Rattle.std.proofs.Common.{◌≡◌, ◌-◌, ◌≤◌, length, take}
+use Rattle.std.proofs.Common.{◌≡◌, take}
 use Rattle.fresh.specs.Segments.{map_offset}
 use Rattle.emit.specs.steps.Emit.{mapped_words}
 use Rattle.emit.proofs.map_words.Given as goal
 
 abbrev pub invariant-loop-i : goal.invariant-loop-i
-invariant-loop-i l = (l.i ≤ l.count) × (length l.table ≡ length l.initial.table) × (l.table ≡ mapped_words (map_offset (take l.n l.segments)) l.initial.table l.stride l.i)
-
-abbrev pub decreases-loop-i : goal.decreases-loop-i
-decreases-loop-i l = l.count - l.i
+invariant-loop-i l = l.table ≡ mapped_words (map_offset (take l.n l.segments)) l.initial.table l.stride l.i

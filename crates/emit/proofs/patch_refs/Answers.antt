@@ -1,13 +1,12 @@
 -- `patch_refs` meets its contract: after i turns the first i refs are filled.
-use Rattle.std.proofs.Common.{◌≡◌, refl, ◌∙◌, arith}
-use Rattle.fresh.proofs.Fill.{length_fill_field}
+use Rattle.std.proofs.Common.{◌≡◌, refl, arith}
 use Rattle.emit.specs.steps.Emit.{refs_filled}
 use Rattle.emit.proofs.Turns.{refs_turn}
 use Rattle.emit.proofs.patch_refs.Goals as goal
 
 pub loop-i-init : goal.loop-i-init
 unfolding refs_filled
-loop-i-init c = (omega arith, refl, refl)
+loop-i-init c = refl
 
 pub word_at-requires : goal.word_at-requires
 word_at-requires c =
@@ -23,13 +22,13 @@ map-at-requires c =
 
 pub patch_ref-requires : goal.patch_ref-requires
 patch_ref-requires c =
-    rw (c.loop-i.invariant.1, c.map-at.ensures, c.word_at.ensures) (c.requires.refs_fit.each _ c.loop-i-test.true)
+    rw (c.loop-i.auto.output, c.map-at.ensures, c.word_at.ensures) (c.requires.refs_fit.each _ c.loop-i-test.true)
 
 pub loop-i-preserved : goal.loop-i-preserved
 loop-i-preserved c =
     let filled = rw (c.map-at.ensures, c.word_at.ensures) at c.patch_ref.ensures in
-    (omega arith, rw filled (length_fill_field _ _ _ _ _ ∙ c.loop-i.invariant.1), search (refs_turn, c.loop-i.invariant.2, filled))
+    search (refs_turn, c.loop-i.invariant, filled)
 
 pub returns : goal.returns
 returns c =
-    let all : c.loop-i.i ≡ c.args.count = omega arith in rw all at c.loop-i.invariant.2
+    let all : c.loop-i.i ≡ c.args.count = omega arith in rw all at c.loop-i.invariant

@@ -7,14 +7,6 @@ pub word_at-at-requires : goal.word_at-at-requires
 word_at-at-requires c =
     omega (arith, c.requires.entry, c.requires.known)
 
-pub word_at-number-requires : goal.word_at-number-requires
-word_at-number-requires c =
-    omega (arith, c.requires.entry, c.requires.known)
-
-pub word_at-label-requires : goal.word_at-label-requires
-word_at-label-requires c =
-    omega (arith, c.requires.entry, c.requires.known)
-
 pub word_at-requires : goal.word_at-requires
 word_at-requires c =
     omega (arith, c.requires.entry, c.requires.known)

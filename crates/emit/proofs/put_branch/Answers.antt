@@ -21,12 +21,12 @@ returns-then-long c =
     ∙ rw (c.put_word.ensures, c.skipping.ensures, c.if-long.true)
     (two_words c.args.part.now _ _ long_room)
 
-pub put_word-requires-2 : goal.put_word-requires-2
-put_word-requires-2 c =
+pub put_word-requires-else-long : goal.put_word-requires-else-long
+put_word-requires-else-long c =
     let short_room : length c.args.part.now ≡ 4 = c.requires ∙ rw c.if-long.false refl in
     omega (arith, short_room)
 
-pub returns : goal.returns
-returns c =
+pub returns-else-long : goal.returns-else-long
+returns-else-long c =
     let short_room : length c.args.part.now ≡ 4 = c.requires ∙ rw c.if-long.false refl in
-    c.put_word-2.ensures ∙ rw c.if-long.false (one_word c.args.part.now _ short_room)
+    c.put_word-else-long.ensures ∙ rw c.if-long.false (one_word c.args.part.now _ short_room)

@@ -13,6 +13,6 @@ pub put_short-requires : goal.put_short-requires
 put_short-requires c =
     record { encodes = c.requires.encodes; part_length = rw c.if-long.false at c.requires.part_length }
 
-pub returns : goal.returns
-returns c =
+pub returns-else-long : goal.returns-else-long
+returns-else-long c =
     rw c.if-long.false c.put_short.ensures

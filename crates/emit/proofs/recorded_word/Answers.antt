@@ -1,5 +1,5 @@
 -- `recorded_word` meets its contract, by cases of the event.
-use Rattle.std.proofs.Common.{◌≡◌, ℕ, ◌+◌, ◌-◌, ◌≤◌, length, drop, arith, length-drop, length-take}
+use Rattle.std.proofs.Common.{◌≡◌, ℕ, ◌+◌, ◌-◌, ◌≤◌, length, drop, ⊎_elim, arith, length-drop, length-take}
 use Rattle.emit.proofs.Jumps.{keeps_jump, keeps_align, keeps_far, far_end}
 use Rattle.emit.proofs.recorded_word.Goals as goal
 
@@ -19,11 +19,7 @@ word_at-requires c =
 
 pub returns-in-Jump : goal.returns-in-Jump
 returns-in-Jump c =
-    keeps_jump _ _ _ _ c.in-Jump.is
-
-pub returns-in-Align : goal.returns-in-Align
-returns-in-Align c =
-    keeps_align _ _ _ _ c.in-Align.is
+    ⊎_elim (λ j. keeps_jump _ _ _ _ j.1) (λ a. keeps_align _ _ _ _ a.1) c.in-Jump.is
 
 pub returns-in-Far : goal.returns-in-Far
 returns-in-Far c =
