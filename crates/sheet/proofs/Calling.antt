@@ -1,18 +1,14 @@
 -- Each kind of call, made by the program, is the call of the definition: whatever the tables hold that it is not lent.
 use mathlib.Core.Path.{◌≡◌, refl, sym, ap, ◌∙◌}
-use mathlib.Core.Logic.{◌≢◌, ◌⊎◌, inl, inr, ⊎_elim}
-use mathlib.Core.Bool.{true, false, ◌||◌}
+use mathlib.Core.Logic.{◌≢◌, ⊎_elim}
 use mathlib.Core.List.{List}
 use Prim.Native.Nat.{ℕ, ◌+◌, ◌-◌, ◌≤◌, ◌<◌, min}
 use native.Mathlib.Nat.{mod-eq_of_lt}
 use native.Mathlib.Omega.{arith}
-use borrow.Author.Tests.{eqb-true, eqb-false, ne_eqb}
-use lib.Dec.{eqb}
 use lib.ListN.{length, take, drop, length-drop}
 use lib.Seq.{take_all}
 use Rattle.seqs.specs.Pick.{pick}
-use Rattle.seqs.proofs.Booleans.{both_false}
-use Rattle.seqs.proofs.Numbers.{lt_or_ge, eq_or_ne}
+use Rattle.seqs.proofs.Numbers.{lt_or_ge}
 use Rattle.seqs.proofs.Picking.{yes_eq, no_eq}
 use Rattle.words.specs.Words.{word_at}
 use Rattle.fields.specs.Words64.{sign_extend}
@@ -20,7 +16,7 @@ use Rattle.buffer.specs.declared.CodeBuffer.{CodeBuffer}
 use Rattle.buffer.specs.declared.Recorded.{Recorded}
 use Rattle.buffer.specs.declared.Made.{Made}
 use Rattle.buffer.specs.Calls.{put_bytes, get_label, bind_label, align_to, use_label, record_ref, record_jump, add_constant, constant_label, add_reloc}
-use Rattle.recording.specs.Calls.{Recording, Call}
+use Rattle.recording.specs.Calls.{Recording}
 use Rattle.checks.specs.Lent.{recording_of}
 use Rattle.sheet.specs.Run.{word, most_in, signed_word, bytes_in, call_of, called}
 use Rattle.sheet_form.specs.Form.{argument_size, most_bytes}
@@ -55,21 +51,6 @@ counted_bytes arguments n h e =
     rw p (take_all 12 (drop 4 arguments) (omega (arith, rest)) ∙ sym (take_all w (drop 4 arguments) (omega (arith, rest)))))
     (lt_or_ge w 12)
     )
-
--- which of a group's kinds a call has
-pub the_other : {A B : Type 0} → A ⊎ B → (A → ⊥) → B
-the_other (inl a) not_a = absurd (not_a a)
-the_other (inr b) not_a = b
-
-pub either_is : (kind m n : ℕ) → (eqb kind m || eqb kind n) ≡ true → (kind ≡ m) ⊎ (kind ≡ n)
-either_is kind m n h =
-    ⊎_elim
-    (λ (yes : kind ≡ m). inl yes)
-    (λ other. inr (eqb-true kind n (rw (ne_eqb kind m other) at h)))
-    (eq_or_ne kind m)
-
-pub neither_is : (kind m n : ℕ) → (eqb kind m || eqb kind n) ≡ false → (kind ≢ m) × (kind ≢ n)
-neither_is kind m n h = let b = both_false (eqb kind m) (eqb kind n) h in (eqb-false kind m b.0, eqb-false kind n b.1)
 
 module _ (b : CodeBuffer) (kind : ℕ) (arguments code labels events uses refs constants asked relocs : List ℕ) where
   -- the recording that is lent
@@ -142,20 +123,9 @@ module _ (b : CodeBuffer) (kind : ℕ) (arguments code labels events uses refs c
       let p = rw (g0, g1, g2, g3) at e in
       rw k (ap (λ (a : Recorded × List ℕ). (a.0.refusal, recording_of a.0.buffer code labels events uses a.1 constants asked relocs)) p)
 
-  -- what is left is a relocation
-  pub relocation_called : {r : Recorded} {relocs' : List ℕ} {o q t d : ℕ}
-      → (kind ≢ 1) × (kind ≢ 2) × (kind ≢ 3) × (kind ≢ 4) × (kind ≢ 7) × (kind ≢ 8) × (kind ≢ 9) → kind ≢ 5 → kind ≢ 6
-      → o ≡ (word arguments 0).value → q ≡ (word arguments 1).value → t ≡ (word arguments 2).value → d ≡ (signed_word arguments 3).value
-      → (r, relocs') ≡ add_reloc b labels relocs o q t d
+  pub relocation_called : {r : Recorded} {relocs' : List ℕ} {o q t d : ℕ} → kind ≡ 10 → o ≡ (word arguments 0).value → q ≡ (word arguments 1).value → t ≡ (word arguments 2).value → d ≡ (signed_word arguments 3).value → (r, relocs') ≡ add_reloc b labels relocs o q t d
       → Calls r.refusal (recording_of r.buffer code labels events uses refs constants asked relocs')
-  unfolding call_of
-  relocation_called k five six g0 g1 g2 g3 e =
+  unfolding pick call_of
+  relocation_called k g0 g1 g2 g3 e =
       let p = rw (g0, g1, g2, g3) at e in
-      let other =
-      no_eq kind 1 _ _ k.0
-      ∙ (no_eq kind 2 _ _ k.1
-      ∙ (no_eq kind 3 _ _ k.2
-      ∙ (no_eq kind 4 _ _ k.3
-      ∙ (no_eq kind 5 _ _ five ∙ (no_eq kind 6 _ _ six ∙ (no_eq kind 7 _ _ k.4 ∙ (no_eq kind 8 _ _ k.5 ∙ no_eq kind 9 _ _ k.6))))))) in
-      ap (λ (a : Recorded × List ℕ). (a.0.refusal, recording_of a.0.buffer code labels events uses refs constants asked a.1)) p
-      ∙ ap (λ (call : Call). called call lent) (sym other)
+      rw k (ap (λ (a : Recorded × List ℕ). (a.0.refusal, recording_of a.0.buffer code labels events uses refs constants asked a.1)) p)

@@ -9,12 +9,13 @@ ghost use Rattle.buffer.specs.steps.Count.{NamersFit, open_count};
 ghost use Rattle.recording.specs.steps.Righted.{Fitting};
 ghost use Rattle.checks.specs.Lent.{recording_of};
 ghost use Rattle.sheet.specs.Run.{calls_of, run_calls, run_sheet};
-ghost use Rattle.sheet_form.specs.Form.{argument_size};
+ghost use Rattle.sheet_form.specs.Form.{first_broken, argument_size};
 ghost use Rattle.sheet.specs.steps.Meant.{meant, Going};
 
 use buffer::{CodeBuffer, NONE};
 use sheet_form::bound::Bound;
-use sheet_form::{ARGUMENT_SIZE, form, kinds};
+use sheet_form::kinds::{self, Kind};
+use sheet_form::{ARGUMENT_SIZE, form};
 
 mod calls;
 
@@ -29,28 +30,13 @@ pub struct Ran {
     pub index: u32,
 }
 
-// 1 for a bind.
-fn one_bind(kind: u8) -> usize
-    ensures { result ≤ 1 }
-{
-    if kind == kinds::BIND {
-        return 1;
-    }
-    0
-}
-
 // Whether there are more than a few binds among the calls.
 fn has_many_binds(kinds: &[u8]) -> bool {
-    let mut found: usize = 0;
-    let mut i: usize = 0;
-    while i < kinds.len() {
-        found += one_bind(kinds[i]);
-        if FEW_BINDS < found {
-            return true;
-        }
-        i += 1;
-    }
-    false
+    kinds
+        .iter()
+        .filter(|kind| **kind == Kind::Bind as u8)
+        .nth(FEW_BINDS)
+        .is_some()
 }
 
 // Whether the open entries may be counted once, after the sheet's calls: the number that is handed in is right. Kept from call to call, each bind would have
@@ -102,23 +88,23 @@ fn run(
     relocs: &mut [u8],
 ) -> Ran
     requires within { (length arguments.now ≡ length kinds.now * argument_size) × (length kinds.now < 4294967296) }
+    requires formed { length kinds.now ≤ first_broken kinds.now arguments.now }
     requires going { Going kept (recording_of b code.old labels.old events.old uses.old refs.old constants.old asked.old relocs.old) }
     ensures relocs_after { ((result.refusal, result.index), meant kept (recording_of result.buffer code.new labels.new events.new uses.new refs.new constants.new asked.new relocs.new)) ≡ run_calls (calls_of kinds.now arguments.now) 0 (meant kept (recording_of b code.old labels.old events.old uses.old refs.old constants.old asked.old relocs.old)) }
     ensures fitting { Fitting (recording_of result.buffer code.new labels.new events.new uses.new refs.new constants.new asked.new relocs.new) }
 {
     let mut last = b;
     let mut bound = Bound {
-        greatest: NONE,
-        second: NONE,
+        greatest: None,
+        second: None,
     };
-    let mut i: usize = 0;
-    while i < kinds.len() {
+    for i in 0..kinds.len() {
         let at = i * ARGUMENT_SIZE;
         let end = at + ARGUMENT_SIZE;
-        let kind = kinds[i];
+        let kind = kinds::of_byte(kinds[i]);
         let more = i + 1 < kinds.len();
         bound = bound.before_call(last, kind, labels, more);
-        let nearest = bound.nearest(last.code);
+        let nearest = bound.nearest(last.code).unwrap_or(NONE);
         let answer = calls::call(
             last,
             kind,
@@ -143,12 +129,11 @@ fn run(
         }
         bound = bound.after_call(kind, last.code);
         last = going_on(buffer, kept);
-        i += 1;
     }
     Ran {
         buffer: last,
         refusal: 0,
-        index: i as u32,
+        index: kinds.len() as u32,
     }
 }
 
@@ -198,7 +183,9 @@ pub fn run_sheet(
     }
     let n = words::word_at(sheet, 0) as usize;
     let middle = 4 + n;
-    let broken = form::first_broken(&sheet[4..middle], &sheet[middle..]);
+    let kinds = &sheet[4..middle];
+    let arguments = &sheet[middle..];
+    let broken = form::first_broken(kinds, arguments);
     if broken < n {
         return Ran {
             buffer: b,
@@ -216,20 +203,9 @@ pub fn run_sheet(
             index: 0,
         };
     }
-    let kept = !is_counted_after(b, &sheet[4..middle], labels, events, uses, refs, relocs);
+    let kept = !is_counted_after(b, kinds, labels, events, uses, refs, relocs);
     let ran = run(
-        b,
-        kept,
-        &sheet[4..middle],
-        &sheet[middle..],
-        code,
-        labels,
-        events,
-        uses,
-        refs,
-        constants,
-        asked,
-        relocs,
+        b, kept, kinds, arguments, code, labels, events, uses, refs, constants, asked, relocs,
     );
     let left = ran.buffer;
     Ran {

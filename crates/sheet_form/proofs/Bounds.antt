@@ -1,55 +1,126 @@
 -- What is kept of the labels from call to call of a sheet: that it answers a jump, and that it stays right.
-use mathlib.Core.Path.{◌≡◌, sym, ◌∙◌}
-use mathlib.Core.Logic.{◌≢◌}
-use mathlib.Core.List.{List}
-use Prim.Native.Nat.{ℕ, max, ◌≤◌, ◌<◌}
-use native.Mathlib.Omega.{arith}
+use Rattle.std.proofs.Common.{◌≡◌, ◌≢◌, sym, ◌∙◌, ℕ, ◌≤◌, ◌<◌, List, Option, Some, None, option_map, max, refl, not, true, false, rules, cond, ltb, Bool, unwrap_or, arith}
+use Rattle.std.proofs.lemmas.Option.{same_Some}
 use Rattle.buffer.specs.State.{none}
-use Rattle.buffer.specs.steps.Below.{Told}
+use Rattle.buffer.specs.steps.Below.{under, greatest_below, Told}
 use Rattle.buffer.proofs.Below.{under_yes, under_no, below_nearer}
 use Rattle.sheet_form.specs.declared.bound.Bound.{Bound}
 use Rattle.sheet_form.specs.Form.{bind_call}
 use Rattle.sheet_form.specs.steps.Bound.{Known, Follows}
+use borrow.Author.Tests.{ltb-true}
+use denote.Enum.Bare.{sameb, differs_true, differs_false}
+use Rattle.sheet_form.specs.declared.kinds.Kind.{Kind}
+use Rattle.sheet_form.specs.declared.kinds.Kind.TheVariants.{Bytes, NewLabel, Bind, Align, Use, Ref, Jump, Constant, ConstantLabel, Relocation}
+use Rattle.sheet_form.specs.contracts.kinds.Kind.{the_type}
+use Rattle.sheet_form.specs.Kinds.{code_of}
 
-module _ {labels : List ℕ} {n : ℕ} {s : Bound} (known : Known labels n s) (code : ℕ) where
+-- a kind that is tested for being a bind
+other_code : (kind : Kind) → kind ≢ Bind → code_of kind ≢ bind_call
+other_code Bytes h = λ e. omega arith
+other_code NewLabel h = λ e. omega arith
+other_code Bind h = λ e. h refl
+other_code Align h = λ e. omega arith
+other_code Use h = λ e. omega arith
+other_code Ref h = λ e. omega arith
+other_code Jump h = λ e. omega arith
+other_code Constant h = λ e. omega arith
+other_code ConstantLabel h = λ e. omega arith
+other_code Relocation h = λ e. omega arith
+
+pub others : (kind : Kind) → not (sameb the_type kind Bind) ≡ true → code_of kind ≢ bind_call
+others kind h = other_code kind (differs_true the_type kind Bind h)
+
+pub the_bind : (kind : Kind) → not (sameb the_type kind Bind) ≡ false → code_of kind ≡ bind_call
+the_bind kind h = let is : kind ≡ Bind = differs_false the_type (search rules) kind Bind h in rw is
+
+-- an offset that is known, and below another
+abbrev pub kept_below : ℕ → Option ℕ → Option ℕ
+kept_below code None = None
+kept_below code (Some k) = cond (ltb k code) (Some k) None
+
+module _ {labels : List ℕ} {n : ℕ} {s : Bound} (known : Known labels n s) (code m : ℕ) (greatest : s.greatest ≡ Some m) where
   -- Every label is bound below the current offset, or none is bound between it and the greatest offset.
-  pub greatest_told : s.greatest < code → code ≤ none → Told labels n code s.greatest
-  greatest_told below limit = record { right = λ ne. let is = known.first ne in is ∙ sym (below_nearer labels n none code (omega arith) limit) }
+  pub greatest_told : m < code → code ≤ none → Told labels n code m
+  greatest_told below limit = record { right = λ ne. let is = known.first m greatest ne in is ∙ sym (below_nearer labels n none code (omega arith) limit) }
 
-  pub second_told : s.second < code → code ≤ s.greatest → Told labels n code s.second
-  second_told below limit = record { right = λ ne. let is = known.next ne in is ∙ sym (below_nearer labels n s.greatest code (omega arith) limit) }
+  second_kept : (k : ℕ) → s.second ≡ Some k → k < code → code ≤ m → Told labels n code k
+  second_kept k second below limit = record { right = λ ne. let is = known.next m k greatest second ne in is ∙ sym (below_nearer labels n m code (omega arith) limit) }
 
-module _ {kind code : ℕ} {labels labels' : List ℕ} {n n' : ℕ} {s : Bound} (follows : Follows kind code labels n labels' n') (known : Known labels n s) (word : s.greatest ≤ none) where
+  pub second_told : code ≤ m → Told labels n code (unwrap_or (kept_below code s.second) none)
+  second_told limit = by s.second refl
+    where
+      chosen : (k : ℕ) (t : Bool) → s.second ≡ Some k → ltb k code ≡ t → Told labels n code (unwrap_or (cond t (Some k) None) none)
+      chosen k true e h = second_kept k e (ltb-true k code h) limit
+      chosen k false e h = record { right = λ ne. absurd (ne refl) }
+
+      by : (second : Option ℕ) → s.second ≡ second → Told labels n code (unwrap_or (kept_below code second) none)
+      by None e = record { right = λ ne. absurd (ne refl) }
+      by (Some k) e = chosen k (ltb k code) e refl
+
+module _ {kind code : ℕ} {labels labels' : List ℕ} {n n' : ℕ} {s : Bound} (follows : Follows kind code labels n labels' n') (known : Known labels n s) where
   -- a call that binds nothing
   pub known_still : kind ≢ bind_call → Known labels' n' s
   known_still other =
       record {
-        first = λ ne. known.first ne ∙ sym (follows.kept other none (omega arith));
-        next = λ ne. known.next ne ∙ sym (follows.kept other s.greatest word);
+        word = known.word;
+        first = λ m e ne. known.first m e ne ∙ sym (follows.kept other none (omega arith));
+        next = λ m k e f ne. known.next m k e f ne ∙ sym (follows.kept other m (known.word m e));
       }
 
-  module _ (binds : kind ≡ bind_call) (limit : code ≤ none) where
+  -- nothing is known
+  pub known_nothing : s.greatest ≡ None → Known labels' n' s
+  known_nothing nothing = record { word = λ m e. absurd (cc); first = λ m e ne. absurd (cc); next = λ m k e f ne. absurd (cc) }
+
+  module _ (binds : kind ≡ bind_call) (limit : code ≤ none) (m : ℕ) (greatest : s.greatest ≡ Some m) where
     -- a bind past the greatest offset, which is the second now
-    pub known_past : s.greatest < code → Known labels' n' (record { greatest = code; second = s.greatest })
+    pub known_past : m < code → Known labels' n' (record { greatest = Some code; second = Some m })
     known_past past =
-        let was = known.first (λ e. omega arith) in
+        let was = known.first m greatest (λ e. omega arith) in
         record {
-          first = λ ne. omega (arith, was, under_yes code none (omega arith), follows.bound binds limit none (omega arith));
-          next = λ ne. omega (arith, was, under_no code code (omega arith), below_nearer labels n none code (omega arith) limit, follows.bound binds limit code limit);
+          word = λ m' e. let is : code ≡ m' = same_Some code m' e in omega arith;
+          first = λ m' e ne.
+              let is : code ≡ m' = same_Some code m' e in
+              omega (arith, was, under_yes code none (omega arith), follows.bound binds limit none (omega arith));
+          next = λ m' k e f ne.
+              let is : code ≡ m' = same_Some code m' e in
+              let so : m ≡ k = same_Some m k f in
+              let here : greatest_below labels' n' code ≡ max (under code code) (greatest_below labels n code) = follows.bound binds limit code limit in
+              rw (← is, ← so) (omega (arith, was, under_no code code (omega arith), below_nearer labels n none code (omega arith) limit, here));
         }
 
     -- one at the greatest offset
-    pub known_there : s.greatest ≡ code → Known labels' n' s
+    pub known_there : m ≡ code → Known labels' n' s
     known_there there =
         record {
-          first = λ ne. omega (arith, known.first ne, under_yes code none (omega arith), follows.bound binds limit none (omega arith));
-          next = λ ne. omega (arith, known.next ne, under_no code s.greatest (omega arith), follows.bound binds limit s.greatest word);
+          word = known.word;
+          first = λ m' e ne.
+              let is : m ≡ m' = same_Some m m' (sym greatest ∙ e) in
+              omega (arith, known.first m' e ne, under_yes code none (omega arith), follows.bound binds limit none (omega arith));
+          next = λ m' k e f ne.
+              let is : m ≡ m' = same_Some m m' (sym greatest ∙ e) in
+              omega (arith, known.next m' k e f ne, under_no code m' (omega arith), follows.bound binds limit m' (known.word m' e));
         }
 
     -- one before it
-    pub known_before : code < s.greatest → Known labels' n' (record { greatest = s.greatest; second = max s.second code })
-    known_before before =
-        record {
-          first = λ ne. omega (arith, known.first ne, under_yes code none (omega arith), follows.bound binds limit none (omega arith));
-          next = λ ne. omega (arith, known.next (λ e. ne (omega arith)), under_yes code s.greatest before, follows.bound binds limit s.greatest word);
+    pub known_before : code < m → Known labels' n' (record { greatest = Some m; second = option_map (λ k. max k code) s.second })
+    known_before before = by s.second refl
+      where
+        word : (m' : ℕ) → Some m ≡ Some m' → m' ≤ none
+        word m' e = known.word m' (greatest ∙ e)
+
+        first : (m' : ℕ) → Some m ≡ Some m' → m' ≢ none → m' ≡ greatest_below labels' n' none
+        first m' e ne =
+            let is : m ≡ m' = same_Some m m' e in
+            let word = known.word m greatest in
+            rw (← is) (omega (arith, known.first m greatest (λ e. ne (omega arith)), under_yes code none (omega arith), follows.bound binds limit none (omega arith)))
+
+        by : (second : Option ℕ) → s.second ≡ second → Known labels' n' (record { greatest = Some m; second = option_map (λ k. max k code) second })
+        by None e = record { word = word; first = first; next = λ m' k e f ne. absurd (cc) }
+        by (Some k0) e = record {
+          word = word;
+          first = first;
+          next = λ m' k e' f ne.
+              let is : m ≡ m' = same_Some m m' e' in
+              let so : max k0 code ≡ k = same_Some (max k0 code) k f in
+              rw (← is, ← so) (omega (arith, known.next m k0 greatest e (λ z. ne (omega arith)), under_yes code m before, follows.bound binds limit m (known.word m greatest)));
         }

@@ -1,20 +1,15 @@
 -- `run` meets its contract: what is left of the calls, on the recording that is meant, gives what the whole gives, and what is kept of the labels is right.
-use mathlib.Core.Path.{refl, ap, ◌∙◌}
-use Prim.Native.Nat.{◌+◌, ◌*◌, ◌<◌}
+use mathlib.Core.Path.{◌≡◌, refl, ap, ◌∙◌}
+use Prim.Native.Nat.{◌*◌}
 use native.Mathlib.Omega.{arith}
-use lib.ListN.{get_or, take, drop}
+use lib.ListN.{length, get_or, take, drop}
 use Rattle.sheet.specs.Run.{call_of, run_calls}
-use Rattle.sheet_form.proofs.Forming.{argument_part, argument_length}
+use Rattle.sheet_form.proofs.Forming.{argument_part, argument_length, has_kind}
 use Rattle.sheet.proofs.Following.{call_follows}
 use Rattle.sheet.proofs.Counting.{call_meant, meant_on, going_fits, going_on, gone_labels, gone_code}
 use Rattle.sheet.proofs.Running.{run_again, run_refused, run_end}
 use Rattle.sheet_form.specs.Form.{argument_size}
 use Rattle.sheet.proofs.run.Goals as goal
-
-pub overflow_cast-result : goal.overflow_cast-result
-overflow_cast-result c =
-    let index_small : c.loop-i.i + 1 < 4294967296 = omega (arith, c.loop-i-test.true, c.requires.within.1) in
-    record { fits = omega (arith, index_small) }
 
 pub shape_of-code-then-answer-ne0 : goal.shape_of-code-then-answer-ne0
 shape_of-code-then-answer-ne0 c = omega (arith, c.call-answer.auto, c.loop-i.invariant)
@@ -42,38 +37,32 @@ shape_of-relocs-then-answer-ne0 c = omega (arith, c.call-answer.auto, c.loop-i.i
 
 pub loop-i-init : goal.loop-i-init
 loop-i-init c =
-    (omega arith, refl, refl, refl, refl, refl, refl, refl, refl, record { first = λ ne. absurd (ne refl); next = λ ne. absurd (ne refl) }, refl, c.requires.going, omega (arith, c.well_formed))
+    (omega arith, refl, refl, refl, refl, refl, refl, refl, refl, record { word = λ m e. absurd (cc); first = λ m e ne. absurd (cc); next = λ m k e f ne. absurd (cc) }, refl, c.requires.going, omega (arith, c.well_formed))
 
 pub before_call-bound-requires : goal.before_call-bound-requires
 before_call-bound-requires c =
     c.loop-i.invariant.9
 
+pub of_byte-kind-requires : goal.of_byte-kind-requires
+of_byte-kind-requires c = has_kind c.args.kinds.now c.args.arguments.now c.loop-i.i c.loop-i-test.true c.requires.formed
+
 pub call-answer-requires : goal.call-answer-requires
 call-answer-requires c =
-    (argument_length c.args.kinds.now c.args.arguments.now c.loop-i.i c.loop-i-test.true c.requires.within.0, c.nearest-nearest.ensures _ _ c.before_call-bound.ensures)
+    (argument_length c.args.kinds.now c.args.arguments.now c.loop-i.i c.loop-i-test.true c.requires.within.0, rw c.unwrap_or-nearest.ensures (c.nearest.ensures _ _ c.before_call-bound.ensures))
 
 pub returns-then-answer-ne0 : goal.returns-then-answer-ne0
 returns-then-answer-ne0 c =
     let a = c.args in
     let going = c.loop-i.invariant.11 in
     let call = call_of (get_or a.kinds.now c.loop-i.i 0) (take argument_size (drop (c.loop-i.i * argument_size) a.arguments.now)) in
-    let e = rw (argument_part a.kinds.now a.arguments.now c.loop-i.i) at c.call-answer.ensures in record { relocs_after = run_refused a.kinds.now a.arguments.now c.loop-i.i _ _ c.loop-i.invariant.10 _ _ c.loop-i-test.true (call_meant a.kept call _ going c.loop-i.invariant.12 e) c.if-answer-ne0.true; fitting = going_fits call _ going e }
-
-pub overflow_add-i : goal.overflow_add-i
-overflow_add-i c =
-    let index_small : c.loop-i.i + 1 < 4294967296 = omega (arith, c.loop-i-test.true, c.requires.within.1) in
-    record { fits = omega (arith, index_small) }
-
-pub loop-i-smaller : goal.loop-i-smaller
-loop-i-smaller c =
-    omega (arith, c.loop-i-test.true)
+    let e = rw (c.of_byte-kind.ensures, argument_part a.kinds.now a.arguments.now c.loop-i.i) at c.call-answer.ensures in record { relocs_after = run_refused a.kinds.now a.arguments.now c.loop-i.i _ _ c.loop-i.invariant.10 _ _ c.loop-i-test.true (call_meant a.kept call _ going c.loop-i.invariant.12 e) c.if-answer-ne0.true; fitting = going_fits call _ going e }
 
 pub loop-i-preserved : goal.loop-i-preserved
 loop-i-preserved c =
     let a = c.args in
     let going = c.loop-i.invariant.11 in
     let call = call_of (get_or a.kinds.now c.loop-i.i 0) (take argument_size (drop (c.loop-i.i * argument_size) a.arguments.now)) in
-    let e = rw (argument_part a.kinds.now a.arguments.now c.loop-i.i) at c.call-answer.ensures in (
+    let e = rw (c.of_byte-kind.ensures, argument_part a.kinds.now a.arguments.now c.loop-i.i) at c.call-answer.ensures in (
       omega (arith, c.loop-i-test.true),
       omega (arith, c.call-answer.auto, c.loop-i.invariant),
       omega (arith, c.call-answer.auto, c.loop-i.invariant),
@@ -95,4 +84,5 @@ loop-i-preserved c =
 pub returns : goal.returns
 returns c =
     let a = c.args in
-    record { relocs_after = run_end a.kinds.now a.arguments.now c.loop-i.i _ _ c.loop-i.invariant.10 c.loop-i-test.false; fitting = c.loop-i.invariant.11.fitting }
+    let all : c.loop-i.i ≡ length a.kinds.now = omega (arith, c.loop-i-test.false) in
+    record { relocs_after = rw all at (run_end a.kinds.now a.arguments.now c.loop-i.i _ _ c.loop-i.invariant.10 c.loop-i-test.false); fitting = c.loop-i.invariant.11.fitting }

@@ -2,9 +2,9 @@
 use mathlib.Core.Path.{◌≡◌, sym, ap, ◌∙◌}
 use mathlib.Core.Bool.{true}
 use mathlib.Core.List.{List}
-use Prim.Native.Nat.{◌+◌, ◌*◌, ◌≤◌, ℕ}
+use Prim.Native.Nat.{◌+◌, ◌-◌, ◌*◌, ◌≤◌, ℕ}
 use native.Mathlib.Omega.{arith}
-use lib.ListN.{length}
+use lib.ListN.{length, length-take, drop}
 use Rattle.words.specs.Words.{word_at}
 use Rattle.buffer.specs.Tables.{most_open}
 use Rattle.recording.specs.Calls.{Recording}
@@ -29,16 +29,16 @@ pub word_at-n-requires : goal.word_at-n-requires
 word_at-n-requires c =
     omega (arith, (whole_length _ (sym c.is_whole.ensures ∙ c.if-not-is_whole.false)).0)
 
-pub slice_bounds-first_broken-end : goal.slice_bounds-first_broken-end
-slice_bounds-first_broken-end c =
+pub slice_bounds-kinds-end : goal.slice_bounds-kinds-end
+slice_bounds-kinds-end c =
     omega (arith, long c.args.sheet.now (sym c.is_whole.ensures ∙ c.if-not-is_whole.false) c.word_at-n.ensures)
 
-pub slice_bounds-first_broken-count-2 : goal.slice_bounds-first_broken-count-2
-slice_bounds-first_broken-count-2 c =
+pub slice_bounds-arguments-count : goal.slice_bounds-arguments-count
+slice_bounds-arguments-count c =
     omega (arith, long c.args.sheet.now (sym c.is_whole.ensures ∙ c.if-not-is_whole.false) c.word_at-n.ensures)
 
-pub slice_bounds-first_broken-start-2 : goal.slice_bounds-first_broken-start-2
-slice_bounds-first_broken-start-2 c =
+pub slice_bounds-arguments-start : goal.slice_bounds-arguments-start
+slice_bounds-arguments-start c =
     omega (arith, long c.args.sheet.now (sym c.is_whole.ensures ∙ c.if-not-is_whole.false) c.word_at-n.ensures)
 
 pub first_broken-broken-requires : goal.first_broken-broken-requires
@@ -56,10 +56,6 @@ returns-then-why-ne0 c =
     let unbroken : word_at c.args.sheet.now 0 ≤ c.first_broken-broken.result = omega (arith, c.if-broken-n.false, c.word_at-n.ensures) in
     sheet_not_standing _ _ (sym c.is_whole.ensures ∙ c.if-not-is_whole.false) _ broken unbroken _ c.why_not_standing-why.ensures c.if-why-ne0.true
 
-pub slice_bounds-is_counted_after-end : goal.slice_bounds-is_counted_after-end
-slice_bounds-is_counted_after-end c =
-    omega (arith, long c.args.sheet.now (sym c.is_whole.ensures ∙ c.if-not-is_whole.false) c.word_at-n.ensures)
-
 pub is_counted_after-kept-requires : goal.is_counted_after-kept-requires
 is_counted_after-kept-requires c =
     let a = c.args in
@@ -68,24 +64,12 @@ is_counted_after-kept-requires c =
     let f = fits.0 in
     record { namers_fit = f.namers; labels_within = f.labels }
 
-pub slice_bounds-run-end : goal.slice_bounds-run-end
-slice_bounds-run-end c =
-    omega (arith, long c.args.sheet.now (sym c.is_whole.ensures ∙ c.if-not-is_whole.false) c.word_at-n.ensures)
-
-pub slice_bounds-run-count-2 : goal.slice_bounds-run-count-2
-slice_bounds-run-count-2 c =
-    omega (arith, long c.args.sheet.now (sym c.is_whole.ensures ∙ c.if-not-is_whole.false) c.word_at-n.ensures)
-
-pub slice_bounds-run-start-2 : goal.slice_bounds-run-start-2
-slice_bounds-run-start-2 c =
-    omega (arith, long c.args.sheet.now (sym c.is_whole.ensures ∙ c.if-not-is_whole.false) c.word_at-n.ensures)
-
 pub run-ran-requires : goal.run-ran-requires
 run-ran-requires c =
     let a = c.args in
     let r = recording_of a.b a.code.now a.labels.now a.events.now a.uses.now a.refs.now a.constants.now a.asked.now a.relocs.now in
     let fits : Fitting r × (a.b.unresolved ≤ most_open) = standing_fits _ (sym c.why_not_standing-why.ensures ∙ c.if-why-ne0.false) in
-    record { within = (parts_match _ (sym c.is_whole.ensures ∙ c.if-not-is_whole.false) _ c.word_at-n.ensures, kinds_few c.args.sheet.now c.word_at-n.result (omega arith)); going = record { fitting = fits.0; few = λ no. fits.1 } }
+    record { within = (parts_match _ (sym c.is_whole.ensures ∙ c.if-not-is_whole.false) _ c.word_at-n.ensures, kinds_few c.args.sheet.now c.word_at-n.result (omega arith)); formed = omega (arith, c.if-broken-n.false, c.first_broken-broken.ensures, length-take (4 + c.word_at-n.result - 4) (drop 4 c.args.sheet.now)); going = record { fitting = fits.0; few = λ no. fits.1 } }
 
 pub returns : goal.returns
 returns c =

@@ -1,14 +1,15 @@
 -- What a sheet's run keeps of the labels from call to call: the two greatest offsets at which one is bound.
-use Rattle.std.specs.Prelude.{◌≡◌, ◌≢◌, List, ℕ, max, ◌≤◌}
+use Rattle.std.specs.Prelude.{◌≡◌, ◌≢◌, List, ℕ, max, ◌≤◌, Some}
 use Rattle.buffer.specs.State.{none}
 use Rattle.buffer.specs.steps.Below.{under, greatest_below}
 use Rattle.sheet_form.specs.declared.bound.Bound.{Bound}
 use Rattle.sheet_form.specs.Form.{bind_call}
 
--- each that is known is right: the greatest offset of the first n labels, and the greatest below that
+-- each that is known is a word, and right if it is an offset that a label may have: the greatest offset of the first n labels, and the greatest below that
 pub record Known (labels : List ℕ) (n : ℕ) (s : Bound) : Type 0 where
-  pub first : s.greatest ≢ none → s.greatest ≡ greatest_below labels n none
-  pub next : s.second ≢ none → s.second ≡ greatest_below labels n s.greatest
+  pub word : (m : ℕ) → s.greatest ≡ Some m → m ≤ none
+  pub first : (m : ℕ) → s.greatest ≡ Some m → m ≢ none → m ≡ greatest_below labels n none
+  pub next : (m k : ℕ) → s.greatest ≡ Some m → s.second ≡ Some k → k ≢ none → k ≡ greatest_below labels n m
 
 -- what a call of a kind makes of the labels, at a current offset: a bind adds that offset, no other call adds any
 pub record Follows (kind code : ℕ) (labels : List ℕ) (n : ℕ) (labels' : List ℕ) (n' : ℕ) : Type 0 where

@@ -13,7 +13,7 @@ loop-i-init c = (omega arith, refl)
 pub loop-i-preserved : goal.loop-i-preserved
 loop-i-preserved c = (
   omega arith,
-  (rw (c.offset_of.ensures, c.word_at-label.ensures, c.loop-i.invariant.1) at c.larger-most.ensures)
+  (rw (c.offset_of.ensures, c.word_at.ensures, c.loop-i.invariant.1) at c.max-most.ensures)
       ∙ below_step c.args.labels.now c.loop-i.i none,
 )
 

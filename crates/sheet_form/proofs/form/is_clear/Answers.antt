@@ -1,25 +1,25 @@
--- `is_clear` meets its contract: all the bytes passed are 0.
-use mathlib.Core.Path.{refl, ap}
-use mathlib.Core.Bool.{not}
-use Prim.Native.Nat.{ℕ}
-use native.Mathlib.Omega.{arith}
-use lib.Dec.{eqb}
-use borrow.Author.Tests.{eq-eqb, ne_eqb}
-use Rattle.seqs.proofs.Every.{every_all}
-use Rattle.seqs.proofs.Scans.{pass_one, pass_fails, pass_all}
+-- `is_clear` meets its contract: the fours are clear, and the rest.
+use Rattle.std.proofs.Common.{rules, ◌≡◌, ◌∙◌, sym, ap, ℕ, List, eqb, ◌&&◌, ◌*◌, ◌/◌, length, drop}
+use borrow.Author.Tests.{tests}
+use Rattle.std.specs.List.{list_all}
+use Rattle.std.specs.Simd.{first_chunks}
+use Rattle.std.proofs.lemmas.Iterator.{YieldsList-from_slice}
+use Rattle.std.proofs.lemmas.Iterator.Search.{all_from_yields_List}
+use Rattle.words.specs.Words.{word_at}
+use Rattle.sheet_form.proofs.Forming.{clear_fours, few_fours}
 use Rattle.sheet_form.proofs.form.is_clear.Goals as goal
 
-pub loop-i-init : goal.loop-i-init
-loop-i-init c = record { within = c.clear_front-i.ensures.0; holds = c.clear_front-i.ensures.1 }
+pub returns-then-all : goal.returns-then-all
+returns-then-all c =
+    let part = c.args.part.now in
+    let n = length part / 4 in
+    let fours : c.all.result ≡ list_all (λ (four : List ℕ). eqb (word_at four 0) 0) (first_chunks 4 n part) = all_from_yields_List (λ (four : List ℕ). eqb (word_at four 0) 0) _ _ _ c.all.ensures.ran (YieldsList-from_slice _ (c.iter.ensures.rest ∙ c.as_chunks.ensures.front)) (λ x b q k. search (rules, tests)) in
+    let rest : c.all-then-all.result ≡ list_all (λ (x : ℕ). eqb x 0) (drop (n * 4) part) = all_from_yields_List (λ (x : ℕ). eqb x 0) _ _ _ c.all-then-all.ensures.ran (YieldsList-from_slice _ (c.iter-then-all.ensures.rest ∙ c.as_chunks.ensures.back)) (λ x b q k. search (rules, tests)) in
+    rest ∙ ap (λ t. t && list_all (λ (x : ℕ). eqb x 0) (drop (n * 4) part)) (sym c.if-all.true ∙ fours) ∙ clear_fours n part (few_fours part)
 
-pub returns-then-part-i-ne0 : goal.returns-then-part-i-ne0
-returns-then-part-i-ne0 c =
-    rw (every_all (λ (x : ℕ). eqb x 0) _ 0) (pass_fails c.loop-i.invariant (omega arith) refl (ap not (ne_eqb _ 0 c.if-part-i-ne0.true)))
-
-pub loop-i-preserved : goal.loop-i-preserved
-loop-i-preserved c =
-    pass_one c.loop-i.invariant (omega arith) refl (ap not (eq-eqb _ 0 c.if-part-i-ne0.false))
-
-pub returns : goal.returns
-returns c =
-    rw (every_all (λ (x : ℕ). eqb x 0) _ 0) (pass_all c.loop-i.invariant (omega arith))
+pub returns-else-all : goal.returns-else-all
+returns-else-all c =
+    let part = c.args.part.now in
+    let n = length part / 4 in
+    let fours : c.all.result ≡ list_all (λ (four : List ℕ). eqb (word_at four 0) 0) (first_chunks 4 n part) = all_from_yields_List (λ (four : List ℕ). eqb (word_at four 0) 0) _ _ _ c.all.ensures.ran (YieldsList-from_slice _ (c.iter.ensures.rest ∙ c.as_chunks.ensures.front)) (λ x b q k. search (rules, tests)) in
+    c.if-all.false ∙ ap (λ t. t && list_all (λ (x : ℕ). eqb x 0) (drop (n * 4) part)) (sym c.if-all.false ∙ fours) ∙ clear_fours n part (few_fours part)

@@ -3,11 +3,10 @@ use borrow.Author.Tests.{le-leb, lt-leb}
 use Rattle.sheet_form.specs.Form.{is_whole}
 use Rattle.sheet_form.proofs.form.is_whole.Goals as goal
 
-pub returns-then-sheet-lt4 : goal.returns-then-sheet-lt4
+pub returns-else-sheet-ge4 : goal.returns-else-sheet-ge4
 unfolding is_whole
-returns-then-sheet-lt4 c = rw (lt-leb 4 _ c.if-sheet-lt4.true)
+returns-else-sheet-ge4 c = rw (lt-leb 4 _ c.if-sheet-ge4.false)
 
-pub returns : goal.returns
+pub returns-then-sheet-ge4 : goal.returns-then-sheet-ge4
 unfolding is_whole
-returns c =
-    rw (c.word_at.ensures, le-leb 4 _ c.if-sheet-lt4.false)
+returns-then-sheet-ge4 c = rw (c.word_at.ensures, le-leb 4 _ c.if-sheet-ge4.true)
