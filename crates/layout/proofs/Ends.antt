@@ -1,77 +1,28 @@
 -- The new ends of events in their rows.
 use mathlib.Core.Path.{◌≡◌, refl, sym, ◌∙◌, ap}
 use mathlib.Core.Logic.{⊎_elim}
-use mathlib.Core.Bool.{false}
 use mathlib.Core.List.{List, [], ◌++◌}
-use Prim.Native.Nat.{ℕ, suc, ◌+◌, ◌-◌, ◌*◌, ◌≤◌, ◌<◌}
+use Prim.Native.Nat.{ℕ, suc, ◌+◌, ◌-◌, ◌≤◌, ◌<◌}
 use native.Mathlib.Omega.{arith}
-use lib.ListN.{length, get_or, set, get_or-append}
+use lib.ListN.{length, get_or, get_or-append}
 use lib.Seq.{get_or-append-add}
 use Rattle.seqs.specs.Over.{over}
 use Rattle.seqs.proofs.Numbers.{lt_or_ge}
-use Rattle.seqs.proofs.Overwrites.{length_over, over_nil, over_snoc, get_d_over_in, get_d_over_before, get_d_over_after}
+use Rattle.seqs.proofs.Overwrites.{length_over, get_d_over_in, get_d_over_before}
 use Rattle.relax.specs.declared.LayoutEvent.{LayoutEvent}
 use Rattle.relax.specs.declared.Segment.{Segment}
-use Rattle.relax.specs.Events.{event_at, no_event}
-use Rattle.buffer.specs.Tables.{most_entries}
+use Rattle.relax.specs.Events.{event_at}
 use Rattle.recording.specs.View.{entries}
 use Rattle.recording.proofs.Views.{length_entries, get_d_entries}
 use Rattle.fresh.specs.Fresh.{Choice}
-use Rattle.fresh.specs.Segments.{segment, segments}
+use Rattle.fresh.specs.Segments.{segments}
 use Rattle.fresh.specs.steps.Runs.{Cursor, after, segment_at}
-use Rattle.fresh.proofs.Loops.{length_segments, segments_get_d, after_suc, after_start_lem, after_le, modest_at}
-use Rattle.pool.specs.steps.Pool.{pool_event, offset_bound}
-use Rattle.layout.specs.steps.Layout.{zero_segment, Follows, Recorded, all_events}
-use Rattle.layout.specs.steps.Targets.{with_end, ended_row, Ended, Placed}
+use Rattle.fresh.proofs.Loops.{length_segments, segments_get_d, after_suc}
+use Rattle.pool.specs.steps.Pool.{pool_event}
+use Rattle.layout.specs.steps.Layout.{zero_segment, all_events}
+use Rattle.layout.specs.steps.Targets.{ended_row, Ended, Placed}
 use Rattle.layout.proofs.Pooling.{length_all, segments_all}
 use Rattle.layout.proofs.SamePast.{same_past_more, same_past_over}
-
--- The new ends of the first i events.
-pub ended_none : (before : List Segment) (es : List LayoutEvent) (c : Choice) → Ended before before es c 0 0 0
-unfolding after
-ended_none before es c = record { table = sym (over_nil before 0); here = refl }
-
-module _ {before ss : List Segment} {events : List ℕ} {n code : ℕ} {c : Choice} {i old new : ℕ} (rec : Recorded events n code) (few : n ≤ most_entries)
-    (q : Ended before ss (entries (event_at events) n) c i old new) (h : i < n) where
-  es : List LayoutEvent
-  es = entries (event_at events) n
-
-  within : i < length es
-  unfolding es
-  within = omega (arith, length_entries (event_at events) n)
-
-  pub ended_follows : Follows (event_at events i) old new
-  unfolding es within
-  ended_follows =
-      let e : get_or es i no_event ≡ event_at events i = get_d_entries (event_at events) n i no_event h in
-      let start = after_start_lem es 0 0 code c i rec.ordered within in
-      let a = ap (λ (x : Cursor). x.old) q.here in
-      let b = ap (λ (x : Cursor). x.new) q.here in
-      let sum = after_le es 0 0 code c i rec.modest rec.ordered (omega (arith, within)) in
-      rw (← e)
-      record {
-        order = omega (arith, start, a);
-        modest = modest_at es i rec.modest within;
-        ends = omega (arith, start, rec.small);
-        small = omega (arith, start, rec.small, sum, a, b);
-      }
-
-  pub ended_more : (s : Segment) → s ≡ segment old new (event_at events i) (get_or c i false)
-      → Ended before (set ss i (with_end (get_or ss i zero_segment) s.new_end)) (entries (event_at events) n) c (suc i) s.old_end s.new_end
-  unfolding es within segment_at
-  ended_more s e =
-      let event : get_or es i no_event ≡ event_at events i = get_d_entries (event_at events) n i no_event h in
-      let next : after (suc i) 0 0 es c ≡ record { old = s.old_end; new = s.new_end }
-      = after_suc es 0 0 c i within ∙ rw (event, q.here, e) refl in
-      let count = length_entries (ended_row before es c) i in
-      let row : get_or ss i zero_segment ≡ get_or before i zero_segment
-      = rw q.table (get_d_over_after before 0 (entries (ended_row before es c) i) i zero_segment (omega (arith, count))) in
-      record {
-        table =
-            rw (row, ← ap (λ (x : Cursor). x.new) next, q.table)
-            (over_snoc before 0 (entries (ended_row before es c) i) i (ended_row before es c i) (omega (arith, count)));
-        here = next;
-      }
 
 -- A round's layout: the ends of the recorded events, and then the pool's segments.
 module _ (events : List ℕ) (n code : ℕ) (constants asked : List ℕ) (m : ℕ) (c : Choice) {before ss ss' : List Segment} {old new : ℕ}
@@ -149,21 +100,3 @@ module _ (events : List ℕ) (n code : ℕ) (constants asked : List ℕ) (m : �
             (same_past_more (same_past_over (length (all_events events n code constants asked m)) before 0 _ (omega (arith, size, length_entries (ended_row before (entries (event_at events) n) c) n)))
             (same_past_over (length (all_events events n code constants asked m)) _ n rest (omega (arith, size, length_rest))) (omega arith));
       }
-
--- The recorded events end within the code, at a small new offset.
-module _ {events : List ℕ} {n code : ℕ} {before ss : List Segment} {c : Choice} {old new : ℕ} (rec : Recorded events n code)
-    (q : Ended before ss (entries (event_at events) n) c n old new) where
-  ended_after : (old ≤ code) × (new ≤ old + 4096 * n)
-  ended_after =
-      omega (
-        arith,
-        after_le (entries (event_at events) n) 0 0 code c n rec.modest rec.ordered (omega (arith, length_entries (event_at events) n)),
-        ap (λ (x : Cursor). x.old) q.here,
-        ap (λ (x : Cursor). x.new) q.here,
-      )
-
-  pub ended_low : old ≤ code
-  ended_low = ended_after.0
-
-  pub ended_small : n ≤ most_entries → new + (code - old) ≤ offset_bound
-  ended_small few = omega (arith, ended_after, rec.small)

@@ -4,7 +4,7 @@ use mathlib.Core.Logic.{⊎_elim}
 use mathlib.Core.List.{List}
 use Prim.Native.Nat.{ℕ, ◌+◌, ◌≤◌, ◌<◌}
 use native.Mathlib.Omega.{arith}
-use lib.ListN.{length, set, length-set}
+use lib.ListN.{length, get_or, set, length-set}
 use lib.Seq.{ext_get_or, get_or-set_other}
 use Rattle.seqs.specs.Over.{over}
 use Rattle.seqs.proofs.Numbers.{lt_or_ge}
@@ -24,6 +24,22 @@ same_past_set k ss i s h = record { sized = length-set ss i s; same = λ j l. ge
 
 pub same_past_over : (k : ℕ) (ss : List Segment) (at : ℕ) (ys : List Segment) → at + length ys ≤ k → SamePast k ss (over ss at ys)
 same_past_over k ss at ys h = record { sized = length_over ss at ys; same = λ j l. get_d_over_after ss at ys j zero_segment (omega arith) }
+
+pub same_past_grow : {k j : ℕ} {before ss : List Segment} → SamePast k before ss → k ≤ j → SamePast j before ss
+same_past_grow p h = record { sized = p.sized; same = λ i l. p.same i (omega arith) }
+
+-- A table that has these entries first was written over with them.
+pub same_past_is : {k : ℕ} {before ss : List Segment} → SamePast k before ss → (ys : List Segment) → length ys ≡ k → k ≤ length before
+    → ((i : ℕ) → i < k → get_or ss i zero_segment ≡ get_or ys i zero_segment) → ss ≡ over before 0 ys
+same_past_is {k} {before} {ss} q ys h room each =
+    ext_get_or zero_segment ss (over before 0 ys) (q.sized ∙ sym (length_over before 0 ys))
+    (λ i l. ⊎_elim
+    (λ lt. let z : 0 + i ≡ i = omega arith in
+    let here : i < length ys = omega (arith, h) in
+    let there : 0 + i < length before = omega (arith, room) in
+    each i lt ∙ sym (rw z at (get_d_over_in before 0 ys i zero_segment here there)))
+    (λ ge. q.same i ge ∙ sym (get_d_over_after before 0 ys i zero_segment (omega arith)))
+    (lt_or_ge i k))
 
 -- What is written over all of these entries leaves the same table.
 pub over_same_past : {k : ℕ} {before ss : List Segment} → SamePast k before ss → (ys : List Segment) → length ys ≡ k → over ss 0 ys ≡ over before 0 ys

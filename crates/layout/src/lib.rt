@@ -17,7 +17,7 @@ ghost use Rattle.fresh.specs.Segments.{segment, image, map_offset};
 ghost use Rattle.fresh.specs.Segments as fresh;
 ghost use Rattle.fresh.specs.steps.Runs.{behind_of, ahead_of};
 ghost use Rattle.pool.specs.steps.Pool.{pool_start, pool_event, PoolFits, offset_bound};
-ghost use Rattle.layout.specs.steps.Targets.{in_reach, end_in, old_end_before, Stands, Shown, Finds, Aims, label_of, Aiming, held, SamePast, Placed, with_target, with_end, Ended, end_before, Adds, is_missed, missed};
+ghost use Rattle.layout.specs.steps.Targets.{in_reach, end_in, old_end_before, Stands, Shown, Finds, Aims, label_of, Aiming, held, SamePast, Placed, with_target, LaidBy, end_before, Adds, is_missed, missed};
 ghost use Rattle.layout.specs.steps.Layout.{zero_segment, start_at, Rising, Sorted, Between, Follows, Recorded, all_events, end_from, finished_length, Laid, Known, Labelled, Relaxed};
 
 use relax::{LayoutEvent, Segment};
@@ -150,26 +150,6 @@ pub fn next_segment(event: LayoutEvent, long: bool, old: u32, new: u32) -> Segme
     }
 }
 
-// Fills the segments of the first `n` events; the last of them, all zeros where there is none.
-fn layout_events(segments: &mut [Segment], events: &[u8], long: &[bool], n: usize) -> Segment
-    requires recorded { Recorded events.now n most_code }
-    requires within { (n ≤ most_entries) × (n ≤ length segments.old) × (n ≤ length long.now) }
-    ensures { Laid segments.old segments.new (entries (event_at events.now) n) long.now result.old_end result.new_end }
-{
-    let mut last = Segment {
-        old_start: 0,
-        old_end: 0,
-        new_start: 0,
-        new_end: 0,
-    };
-    for i in 0..n {
-        let event = relax::event_at(events, i);
-        last = next_segment(event, long[i], last.old_end, last.new_end);
-        put_segment(segments, i, last);
-    }
-    last
-}
-
 // Fills the segments of the pool's alignments, `m` from segment `n` on: the pool starts at the recorded offset `old` and the new offset `new`. Where it ends.
 fn layout_pool(
     segments: &mut [Segment],
@@ -208,7 +188,41 @@ fn layout_pool(
     to
 }
 
-// Lays out the `n` events and after them the alignments of the pool's `m` constants, the code being `code` bytes long; the finished length.
+// Lays out the `n` events and after them the alignments of the pool's `m` constants, the code being `code` bytes long; the finished length. The row of an
+// event comes to hold what `kept` makes of what it held and of the event's segment.
+fn layout_by<F: Fn(Segment, Segment) -> Segment>(
+    segments: &mut [Segment],
+    events: &[u8],
+    constants: &[u8],
+    asked: &[u8],
+    long: &[bool],
+    n: usize,
+    m: usize,
+    code: u32,
+    kept: F,
+) -> u32
+    requires recorded { Recorded events.now n code }
+    requires pool_fits { PoolFits constants.now asked.now m }
+    requires within { (n + m ≤ most_entries) × (n + m ≤ length segments.old) × (n ≤ length long.now) }
+    requires callable { F.IsAlwaysCallable kept }
+    ensures { LaidBy (F.post kept) segments.old segments.new events.now n code constants.now asked.now m long.now result }
+{
+    let mut last = Segment {
+        old_start: 0,
+        old_end: 0,
+        new_start: 0,
+        new_end: 0,
+    };
+    for i in 0..n {
+        let event = relax::event_at(events, i);
+        last = next_segment(event, long[i], last.old_end, last.new_end);
+        put_segment(segments, i, kept(segment_at(segments, i), last));
+    }
+    let new = last.new_end + (code - last.old_end);
+    layout_pool(segments, constants, asked, n, m, code, new)
+}
+
+// That, every row holding its event's segment.
 pub fn layout(
     segments: &mut [Segment],
     events: &[u8],
@@ -225,9 +239,49 @@ pub fn layout(
     ensures segments_after { segments.new ≡ over segments.old 0 (fresh.segments 0 0 (all_events events.now n code constants.now asked.now m) long.now) }
     ensures value { result ≡ finished_length (all_events events.now n code constants.now asked.now m) long.now (pool_start code constants.now asked.now m) }
 {
-    let last = layout_events(segments, events, long, n);
-    let new = last.new_end + (code - last.old_end);
-    layout_pool(segments, constants, asked, n, m, code, new)
+    layout_by(
+        segments,
+        events,
+        constants,
+        asked,
+        long,
+        n,
+        m,
+        code,
+        |_, made| { made },
+    )
+}
+
+// A round's layout: the new ends of all events under a choice, and of the first `n` rows nothing else.
+fn place_ends(
+    segments: &mut [Segment],
+    events: &[u8],
+    constants: &[u8],
+    asked: &[u8],
+    long: &[bool],
+    n: usize,
+    m: usize,
+    code: u32,
+)
+    requires recorded { Recorded events.now n code }
+    requires pool_fits { PoolFits constants.now asked.now m }
+    requires within { (n + m ≤ most_entries) × (n + m ≤ length segments.old) × (n ≤ length long.now) }
+    ensures { Placed segments.old segments.new (all_events events.now n code constants.now asked.now m) n long.now }
+{
+    layout_by(
+        segments,
+        events,
+        constants,
+        asked,
+        long,
+        n,
+        m,
+        code,
+        |row, made| Segment {
+            new_end: made.new_end,
+            ..row
+        },
+    );
 }
 
 // How far an event reaches from the end of its short form.
@@ -341,7 +395,7 @@ fn locate(
 }
 
 // The label that an event names.
-pub fn label_of(event: LayoutEvent) -> Option<u32>
+fn label_of(event: LayoutEvent) -> Option<u32>
     ensures { result ≡ label_of (role_of event) }
 {
     match event {
@@ -416,63 +470,6 @@ fn find_targets(
         let target = target_of(segments, events, labels, n, all, index, shift, i);
         put_target(segments, i, target);
     }
-}
-
-// Writes the new end of event `i` into its row, and nothing else of it.
-fn put_end(segments: &mut [Segment], i: usize, end: u32)
-    requires { i < length segments.old }
-    ensures { segments.new ≡ set segments.old i (with_end (get_or segments.old i zero_segment) end) }
-{
-    let row = segment_at(segments, i);
-    put_segment(
-        segments,
-        i,
-        Segment {
-            new_end: end,
-            ..row
-        },
-    );
-}
-
-// Writes the new ends of the first `n` events under a choice into their rows; the segment of the last of them, all zeros where there is none.
-fn end_events(segments: &mut [Segment], events: &[u8], long: &[bool], n: usize) -> Segment
-    requires recorded { Recorded events.now n most_code }
-    requires within { (n ≤ most_entries) × (n ≤ length segments.old) × (n ≤ length long.now) }
-    ensures { Ended segments.old segments.new (entries (event_at events.now) n) long.now n result.old_end result.new_end }
-{
-    let mut last = Segment {
-        old_start: 0,
-        old_end: 0,
-        new_start: 0,
-        new_end: 0,
-    };
-    for i in 0..n {
-        let event = relax::event_at(events, i);
-        last = next_segment(event, long[i], last.old_end, last.new_end);
-        put_end(segments, i, last.new_end);
-    }
-    last
-}
-
-// A round's layout: the new ends of all events under a choice, and of the first `n` rows nothing else.
-fn place_ends(
-    segments: &mut [Segment],
-    events: &[u8],
-    constants: &[u8],
-    asked: &[u8],
-    long: &[bool],
-    n: usize,
-    m: usize,
-    code: u32,
-)
-    requires recorded { Recorded events.now n code }
-    requires pool_fits { PoolFits constants.now asked.now m }
-    requires within { (n + m ≤ most_entries) × (n + m ≤ length segments.old) × (n ≤ length long.now) }
-    ensures { Placed segments.old segments.new (all_events events.now n code constants.now asked.now m) n long.now }
-{
-    let last = end_events(segments, events, long, n);
-    let new = last.new_end + (code - last.old_end);
-    layout_pool(segments, constants, asked, n, m, code, new);
 }
 
 // The new end of the first `k` events.

@@ -1,10 +1,7 @@
 -- `fill_index` meets its contract: after i turns the first i starts are marked.
-use mathlib.Core.Path.{◌≡◌}
-use Prim.Native.Nat.{◌≤◌}
-use lib.ListN.{length}
 use Rattle.lookup.specs.steps.Index.{Filled}
 use Rattle.layout.specs.steps.Layout.{start_at}
 use Rattle.layout.proofs.fill_index.Given as goal
 
 abbrev pub invariant-loop-i : goal.invariant-loop-i
-invariant-loop-i l = Filled l.index (start_at l.segments) l.n l.shift l.i l.next × (l.i ≤ l.n) × (length l.index ≡ length l.initial.index)
+invariant-loop-i l = Filled l.index (start_at l.segments) l.n l.shift l.i l.next

@@ -1,10 +1,7 @@
 -- `layout_pool` meets its contract: a turn lays out one alignment more.
-use mathlib.Core.Path.{◌≡◌}
-use Prim.Native.Nat.{◌≤◌}
-use lib.ListN.{length}
 use Rattle.layout.proofs.Pooling.{PoolLaid}
 use Rattle.layout.proofs.layout_pool.Given as goal
 
 abbrev pub invariant-loop-j : goal.invariant-loop-j
 invariant-loop-j l =
-    (l.j ≤ l.m) × (length l.segments ≡ length l.initial.segments) × PoolLaid l.initial.segments l.segments l.constants l.asked l.n l.old l.new l.j l.from l.to
+    PoolLaid l.initial.segments l.segments l.constants l.asked l.n l.old l.new l.j l.from l.to

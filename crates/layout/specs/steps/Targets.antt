@@ -4,7 +4,7 @@
 --   new_start  of a jump, `passed`: how many events these are; 0xFFFFFFFF where the event is no jump
 --   new_end    the event's new end, under the choice of the round
 -- So a round looks nothing up: whatever the choice, the label stands `beyond` bytes past the new end of the first `passed` events.
-use Rattle.std.specs.Prelude.{◌≡◌, ◌≢◌, Bool, true, false, not, cond, ◌&&◌, List, ℕ, zero, suc, ◌+◌, ◌*◌, ◌≤◌, ◌<◌, ltb, leb, eqb, length, get_or, Option, Some, None, unwrap_or}
+use Rattle.std.specs.Prelude.{◌≡◌, ◌≢◌, Bool, true, false, not, cond, ◌&&◌, List, [], ℕ, zero, suc, ◌+◌, ◌-◌, ◌*◌, ◌≤◌, ◌<◌, ltb, leb, eqb, length, get_or, Option, Some, None, unwrap_or}
 use Rattle.seqs.specs.Over.{over}
 use Rattle.relax.specs.declared.LayoutEvent.{LayoutEvent}
 use Rattle.relax.specs.declared.Segment.{Segment}
@@ -16,10 +16,10 @@ use Rattle.fresh.specs.Forms.{Branch, Role, pads, branches, role_of}
 use Rattle.fresh.specs.Fresh.{Choice}
 use Rattle.fresh.specs.Segments.{segments, map_offset}
 use Rattle.fresh.specs.Order.{Ordered}
-use Rattle.fresh.specs.steps.Runs.{behind_of, ahead_of, after}
-use Rattle.pool.specs.steps.Pool.{offset_bound}
+use Rattle.fresh.specs.steps.Runs.{behind_of, ahead_of, after, segment_at}
+use Rattle.pool.specs.steps.Pool.{pool_start, pool_event, offset_bound}
 use Rattle.layout.specs.declared.Target.{Target}
-use Rattle.layout.specs.steps.Layout.{zero_segment, start_at}
+use Rattle.layout.specs.steps.Layout.{zero_segment, start_at, end_from}
 
 -- a label's offset minus the end of an event's short form lies as near as the event reaches: of a jump in -128..127
 abbrev pub in_reach : LayoutEvent → ℕ → ℕ → Bool
@@ -98,6 +98,23 @@ ended_row ss es c i = with_end (get_or ss i zero_segment) (after (suc i) 0 0 es 
 pub record Ended (before ss : List Segment) (es : List LayoutEvent) (c : Choice) (i old new : ℕ) : Type 0 where
   pub table : ss ≡ over before 0 (entries (ended_row before es c) i)
   pub here : after i 0 0 es c ≡ record { old = old; new = new }
+
+-- Of the first i rows each is what `kept` makes of it and of its event's segment under a choice, the other rows are as before, and the layout has come to
+-- `old` and `new`.
+pub record Kept (kept : Segment → Segment → Segment → Type 0) (before ss : List Segment) (es : List LayoutEvent) (c : Choice) (i old new : ℕ) : Type 0 where
+  pub rows : (j : ℕ) → j < i → kept (get_or before j zero_segment) (segment_at j 0 0 es c) (get_or ss j zero_segment)
+  pub rest : SamePast i before ss
+  pub here : after i 0 0 es c ≡ record { old = old; new = new }
+
+-- so of all n events; the pool's alignments follow them, and the layout is `len` bytes long
+pub record LaidBy (kept : Segment → Segment → Segment → Type 0) (before ss : List Segment) (events : List ℕ) (n code : ℕ) (constants asked : List ℕ) (m : ℕ) (c : Choice) (len : ℕ) : Type 0 where
+  pub rows : List Segment
+  pub old : ℕ
+  pub new : ℕ
+  pub recorded : Kept kept before rows (entries (event_at events) n) c n old new
+  pub order : old ≤ code
+  pub pooled : ss ≡ over rows n (segments code (new + (code - old)) (entries (pool_event code constants asked) m) [])
+  pub length : len ≡ end_from code (new + (code - old)) (entries (pool_event code constants asked) m) [] (pool_start code constants asked m)
 
 -- the new end of the first k events
 abbrev pub end_before : List Segment → ℕ → ℕ

@@ -1,6 +1,0 @@
--- `put_end` meets its contract: the rest of the row is written as it was.
-use Rattle.layout.proofs.put_end.Goals as goal
-
-pub returns : goal.returns
-returns c =
-    rw c.segment_at-row.ensures at c.put_segment.ensures
