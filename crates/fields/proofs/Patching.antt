@@ -14,7 +14,7 @@ use Rattle.fields.specs.declared.LabelUse.TheVariants.{
   A64Adrp21,
   A64AddAbsLo12,
 }
-use Rattle.fields.specs.Kinds.{code_of, patch_size}
+use Rattle.fields.specs.Kinds.{patch_size}
 use Rattle.fields.specs.Patch.{patched_word, patched}
 
 -- a field has one byte or four
@@ -28,17 +28,6 @@ four_unless_one A64Ldr19 h = refl
 four_unless_one A64Adr21 h = refl
 four_unless_one A64Adrp21 h = refl
 four_unless_one A64AddAbsLo12 h = refl
-
-pub code_0_has_four : (k : LabelUse) → code_of k ≡ 0 → patch_size k ≡ 4
-code_0_has_four X86JmpRel32 h = refl
-code_0_has_four X86BranchRel8 h = let z : ⊥ = omega arith in absurd z
-code_0_has_four A64Branch14 h = refl
-code_0_has_four A64Branch19 h = refl
-code_0_has_four A64Branch26 h = refl
-code_0_has_four A64Ldr19 h = refl
-code_0_has_four A64Adr21 h = refl
-code_0_has_four A64Adrp21 h = refl
-code_0_has_four A64AddAbsLo12 h = refl
 
 -- what a one-byte field holds does not matter
 one_ignores_held : (k : LabelUse) (word offset target : ℕ) → patch_size k ≡ 1 → patched_word k 0 offset target ≡ patched_word k word offset target
@@ -76,3 +65,5 @@ module _ (k : LabelUse) (offset target : ℕ) (bytes : List ℕ) where
       let four = four_unless_one k other in
       let l : 4 ≡ length bytes = omega arith in
       rw (patched_field h, four) (over_all bytes (bytes_of (patched_word k (word_at bytes 0) offset target)) l)
+
+pub ruleset patches = (four_unless_one, patched_byte, patched_four)

@@ -3,31 +3,6 @@ use Rattle.std.proofs.Common.{◌≡◌, ℕ, suc, ◌+◌, ◌-◌, ◌*◌, �
 use native.Mathlib.Nat.{mod-mod, mod-add-mod, mul-add-mod_self_left, mul-sub}
 use Rattle.seqs.proofs.Numbers.{lt_or_ge}
 use Rattle.fields.specs.Words64.{modulus, plus, minus, range, sign_extend}
-use Rattle.fields.specs.declared.LabelUse.{LabelUse}
-use Rattle.fields.specs.declared.LabelUse.TheVariants.{
-  X86JmpRel32,
-  X86BranchRel8,
-  A64Branch14,
-  A64Branch19,
-  A64Branch26,
-  A64Ldr19,
-  A64Adr21,
-  A64Adrp21,
-  A64AddAbsLo12,
-}
-use Rattle.fields.specs.Kinds.{info}
-
--- `in_range` can be asked of every kind
-pub limits_fit : (k : LabelUse) → (info k).low + (info k).high ≤ 18446744073709551615
-limits_fit X86JmpRel32 = omega arith
-limits_fit X86BranchRel8 = omega arith
-limits_fit A64Branch14 = omega arith
-limits_fit A64Branch19 = omega arith
-limits_fit A64Branch26 = omega arith
-limits_fit A64Ldr19 = omega arith
-limits_fit A64Adr21 = omega arith
-limits_fit A64Adrp21 = omega arith
-limits_fit A64AddAbsLo12 = omega arith
 
 module _ (n v : ℕ) where
   pub extend_positive : v % 2 ^ n < 2 ^ (n - 1) → sign_extend n v ≡ v % 2 ^ n
