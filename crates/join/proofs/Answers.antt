@@ -6,9 +6,9 @@ use Rattle.seqs.specs.Pick.{pick, or_else}
 use Rattle.seqs.proofs.Picking.{yes_lt, no_lt, yes_eq, no_eq, yes_not, no_not}
 use Rattle.words.specs.Words.{over_words}
 use Rattle.finish.specs.declared.CodeBufferFinalized.{CodeBufferFinalized}
-use Rattle.join.specs.declared.Joined.{Joined}
 use Rattle.join.specs.Pieces.{Lent, piece_count}
 use Rattle.join.specs.Join.{
+  Joined,
   labels_joined,
   remaining,
   image,

@@ -14,6 +14,7 @@ use Rattle.join.specs.declared.Test.{Test}
 use Rattle.join.specs.declared.Test.TheVariants.{Known, Defined, Inside, Reaches, Moves}
 use Rattle.join.specs.Pieces.{
   Lent,
+  lent_of,
   most_pieces,
   piece_size,
   piece_count,
@@ -48,6 +49,7 @@ use Rattle.join.specs.Join.{
   why_not_joined,
 }
 use Rattle.join.specs.steps.Within.{NearBy, Near, Symbols, Relocations, Labels}
+use Rattle.join.specs.steps.Tables.{Settled, Resolves}
 use Rattle.join.specs.steps.Writes.{RelocMoves, Joins, Whole}
 use Rattle.join.proofs.Cursors.{
   Counts,
@@ -155,6 +157,28 @@ module _ (l : Lent) (fit : Fit l) where
 
   pub fit_relocs : Relocations l.pieces l.relocs (piece_count l.pieces)
   fit_relocs = relocs_within l (piece_count l.pieces) room fit.pieces whole_near fit.summed
+
+-- the same from the answer 0 of what is asked first
+module _ (pieces code labels relocs definitions : List ℕ) (fit : why_unfit (lent_of pieces code labels relocs definitions) ≡ 0) where
+  pub unfit_most : piece_count pieces ≤ most_pieces
+  unfit_most = (unfit_passed _ fit).most
+
+  pub unfit_pieces : pieces_fit pieces (piece_count pieces) ≡ true
+  unfit_pieces = (unfit_passed _ fit).pieces
+
+  pub unfit_labels : Labels pieces labels (piece_count pieces)
+  unfit_labels = fit_labels _ (unfit_passed _ fit)
+
+  pub unfit_symbols : Symbols pieces labels definitions (piece_count pieces)
+  unfit_symbols = fit_symbols _ (unfit_passed _ fit)
+
+  pub unfit_relocs : Relocations pieces relocs (piece_count pieces)
+  unfit_relocs = fit_relocs _ (unfit_passed _ fit)
+
+  pub unfit_resolves : {table : List ℕ} → Settled table pieces labels definitions (piece_count pieces) → Resolves table pieces labels definitions (piece_count pieces)
+  unfit_resolves settled = record { symbols = unfit_symbols; settled = settled }
+
+pub ruleset unfits = (unfit_most, unfit_pieces, unfit_labels, unfit_symbols, unfit_relocs, unfit_resolves)
 
 -- A test that holds of all relocations holds of each.
 pub each_holds : (test : Test) (known : ℕ → ℕ) (pieces relocs : List ℕ) (n : ℕ) → all_hold test known pieces relocs n ≡ true → (k : ℕ) → k < n

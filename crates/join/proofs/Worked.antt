@@ -11,10 +11,10 @@ use Rattle.fields.specs.Kinds.{arch_x86, arch_x64}
 use Rattle.fields.specs.Words64.{range}
 use Rattle.buffer.specs.State.{none, label_target}
 use Rattle.finish.specs.declared.CodeBufferFinalized.{CodeBufferFinalized}
-use Rattle.join.specs.declared.Joined.{Joined}
 use Rattle.join.specs.Pieces.{piece_at, cursor_at, pieces_fit, within_limits, same_arch, greatest_alignment}
 use Rattle.join.specs.Symbols.{find_in, find, find_before, new_in, defined_once}
 use Rattle.join.specs.Join.{
+  Joined,
   reloc_of,
   holds,
   relocs_hold,

@@ -1,7 +1,9 @@
 -- Joining: document 02, Request Six. Which relocations are filled and with what; the code, the labels and the relocations of the whole; why pieces are not
 -- joined; and what join answers and leaves.
-use Rattle.std.specs.Prelude.{ℕ, zero, suc, ◌+◌, ◌-◌, ◌/◌, ◌%◌, Bool, true, not, ◌&&◌, ◌||◌, List, [], ◌∷◌, ◌++◌, length, take, drop, replicate, ◌==◌, nat_le, nat_lt}
+use Rattle.std.specs.Prelude.{ℕ, zero, suc, ◌+◌, ◌-◌, ◌/◌, ◌%◌, Bool, true, not, ◌&&◌, ◌||◌, List, [], ◌∷◌, ◌++◌, length, take, drop, replicate, ◌==◌, nat_le, nat_lt, Result, Ok, Err}
 use Rattle.refusals.specs.Numbers as refusals
+use Rattle.refusals.specs.declared.Refusal.{Refusal}
+use Rattle.refusals.specs.Answers.{number_of}
 use Rattle.seqs.specs.Counting.{how_many}
 use Rattle.seqs.specs.Every.{all}
 use Rattle.seqs.specs.Over.{over}
@@ -16,7 +18,6 @@ use Rattle.finish.specs.declared.CodeBufferFinalized.{CodeBufferFinalized}
 use Rattle.join.specs.declared.Piece.{Piece}
 use Rattle.join.specs.declared.Cursor.{Cursor}
 use Rattle.join.specs.declared.AsmReloc.{AsmReloc}
-use Rattle.join.specs.declared.Joined.{Joined}
 use Rattle.join.specs.declared.Test.{Test}
 use Rattle.join.specs.declared.Test.TheVariants.{Known, Defined, Inside, Reaches, Moves}
 use Rattle.join.specs.Pieces.{
@@ -266,6 +267,16 @@ whole_record pieces relocs n =
       labels = (cursor_at pieces n).labels;
       relocs = count_remaining pieces relocs n;
     }
+
+-- 0 or the refusal's number, and the whole's record: of zeros where the join is refused
+pub record Joined : Type 0 where
+  pub refusal : ℕ
+  pub code : CodeBufferFinalized
+
+-- the program's answer as such a record
+abbrev pub joined_as : Result CodeBufferFinalized Refusal → Joined
+joined_as (Ok code) = record { refusal = 0; code = code }
+joined_as (Err why) = record { refusal = number_of why; code = no_record }
 
 -- the code, the labels and the relocations that are left in what is lent for them
 abbrev pub Left : Type 0

@@ -12,10 +12,7 @@ fn label_moves(base: u64, offset: u32) -> bool
     requires { base ≤ most_base }
     ensures { result ≡ label_moves base offset }
 {
-    if offset == buffer::NONE {
-        return true;
-    }
-    base + offset as u64 <= LAST_PLACE
+    offset == buffer::NONE || base + offset as u64 <= LAST_PLACE
 }
 
 // Whether every label of a piece has an offset in the whole, or is not bound.
@@ -25,15 +22,7 @@ fn labels_move(labels: &[u8], piece: Piece, cursor: Cursor) -> bool
     ensures { result ≡ labels_move labels.now piece cursor piece.labels }
 {
     let base = pieces::base(piece, cursor);
-    let m = piece.labels as usize;
-    let mut j: usize = 0;
-    while j < m {
-        if !label_moves(base, words::word_at(labels, cursor.labels + j)) {
-            return false;
-        }
-        j += 1;
-    }
-    true
+    (0..piece.labels as usize).all(|j| label_moves(base, words::word_at(labels, cursor.labels + j)))
 }
 
 pub fn all_labels_move(pieces: &[u8], labels: &[u8], n: usize) -> bool
@@ -41,14 +30,12 @@ pub fn all_labels_move(pieces: &[u8], labels: &[u8], n: usize) -> bool
     ensures { result ≡ all_labels_move pieces.now labels.now n }
 {
     let mut cursor = pieces::START;
-    let mut k: usize = 0;
-    while k < n {
+    for k in 0..n {
         let piece = pieces::piece_at(pieces, k);
         if !labels_move(labels, piece, cursor) {
             return false;
         }
         cursor = pieces::after(piece, cursor);
-        k += 1;
     }
     true
 }
@@ -59,9 +46,10 @@ fn moved(base: u64, offset: u32) -> u32
     ensures { result ≡ moved_label base offset }
 {
     if offset == buffer::NONE {
-        return buffer::NONE;
+        buffer::NONE
+    } else {
+        (base + offset as u64) as u32
     }
-    (base + offset as u64) as u32
 }
 
 // Writes the labels of a piece, in their order behind those of the pieces before it.
@@ -73,11 +61,8 @@ pub fn put_labels(joined: &mut [u8], labels: &[u8], piece: Piece, cursor: Cursor
     ensures { joined.new ≡ over joined.old (cursor.labels * label_size) (bytes_of_all (moved_labels labels.now piece cursor piece.labels)) }
 {
     let base = pieces::base(piece, cursor);
-    let m = piece.labels as usize;
-    let mut j: usize = 0;
-    while j < m {
+    for j in 0..piece.labels as usize {
         let i = cursor.labels + j;
         words::put_word(joined, i, moved(base, words::word_at(labels, i)));
-        j += 1;
     }
 }

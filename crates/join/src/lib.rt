@@ -1,13 +1,14 @@
 // `join`: several finished records become one. After asmkit's core/linker.rs (see NOTICE), whose layout it has; fields it fills itself.
 #![tactic(auto)]
 
-ghost use Rattle.std.specs.Prelude.{◌≡◌, length};
+ghost use Rattle.std.specs.Prelude.{◌≡◌, ◌≤◌};
 ghost use Rattle.join.specs.Pieces.{lent_of};
-ghost use Rattle.join.specs.Join.{no_record, whole_record, join};
-ghost use Rattle.join.specs.steps.Tables.{Settled};
+ghost use Rattle.join.specs.Join.{whole_record, joined_as, join};
+ghost use Rattle.join.specs.steps.Tables.{many_symbols};
 ghost use Rattle.join.specs.steps.Writes.{Whole};
 
 use finish::CodeBufferFinalized;
+use refusals::Refusal;
 
 mod labels;
 mod pieces;
@@ -58,13 +59,6 @@ pub enum Test {
     Moves,
 }
 
-// 0 or the refusal's number, and the whole's record: of zeros where the join is refused.
-#[derive(Clone, Copy)]
-pub struct Joined {
-    pub refusal: u32,
-    pub code: CodeBufferFinalized,
-}
-
 // The last offset of a label or a relocation of the whole, and its greatest length.
 const LAST_PLACE: u64 = 4294967294;
 
@@ -79,22 +73,6 @@ const MANY_SYMBOLS: usize = 65536;
 const FEW_SYMBOLS: usize = 256;
 
 const FEW_ENTRIES: usize = 1024;
-
-fn refused(why: u32) -> Joined
-    ensures { result ≡ record { refusal = why; code = no_record } }
-{
-    Joined {
-        refusal: why,
-        code: CodeBufferFinalized {
-            arch: 0,
-            len: 0,
-            alignment: 0,
-            layouts: 0,
-            labels: 0,
-            relocs: 0,
-        },
-    }
-}
 
 // The whole's record.
 fn whole(pieces: &[u8], relocs: &[u8], n: usize) -> CodeBufferFinalized
@@ -113,9 +91,9 @@ fn whole(pieces: &[u8], relocs: &[u8], n: usize) -> CodeBufferFinalized
     }
 }
 
-// Joins, with a clear table for what is known of symbols.
-fn join_by(
-    table: &mut [u64],
+// Joins, with a table for what is known of symbols, which is to stay out of the stack frames of the callers.
+#[inline(never)]
+fn join_by<const SYMBOLS: usize>(
     pieces: &[u8],
     code: &[u8],
     labels: &[u8],
@@ -124,12 +102,13 @@ fn join_by(
     output: &mut [u8],
     joined_labels: &mut [u8],
     joined_relocs: &mut [u8],
-) -> Joined
-    requires { Settled table.old pieces.now labels.now definitions.now 0 }
-    ensures { (result, (output.new, (joined_labels.new, joined_relocs.new))) ≡ join (lent_of pieces.now code.now labels.now relocs.now definitions.now) output.old joined_labels.old joined_relocs.old }
+) -> Result<CodeBufferFinalized, Refusal>
+    requires { SYMBOLS ≤ many_symbols }
+    ensures { (joined_as result, (output.new, (joined_labels.new, joined_relocs.new))) ≡ join (lent_of pieces.now code.now labels.now relocs.now definitions.now) output.old joined_labels.old joined_relocs.old }
 {
-    let why = why::not_joined(
-        table,
+    let mut table = [0u64; SYMBOLS];
+    why::not_joined(
+        &mut table,
         pieces,
         code,
         labels,
@@ -138,16 +117,13 @@ fn join_by(
         output.len(),
         joined_labels.len(),
         joined_relocs.len(),
-    );
-    if why != 0 {
-        return refused(why);
-    }
+    )?;
     let n = pieces.len() / PIECE_SIZE;
     write::put_pieces(
         output,
         joined_labels,
         joined_relocs,
-        table,
+        &table,
         pieces,
         code,
         labels,
@@ -155,58 +131,7 @@ fn join_by(
         definitions,
         n,
     );
-    Joined {
-        refusal: 0,
-        code: whole(pieces, relocs, n),
-    }
-}
-
-// With a table that has room for many symbols, which is to stay out of the stack frame of a small join: it calls itself, in an arm that is never reached, for
-// the reason that checks' `many_labels_fit` has.
-#[inline(never)]
-fn join_many(
-    pieces: &[u8],
-    code: &[u8],
-    labels: &[u8],
-    relocs: &[u8],
-    definitions: &[u8],
-    output: &mut [u8],
-    joined_labels: &mut [u8],
-    joined_relocs: &mut [u8],
-    again: usize,
-) -> Joined
-    requires { again ≡ 0 }
-    ensures { (result, (output.new, (joined_labels.new, joined_relocs.new))) ≡ join (lent_of pieces.now code.now labels.now relocs.now definitions.now) output.old joined_labels.old joined_relocs.old }
-{
-    if again != 0 {
-        let before = join_many(
-            pieces,
-            code,
-            labels,
-            relocs,
-            definitions,
-            output,
-            joined_labels,
-            joined_relocs,
-            again - 1,
-        );
-        if before.refusal != 0 {
-            return refused(before.refusal);
-        }
-        return before;
-    }
-    let mut table = [0u64; MANY_SYMBOLS];
-    join_by(
-        &mut table,
-        pieces,
-        code,
-        labels,
-        relocs,
-        definitions,
-        output,
-        joined_labels,
-        joined_relocs,
-    )
+    Ok(whole(pieces, relocs, n))
 }
 
 // Joins finished records. `pieces` has an entry for each; the code, labels, relocations and definitions of all of them follow one another in the next four. The
@@ -220,11 +145,12 @@ pub fn join(
     output: &mut [u8],
     joined_labels: &mut [u8],
     joined_relocs: &mut [u8],
-) -> Joined
-    ensures { (result, (output.new, (joined_labels.new, joined_relocs.new))) ≡ join (lent_of pieces.now code.now labels.now relocs.now definitions.now) output.old joined_labels.old joined_relocs.old }
+) -> Result<CodeBufferFinalized, Refusal>
+    ensures { (joined_as result, (output.new, (joined_labels.new, joined_relocs.new))) ≡ join (lent_of pieces.now code.now labels.now relocs.now definitions.now) output.old joined_labels.old joined_relocs.old }
 {
-    if FEW_ENTRIES < definitions.len() / DEFINITION_SIZE + relocs.len() / buffer::RELOC_SIZE {
-        return join_many(
+    let entries = definitions.len() / DEFINITION_SIZE + relocs.len() / buffer::RELOC_SIZE;
+    if FEW_ENTRIES < entries {
+        join_by::<MANY_SYMBOLS>(
             pieces,
             code,
             labels,
@@ -233,19 +159,17 @@ pub fn join(
             output,
             joined_labels,
             joined_relocs,
-            pieces.len() / 9223372036854775808,
-        );
+        )
+    } else {
+        join_by::<FEW_SYMBOLS>(
+            pieces,
+            code,
+            labels,
+            relocs,
+            definitions,
+            output,
+            joined_labels,
+            joined_relocs,
+        )
     }
-    let mut table = [0u64; FEW_SYMBOLS];
-    join_by(
-        &mut table,
-        pieces,
-        code,
-        labels,
-        relocs,
-        definitions,
-        output,
-        joined_labels,
-        joined_relocs,
-    )
 }

@@ -32,38 +32,18 @@ pub fn piece_at(pieces: &[u8], k: usize) -> Piece
     }
 }
 
-fn is_alignment(n: u32) -> bool
-    ensures { result ≡ (n == code_alignment || n == wide_alignment) }
+fn piece_fits(piece: Piece) -> bool
+    ensures { result ≡ piece_fits piece }
 {
-    if n == CODE_ALIGNMENT {
-        return true;
-    }
-    n == WIDE_ALIGNMENT
-}
-
-fn piece_fits(pieces: &[u8], k: usize) -> bool
-    requires { k * piece_size + piece_size ≤ length pieces.now }
-    ensures { result ≡ piece_fits (piece_at pieces.now k) }
-{
-    let piece = piece_at(pieces, k);
-    if !buffer::arch_occurs(piece.arch) {
-        return false;
-    }
-    is_alignment(piece.alignment)
+    buffer::arch_occurs(piece.arch)
+        && (piece.alignment == CODE_ALIGNMENT || piece.alignment == WIDE_ALIGNMENT)
 }
 
 pub fn pieces_fit(pieces: &[u8], n: usize) -> bool
     requires { n * piece_size ≤ length pieces.now }
     ensures { result ≡ pieces_fit pieces.now n }
 {
-    let mut k: usize = 0;
-    while k < n {
-        if !piece_fits(pieces, k) {
-            return false;
-        }
-        k += 1;
-    }
-    true
+    (0..n).all(|k| piece_fits(piece_at(pieces, k)))
 }
 
 // What a piece starts at a multiple of.
@@ -71,9 +51,10 @@ fn boundary(piece: Piece) -> u32
     ensures { result ≡ boundary piece }
 {
     if piece.arch == fields::AARCH64 {
-        return PAGE_SIZE;
+        PAGE_SIZE
+    } else {
+        piece.alignment
     }
-    piece.alignment
 }
 
 // The zeros in front of a piece.
@@ -83,10 +64,7 @@ pub fn gap(piece: Piece, cursor: Cursor) -> u64
 {
     let multiple = boundary(piece) as u64;
     let past = cursor.end % multiple;
-    if past == 0 {
-        return 0;
-    }
-    multiple - past
+    if past == 0 { 0 } else { multiple - past }
 }
 
 // Where a piece starts in the whole.
@@ -130,65 +108,26 @@ pub fn sum(pieces: &[u8], n: usize) -> Cursor
     ensures { (result ≡ cursor_at pieces.now n) × Near result }
 {
     let mut cursor = START;
-    let mut k: usize = 0;
-    while k < n {
+    for k in 0..n {
         cursor = after(piece_at(pieces, k), cursor);
-        k += 1;
     }
     cursor
 }
 
-fn piece_within_limits(pieces: &[u8], k: usize) -> bool
-    requires { k * piece_size + piece_size ≤ length pieces.now }
-    ensures { result ≡ piece_within_limits (piece_at pieces.now k) }
+fn piece_within_limits(piece: Piece) -> bool
+    ensures { result ≡ piece_within_limits piece }
 {
-    let piece = piece_at(pieces, k);
-    if buffer::MOST_CODE < piece.len as usize {
-        return false;
-    }
-    if buffer::MOST_ENTRIES < piece.labels as usize {
-        return false;
-    }
-    if buffer::MOST_ENTRIES < piece.relocs as usize {
-        return false;
-    }
-    piece.definitions as usize <= buffer::MOST_ENTRIES
+    piece.len as usize <= buffer::MOST_CODE
+        && piece.labels as usize <= buffer::MOST_ENTRIES
+        && piece.relocs as usize <= buffer::MOST_ENTRIES
+        && piece.definitions as usize <= buffer::MOST_ENTRIES
 }
 
 pub fn within_limits(pieces: &[u8], n: usize) -> bool
     requires { n * piece_size ≤ length pieces.now }
     ensures { result ≡ within_limits pieces.now n }
 {
-    let mut k: usize = 0;
-    while k < n {
-        if !piece_within_limits(pieces, k) {
-            return false;
-        }
-        k += 1;
-    }
-    true
-}
-
-fn has_arch(pieces: &[u8], arch: u32, k: usize) -> bool
-    requires { k * piece_size + piece_size ≤ length pieces.now }
-    ensures { result ≡ ((piece_at pieces.now k).arch == arch) }
-{
-    let piece = piece_at(pieces, k);
-    piece.arch == arch
-}
-
-fn all_have_arch(pieces: &[u8], arch: u32, n: usize) -> bool
-    requires { n * piece_size ≤ length pieces.now }
-    ensures { result ≡ all (λ (k : ℕ). nat_eq (piece_at pieces.now k).arch arch) n }
-{
-    let mut k: usize = 0;
-    while k < n {
-        if !has_arch(pieces, arch, k) {
-            return false;
-        }
-        k += 1;
-    }
-    true
+    (0..n).all(|k| piece_within_limits(piece_at(pieces, k)))
 }
 
 // Whether the first `n` pieces have the architecture of the first.
@@ -198,13 +137,7 @@ pub fn same_arch(pieces: &[u8], n: usize) -> bool
     ensures { result ≡ same_arch pieces.now n }
 {
     let first = piece_at(pieces, 0);
-    all_have_arch(pieces, first.arch, n)
-}
-
-fn greater(a: u32, b: u32) -> u32
-    ensures { result ≡ max a b }
-{
-    if a < b { b } else { a }
+    (0..n).all(|k| piece_at(pieces, k).arch == first.arch)
 }
 
 // The greatest alignment that the first `n` records give.
@@ -213,11 +146,8 @@ pub fn greatest_alignment(pieces: &[u8], n: usize) -> u32
     ensures { result ≡ greatest_alignment pieces.now n }
 {
     let mut greatest: u32 = 0;
-    let mut k: usize = 0;
-    while k < n {
-        let piece = piece_at(pieces, k);
-        greatest = greater(greatest, piece.alignment);
-        k += 1;
+    for k in 0..n {
+        greatest = greatest.max(piece_at(pieces, k).alignment);
     }
     greatest
 }

@@ -38,22 +38,10 @@ pub fn reloc_at(relocs: &[u8], i: usize) -> AsmReloc
 pub fn is_filled(arch: u32, reloc: AsmReloc) -> bool
     ensures { result ≡ is_filled arch reloc }
 {
-    if arch != fields::X64 {
-        return false;
-    }
-    if buffer::LABEL_TARGET <= reloc.target {
-        return false;
-    }
-    if reloc.kind < FIRST_FILLED {
-        return false;
-    }
-    reloc.kind <= LAST_FILLED
-}
-
-fn wrapping_sub(a: u64, b: u64) -> u64
-    ensures { result ≡ minus a b }
-{
-    std::num::wrapping_sub_u64(a, b)
+    arch == fields::X64
+        && reloc.target < buffer::LABEL_TARGET
+        && FIRST_FILLED <= reloc.kind
+        && reloc.kind <= LAST_FILLED
 }
 
 // The symbol's place plus the addend, less the field's own place.
@@ -61,34 +49,22 @@ pub fn value(known: u64, piece: Piece, cursor: Cursor, reloc: AsmReloc) -> u64
     requires { Placed piece cursor }
     ensures { result ≡ value known piece cursor reloc }
 {
-    let symbol = place_of(known);
+    let symbol = known.saturating_sub(symbols::FIRST_PLACE);
     let place = pieces::base(piece, cursor) + reloc.offset as u64;
-    wrapping_sub(std::num::wrapping_add_u64(symbol, reloc.addend), place)
-}
-
-fn place_of(known: u64) -> u64
-    ensures { result ≡ known - first_place }
-{
-    if known < symbols::FIRST_PLACE {
-        return 0;
-    }
-    known - symbols::FIRST_PLACE
+    symbol.wrapping_add(reloc.addend).wrapping_sub(place)
 }
 
 // Whether a 64-bit two's complement word fits 32 bits, signed.
 fn fits_32(value: u64) -> bool
     ensures { result ≡ fits32 value }
 {
-    std::num::wrapping_add_u64(value, 2147483648) <= 4294967295
+    value.wrapping_add(2147483648) <= 4294967295
 }
 
 fn is_label_known(piece: Piece, reloc: AsmReloc) -> bool
     ensures { result ≡ (nat_lt reloc.target label_target || nat_lt (reloc.target - label_target) piece.labels) }
 {
-    if reloc.target < buffer::LABEL_TARGET {
-        return true;
-    }
-    reloc.target - buffer::LABEL_TARGET < piece.labels
+    reloc.target < buffer::LABEL_TARGET || reloc.target - buffer::LABEL_TARGET < piece.labels
 }
 
 fn lies_inside(piece: Piece, reloc: AsmReloc) -> bool
@@ -165,7 +141,7 @@ fn holds(
     ensures { result ≡ holds test (find pieces.now labels.now definitions.now n) piece cursor reloc }
 {
     if is_filled(piece.arch, reloc) {
-        return filled_holds(
+        filled_holds(
             test,
             table,
             pieces,
@@ -175,9 +151,10 @@ fn holds(
             piece,
             cursor,
             reloc,
-        );
+        )
+    } else {
+        remaining_holds(test, piece, cursor, reloc)
     }
-    remaining_holds(test, piece, cursor, reloc)
 }
 
 // Whether `test` holds of every relocation of a piece.
@@ -197,11 +174,9 @@ fn relocs_hold(
     requires relocs_in { RelocsIn relocs.now piece cursor }
     ensures { result ≡ relocs_hold test (find pieces.now labels.now definitions.now n) relocs.now piece cursor piece.relocs }
 {
-    let m = piece.relocs as usize;
-    let mut j: usize = 0;
-    while j < m {
+    (0..piece.relocs as usize).all(|j| {
         let reloc = reloc_at(relocs, cursor.relocs + j);
-        let passed = holds(
+        holds(
             test,
             table,
             pieces,
@@ -211,13 +186,8 @@ fn relocs_hold(
             piece,
             cursor,
             reloc,
-        );
-        if !passed {
-            return false;
-        }
-        j += 1;
-    }
-    true
+        )
+    })
 }
 
 // Whether it holds of every relocation of the `n` pieces.
@@ -235,8 +205,7 @@ pub fn all_hold(
     ensures { result ≡ all_hold test (find pieces.now labels.now definitions.now n) pieces.now relocs.now n }
 {
     let mut cursor = pieces::START;
-    let mut k: usize = 0;
-    while k < n {
+    for k in 0..n {
         let piece = pieces::piece_at(pieces, k);
         let passed = relocs_hold(
             test,
@@ -253,19 +222,8 @@ pub fn all_hold(
             return false;
         }
         cursor = pieces::after(piece, cursor);
-        k += 1;
     }
     true
-}
-
-// 1 for a relocation that remains, else 0.
-fn remains(arch: u32, reloc: AsmReloc) -> usize
-    ensures { result ≡ one (not (is_filled arch reloc)) }
-{
-    if is_filled(arch, reloc) {
-        return 0;
-    }
-    1
 }
 
 // How many relocations of a piece remain.
@@ -274,12 +232,11 @@ fn count_remaining_in(relocs: &[u8], piece: Piece, cursor: Cursor) -> usize
     requires relocs_in { RelocsIn relocs.now piece cursor }
     ensures { result ≡ count_remaining_in relocs.now piece cursor piece.relocs }
 {
-    let m = piece.relocs as usize;
     let mut count: usize = 0;
-    let mut j: usize = 0;
-    while j < m {
-        count += remains(piece.arch, reloc_at(relocs, cursor.relocs + j));
-        j += 1;
+    for j in 0..piece.relocs as usize {
+        if !is_filled(piece.arch, reloc_at(relocs, cursor.relocs + j)) {
+            count += 1;
+        }
     }
     count
 }
@@ -291,12 +248,10 @@ pub fn count_remaining(pieces: &[u8], relocs: &[u8], n: usize) -> usize
 {
     let mut count: usize = 0;
     let mut cursor = pieces::START;
-    let mut k: usize = 0;
-    while k < n {
+    for k in 0..n {
         let piece = pieces::piece_at(pieces, k);
         count += count_remaining_in(relocs, piece, cursor);
         cursor = pieces::after(piece, cursor);
-        k += 1;
     }
     count
 }

@@ -10,7 +10,8 @@ use crate::{Cursor, Piece, pieces};
 // A definition, in words: the symbol and the label.
 const DEFINITION_WORDS: usize = 2;
 
-// What is known of a symbol: nothing defines it; its label is unknown or not bound; else this much more than its place in the whole.
+// What is known of a symbol: nothing defines it; its label is unknown or not bound; else this much more than its place in the whole. A number and no enum: the
+// table holds 65,536 of them in fixed memory, which an enum would double, and the definition `find` gives the same number.
 const UNDEFINED: u64 = 0;
 
 const UNBOUND: u64 = 1;
@@ -67,9 +68,10 @@ fn defined_as(
     ensures { result ≡ defined_as labels.now definitions.now piece cursor symbol j }
 {
     if symbol_at(definitions, cursor, j) == symbol {
-        return defined(labels, definitions, piece, cursor, j);
+        defined(labels, definitions, piece, cursor, j)
+    } else {
+        UNDEFINED
     }
-    UNDEFINED
 }
 
 // What the first `m` definitions of a piece say of `symbol`.
@@ -86,13 +88,11 @@ fn find_in(
     requires definitions_within { (cursor.definitions + m) * definition_size ≤ length definitions.now }
     ensures { result ≡ find_in labels.now definitions.now piece cursor m symbol }
 {
-    let mut j: usize = 0;
-    while j < m {
+    for j in 0..m {
         let found = defined_as(labels, definitions, piece, cursor, symbol, j);
         if found != UNDEFINED {
             return found;
         }
-        j += 1;
     }
     UNDEFINED
 }
@@ -103,8 +103,7 @@ fn find(pieces: &[u8], labels: &[u8], definitions: &[u8], n: usize, symbol: u32)
     ensures { result ≡ find pieces.now labels.now definitions.now n symbol }
 {
     let mut cursor = pieces::START;
-    let mut k: usize = 0;
-    while k < n {
+    for k in 0..n {
         let piece = pieces::piece_at(pieces, k);
         let found = find_in(
             labels,
@@ -118,7 +117,6 @@ fn find(pieces: &[u8], labels: &[u8], definitions: &[u8], n: usize, symbol: u32)
             return found;
         }
         cursor = pieces::after(piece, cursor);
-        k += 1;
     }
     UNDEFINED
 }
@@ -178,9 +176,7 @@ fn settle_piece(
     requires settled { Settled table.old pieces.now labels.now definitions.now k }
     ensures { (result ≡ new_in pieces.now labels.now definitions.now k piece cursor piece.definitions) × (result ≡ true → Begun table.new pieces.now labels.now definitions.now k piece cursor piece.definitions) × (length table.new ≡ length table.old) }
 {
-    let m = piece.definitions as usize;
-    let mut j: usize = 0;
-    while j < m {
+    for j in 0..piece.definitions as usize {
         let symbol = symbol_at(definitions, cursor, j);
         let found = find_before(
             table,
@@ -198,7 +194,6 @@ fn settle_piece(
         }
         let known = defined(labels, definitions, piece, cursor, j);
         note(table, symbol, known);
-        j += 1;
     }
     true
 }
@@ -210,14 +205,12 @@ pub fn settle(table: &mut [u64], pieces: &[u8], labels: &[u8], definitions: &[u8
     ensures { (result ≡ defined_once pieces.now labels.now definitions.now n) × (result ≡ true → Settled table.new pieces.now labels.now definitions.now n) }
 {
     let mut cursor = pieces::START;
-    let mut k: usize = 0;
-    while k < n {
+    for k in 0..n {
         let piece = pieces::piece_at(pieces, k);
         if !settle_piece(table, pieces, labels, definitions, k, piece, cursor) {
             return false;
         }
         cursor = pieces::after(piece, cursor);
-        k += 1;
     }
     true
 }
@@ -235,7 +228,8 @@ pub fn known(
     ensures { result ≡ find pieces.now labels.now definitions.now n symbol }
 {
     if (symbol as usize) < table.len() {
-        return table[symbol as usize];
+        table[symbol as usize]
+    } else {
+        find(pieces, labels, definitions, n, symbol)
     }
-    find(pieces, labels, definitions, n, symbol)
 }

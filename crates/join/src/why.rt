@@ -1,5 +1,6 @@
 // Why pieces are not joined: the refusals in their order.
 ghost use Rattle.std.specs.Prelude.{◌≡◌, ℕ, List};
+ghost use Rattle.refusals.specs.Answers.{answer_of};
 ghost use Rattle.join.specs.Pieces.{lent_of, piece_count, sums_fit};
 ghost use Rattle.join.specs.Join.{lent_fits, why_unfit, why_undefined, why_no_table, why_no_field, why_no_output, why_no_room, why_not_joined};
 ghost use Rattle.join.specs.steps.Tables.{Settled};
@@ -7,6 +8,7 @@ ghost use Rattle.join.specs.steps.Tables.{Settled};
 use crate::{
     Cursor, DEFINITION_SIZE, LAST_PLACE, PIECE_SIZE, Test, labels, pieces, relocs, symbols,
 };
+use refusals::Refusal;
 
 const MOST_PIECES: usize = 256;
 
@@ -14,16 +16,10 @@ const MOST_PIECES: usize = 256;
 fn sums_fit(sum: Cursor, code: &[u8], labels: &[u8], relocs: &[u8], definitions: &[u8]) -> bool
     ensures { (pieces : List ℕ) → result ≡ sums_fit (lent_of pieces code.now labels.now relocs.now definitions.now) sum }
 {
-    if code.len() < sum.code {
-        return false;
-    }
-    if labels.len() / buffer::LABEL_SIZE < sum.labels {
-        return false;
-    }
-    if relocs.len() / buffer::RELOC_SIZE < sum.relocs {
-        return false;
-    }
-    sum.definitions <= definitions.len() / DEFINITION_SIZE
+    sum.code <= code.len()
+        && sum.labels <= labels.len() / buffer::LABEL_SIZE
+        && sum.relocs <= relocs.len() / buffer::RELOC_SIZE
+        && sum.definitions <= definitions.len() / DEFINITION_SIZE
 }
 
 // 1.
@@ -31,38 +27,36 @@ fn lent_fits(pieces: &[u8], code: &[u8], labels: &[u8], relocs: &[u8], definitio
     ensures { result ≡ lent_fits (lent_of pieces.now code.now labels.now relocs.now definitions.now) }
 {
     let n = pieces.len() / PIECE_SIZE;
-    if n == 0 {
-        return false;
-    }
-    if MOST_PIECES < n {
-        return false;
-    }
-    if !pieces::pieces_fit(pieces, n) {
-        return false;
-    }
-    if !sums_fit(pieces::sum(pieces, n), code, labels, relocs, definitions) {
+    if n == 0 || MOST_PIECES < n || !pieces::pieces_fit(pieces, n) {
         return false;
     }
     // No symbol is looked up by this test.
     let none = [0u64; 0];
-    relocs::all_hold(Test::Known, &none, pieces, labels, relocs, definitions, n)
+    sums_fit(pieces::sum(pieces, n), code, labels, relocs, definitions)
+        && relocs::all_hold(Test::Known, &none, pieces, labels, relocs, definitions, n)
 }
 
 // 1, 3 and 27.
-fn unfit(pieces: &[u8], code: &[u8], labels: &[u8], relocs: &[u8], definitions: &[u8]) -> u32
-    ensures { result ≡ why_unfit (lent_of pieces.now code.now labels.now relocs.now definitions.now) }
+fn unfit(
+    pieces: &[u8],
+    code: &[u8],
+    labels: &[u8],
+    relocs: &[u8],
+    definitions: &[u8],
+) -> Result<(), Refusal>
+    ensures { answer_of result ≡ why_unfit (lent_of pieces.now code.now labels.now relocs.now definitions.now) }
 {
     if !lent_fits(pieces, code, labels, relocs, definitions) {
-        return refusals::MALFORMED;
+        return Err(Refusal::Malformed);
     }
     let n = pieces.len() / PIECE_SIZE;
     if !pieces::within_limits(pieces, n) {
-        return refusals::PAST_LIMIT;
+        return Err(Refusal::PastLimit);
     }
     if !pieces::same_arch(pieces, n) {
-        return refusals::ARCHITECTURES_DIFFER;
+        return Err(Refusal::ArchitecturesDiffer);
     }
-    0
+    Ok(())
 }
 
 // 28 and 29. Where there is neither, the table is settled.
@@ -73,19 +67,19 @@ fn undefined(
     labels: &[u8],
     relocs: &[u8],
     definitions: &[u8],
-) -> u32
+) -> Result<(), Refusal>
     requires fits { why_unfit (lent_of pieces.now code.now labels.now relocs.now definitions.now) ≡ 0 }
     requires settled { Settled table.old pieces.now labels.now definitions.now 0 }
-    ensures { (result ≡ why_undefined (lent_of pieces.now code.now labels.now relocs.now definitions.now)) × (result ≡ 0 → Settled table.new pieces.now labels.now definitions.now (piece_count pieces.now)) }
+    ensures { (answer_of result ≡ why_undefined (lent_of pieces.now code.now labels.now relocs.now definitions.now)) × (answer_of result ≡ 0 → Settled table.new pieces.now labels.now definitions.now (piece_count pieces.now)) }
 {
     let n = pieces.len() / PIECE_SIZE;
     if !symbols::settle(table, pieces, labels, definitions, n) {
-        return refusals::SYMBOL_DEFINED_TWICE;
+        return Err(Refusal::SymbolDefinedTwice);
     }
     if !relocs::all_hold(Test::Defined, table, pieces, labels, relocs, definitions, n) {
-        return refusals::SYMBOL_UNDEFINED;
+        return Err(Refusal::SymbolUndefined);
     }
-    0
+    Ok(())
 }
 
 // 11.
@@ -97,19 +91,18 @@ fn no_table(
     definitions: &[u8],
     joined_labels: usize,
     joined_relocs: usize,
-) -> u32
+) -> Result<(), Refusal>
     requires { why_unfit (lent_of pieces.now code.now labels.now relocs.now definitions.now) ≡ 0 }
-    ensures { result ≡ why_no_table (lent_of pieces.now code.now labels.now relocs.now definitions.now) joined_labels joined_relocs }
+    ensures { answer_of result ≡ why_no_table (lent_of pieces.now code.now labels.now relocs.now definitions.now) joined_labels joined_relocs }
 {
     let n = pieces.len() / PIECE_SIZE;
     let sum = pieces::sum(pieces, n);
-    if joined_labels / buffer::LABEL_SIZE < sum.labels {
-        return refusals::TABLE_FULL;
+    if joined_labels / buffer::LABEL_SIZE < sum.labels
+        || joined_relocs / buffer::RELOC_SIZE < relocs::count_remaining(pieces, relocs, n)
+    {
+        return Err(Refusal::TableFull);
     }
-    if joined_relocs / buffer::RELOC_SIZE < relocs::count_remaining(pieces, relocs, n) {
-        return refusals::TABLE_FULL;
-    }
-    0
+    Ok(())
 }
 
 // 17 and 18.
@@ -120,19 +113,19 @@ fn no_field(
     labels: &[u8],
     relocs: &[u8],
     definitions: &[u8],
-) -> u32
+) -> Result<(), Refusal>
     requires fits { why_unfit (lent_of pieces.now code.now labels.now relocs.now definitions.now) ≡ 0 }
     requires settled { Settled table.now pieces.now labels.now definitions.now (piece_count pieces.now) }
-    ensures { result ≡ why_no_field (lent_of pieces.now code.now labels.now relocs.now definitions.now) }
+    ensures { answer_of result ≡ why_no_field (lent_of pieces.now code.now labels.now relocs.now definitions.now) }
 {
     let n = pieces.len() / PIECE_SIZE;
     if !relocs::all_hold(Test::Inside, table, pieces, labels, relocs, definitions, n) {
-        return refusals::REF_OVERLAPS;
+        return Err(Refusal::RefOverlaps);
     }
     if !relocs::all_hold(Test::Reaches, table, pieces, labels, relocs, definitions, n) {
-        return refusals::REF_OUT_OF_REACH;
+        return Err(Refusal::RefOutOfReach);
     }
-    0
+    Ok(())
 }
 
 // 23.
@@ -144,26 +137,21 @@ fn no_output(
     relocs: &[u8],
     definitions: &[u8],
     output: usize,
-) -> u32
+) -> Result<(), Refusal>
     requires fits { why_unfit (lent_of pieces.now code.now labels.now relocs.now definitions.now) ≡ 0 }
     requires settled { Settled table.now pieces.now labels.now definitions.now (piece_count pieces.now) }
-    ensures { result ≡ why_no_output (lent_of pieces.now code.now labels.now relocs.now definitions.now) output }
+    ensures { answer_of result ≡ why_no_output (lent_of pieces.now code.now labels.now relocs.now definitions.now) output }
 {
     let n = pieces.len() / PIECE_SIZE;
     let sum = pieces::sum(pieces, n);
-    if LAST_PLACE < sum.end {
-        return refusals::OUTPUT_TOO_SMALL;
+    if LAST_PLACE < sum.end
+        || output < sum.end as usize
+        || !labels::all_labels_move(pieces, labels, n)
+        || !relocs::all_hold(Test::Moves, table, pieces, labels, relocs, definitions, n)
+    {
+        return Err(Refusal::OutputTooSmall);
     }
-    if output < sum.end as usize {
-        return refusals::OUTPUT_TOO_SMALL;
-    }
-    if !labels::all_labels_move(pieces, labels, n) {
-        return refusals::OUTPUT_TOO_SMALL;
-    }
-    if !relocs::all_hold(Test::Moves, table, pieces, labels, relocs, definitions, n) {
-        return refusals::OUTPUT_TOO_SMALL;
-    }
-    0
+    Ok(())
 }
 
 // 11, 17, 18 and 23.
@@ -177,12 +165,12 @@ fn no_room(
     output: usize,
     joined_labels: usize,
     joined_relocs: usize,
-) -> u32
+) -> Result<(), Refusal>
     requires fits { why_unfit (lent_of pieces.now code.now labels.now relocs.now definitions.now) ≡ 0 }
     requires settled { Settled table.now pieces.now labels.now definitions.now (piece_count pieces.now) }
-    ensures { result ≡ why_no_room (lent_of pieces.now code.now labels.now relocs.now definitions.now) output joined_labels joined_relocs }
+    ensures { answer_of result ≡ why_no_room (lent_of pieces.now code.now labels.now relocs.now definitions.now) output joined_labels joined_relocs }
 {
-    let full = no_table(
+    no_table(
         pieces,
         code,
         labels,
@@ -190,14 +178,8 @@ fn no_room(
         definitions,
         joined_labels,
         joined_relocs,
-    );
-    if full != 0 {
-        return full;
-    }
-    let field = no_field(table, pieces, code, labels, relocs, definitions);
-    if field != 0 {
-        return field;
-    }
+    )?;
+    no_field(table, pieces, code, labels, relocs, definitions)?;
     no_output(table, pieces, code, labels, relocs, definitions, output)
 }
 
@@ -212,18 +194,12 @@ pub fn not_joined(
     output: usize,
     joined_labels: usize,
     joined_relocs: usize,
-) -> u32
+) -> Result<(), Refusal>
     requires { Settled table.old pieces.now labels.now definitions.now 0 }
-    ensures { (result ≡ why_not_joined (lent_of pieces.now code.now labels.now relocs.now definitions.now) output joined_labels joined_relocs) × (result ≡ 0 → Settled table.new pieces.now labels.now definitions.now (piece_count pieces.now)) }
+    ensures { (answer_of result ≡ why_not_joined (lent_of pieces.now code.now labels.now relocs.now definitions.now) output joined_labels joined_relocs) × (answer_of result ≡ 0 → Settled table.new pieces.now labels.now definitions.now (piece_count pieces.now)) }
 {
-    let first = unfit(pieces, code, labels, relocs, definitions);
-    if first != 0 {
-        return first;
-    }
-    let second = undefined(table, pieces, code, labels, relocs, definitions);
-    if second != 0 {
-        return second;
-    }
+    unfit(pieces, code, labels, relocs, definitions)?;
+    undefined(table, pieces, code, labels, relocs, definitions)?;
     no_room(
         table,
         pieces,

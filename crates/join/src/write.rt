@@ -65,9 +65,7 @@ fn fill_fields(
     requires relocs_hold { relocs_hold Inside (find pieces.now labels.now definitions.now n) relocs.now piece cursor piece.relocs ≡ true }
     ensures { part.new ≡ filled_with (find pieces.now labels.now definitions.now n) relocs.now piece cursor part.old piece.relocs }
 {
-    let m = piece.relocs as usize;
-    let mut j: usize = 0;
-    while j < m {
+    for j in 0..piece.relocs as usize {
         let reloc = relocs::reloc_at(relocs, cursor.relocs + j);
         fill_field(
             part,
@@ -80,7 +78,6 @@ fn fill_fields(
             cursor,
             reloc,
         );
-        j += 1;
     }
 }
 
@@ -140,9 +137,10 @@ fn moved_target(cursor: Cursor, target: u32) -> u32
     ensures { result ≡ moved_target cursor target }
 {
     if target < buffer::LABEL_TARGET {
-        return target;
+        target
+    } else {
+        (target as usize + cursor.labels) as u32
     }
-    (target as usize + cursor.labels) as u32
 }
 
 // Writes a relocation as entry `i`, moved, if it is one that remains, and gives the entry behind it.
@@ -175,13 +173,10 @@ fn put_relocs(joined: &mut [u8], relocs: &[u8], piece: Piece, cursor: Cursor, at
     requires relocs_move { RelocsMove relocs.now piece cursor }
     ensures { (result ≡ at + count_remaining_in relocs.now piece cursor piece.relocs) × (joined.new ≡ over joined.old (at * reloc_size) (bytes_of_all (remaining_in relocs.now piece cursor piece.relocs))) }
 {
-    let m = piece.relocs as usize;
     let mut i: usize = at;
-    let mut j: usize = 0;
-    while j < m {
+    for j in 0..piece.relocs as usize {
         let reloc = relocs::reloc_at(relocs, cursor.relocs + j);
         i = put_remaining(joined, i, piece, cursor, reloc);
-        j += 1;
     }
     i
 }
@@ -207,8 +202,7 @@ pub fn put_pieces(
 {
     let mut cursor = pieces::START;
     let mut at: usize = 0;
-    let mut k: usize = 0;
-    while k < n {
+    for k in 0..n {
         let piece = pieces::piece_at(pieces, k);
         put_filled(
             output,
@@ -225,6 +219,5 @@ pub fn put_pieces(
         labels::put_labels(joined_labels, labels, piece, cursor);
         at = put_relocs(joined_relocs, relocs, piece, cursor, at);
         cursor = pieces::after(piece, cursor);
-        k += 1;
     }
 }

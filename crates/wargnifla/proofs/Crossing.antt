@@ -18,7 +18,7 @@ use Rattle.checks.specs.Lent.{recording_of}
 use Rattle.finish.specs.declared.CodeBufferFinalized.{CodeBufferFinalized}
 use Rattle.finish.specs.declared.Finished.{Finished}
 use Rattle.finish.specs.Finish as finishing
-use Rattle.join.specs.declared.Joined.{Joined}
+use Rattle.join.specs.Join.{Joined}
 use Rattle.join.specs.Pieces as joining
 use Rattle.join.specs.Join as joins
 use Rattle.elf.specs.Elf as elf

@@ -1,10 +1,10 @@
 -- `boundary` meets its contract.
-use Rattle.std.proofs.Common.{sym}
-use Rattle.seqs.proofs.Picking.{yes_eq, no_eq}
+use Rattle.std.proofs.Common.{rules}
+use Rattle.seqs.proofs.Picking.{picks}
 use Rattle.join.proofs.pieces.boundary.Goals as goal
 
 pub returns-then-piece-eq-AARCH64 : goal.returns-then-piece-eq-AARCH64
-returns-then-piece-eq-AARCH64 c = sym (yes_eq _ _ _ _ c.if-piece-eq-AARCH64.true)
+returns-then-piece-eq-AARCH64 c = search (rules, picks)
 
-pub returns : goal.returns
-returns c = sym (no_eq _ _ _ _ c.if-piece-eq-AARCH64.false)
+pub returns-else-piece-eq-AARCH64 : goal.returns-else-piece-eq-AARCH64
+returns-else-piece-eq-AARCH64 c = search (rules, picks)

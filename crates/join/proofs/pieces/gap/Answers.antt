@@ -21,8 +21,8 @@ overflow_sub-result c =
     let range = boundary_range a.piece c.requires in
     rw c.boundary-multiple.ensures (omega (arith, mod-lt a.cursor.end {m = boundary a.piece} range.0))
 
-pub returns : goal.returns
-returns c =
+pub returns-else-past-eq0 : goal.returns-else-past-eq0
+returns-else-past-eq0 c =
     let a = c.args in
     let range = boundary_range a.piece c.requires in
     let some = rw c.boundary-multiple.ensures at c.if-past-eq0.false in

@@ -1,10 +1,7 @@
 -- `greatest_alignment` meets its contract: the greatest of the pieces passed.
-use Rattle.std.proofs.Common.{◌≡◌, ◌-◌, ◌≤◌}
+use Rattle.std.proofs.Common.{◌≡◌, ◌≤◌}
 use Rattle.join.specs.Pieces.{greatest_alignment}
 use Rattle.join.proofs.pieces.greatest_alignment.Given as goal
 
 abbrev pub invariant-loop-k : goal.invariant-loop-k
 invariant-loop-k l = (l.k ≤ l.n) × (l.greatest ≡ greatest_alignment l.pieces l.k)
-
-abbrev pub decreases-loop-k : goal.decreases-loop-k
-decreases-loop-k l = l.n - l.k

@@ -1,10 +1,7 @@
 -- `count_remaining_in` meets its contract: how many of those passed remain.
-use Rattle.std.proofs.Common.{◌≡◌, ◌-◌, ◌≤◌}
+use Rattle.std.proofs.Common.{◌≡◌, ◌≤◌}
 use Rattle.join.specs.Join.{count_remaining_in}
 use Rattle.join.proofs.relocs.count_remaining_in.Given as goal
 
 abbrev pub invariant-loop-j : goal.invariant-loop-j
-invariant-loop-j l = (l.j ≤ l.m) × (l.count ≡ count_remaining_in l.relocs l.piece l.cursor l.j) × (l.count ≤ l.j)
-
-abbrev pub decreases-loop-j : goal.decreases-loop-j
-decreases-loop-j l = l.m - l.j
+invariant-loop-j l = (l.j ≤ l.piece.relocs) × (l.count ≡ count_remaining_in l.relocs l.piece l.cursor l.j) × (l.count ≤ l.j)

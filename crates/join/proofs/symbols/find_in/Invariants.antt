@@ -1,11 +1,7 @@
 -- `find_in` meets its contract: none of the definitions passed is the symbol's.
-use Rattle.std.proofs.Common.{◌-◌}
 use Rattle.seqs.proofs.Scans.{NoneRefused}
 use Rattle.join.specs.Symbols.{defined_as}
 use Rattle.join.proofs.symbols.find_in.Given as goal
 
 abbrev pub invariant-loop-j : goal.invariant-loop-j
 invariant-loop-j l = NoneRefused (defined_as l.labels l.definitions l.piece l.cursor l.symbol) l.m l.j
-
-abbrev pub decreases-loop-j : goal.decreases-loop-j
-decreases-loop-j l = l.m - l.j

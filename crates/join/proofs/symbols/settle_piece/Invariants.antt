@@ -1,12 +1,9 @@
 -- `settle_piece` meets its contract: the definitions passed are new, and noted.
-use Rattle.std.proofs.Common.{◌≡◌, ℕ, ◌-◌, eqb, length}
+use Rattle.std.proofs.Common.{◌≡◌, ℕ, eqb, length}
 use Rattle.seqs.proofs.Scans.{AllPassed}
 use Rattle.join.specs.Symbols.{undefined, symbol_at, find_before}
 use Rattle.join.specs.steps.Tables.{Begun}
 use Rattle.join.proofs.symbols.settle_piece.Given as goal
 
 abbrev pub invariant-loop-j : goal.invariant-loop-j
-invariant-loop-j l = AllPassed (λ (i : ℕ). eqb (find_before l.pieces l.labels l.definitions l.k l.piece l.cursor i (symbol_at l.definitions l.cursor i)) undefined) l.m l.j × Begun l.table l.pieces l.labels l.definitions l.k l.piece l.cursor l.j × (length l.table ≡ length l.initial.table)
-
-abbrev pub decreases-loop-j : goal.decreases-loop-j
-decreases-loop-j l = l.m - l.j
+invariant-loop-j l = AllPassed (λ (i : ℕ). eqb (find_before l.pieces l.labels l.definitions l.k l.piece l.cursor i (symbol_at l.definitions l.cursor i)) undefined) l.piece.definitions l.j × Begun l.table l.pieces l.labels l.definitions l.k l.piece l.cursor l.j × (length l.table ≡ length l.initial.table)

@@ -1,32 +1,10 @@
 -- `lent_fits` meets its contract: each test of 1 in turn.
-use Rattle.std.proofs.Common.{◌≡◌, true, sym, refl, ◌∙◌, arith, eq-eqb, ne_eqb, le-leb}
-use borrow.Author.Tests.{lt-leb}
+use Rattle.std.proofs.Common.{◌≡◌, true, sym, ◌∙◌, arith, ne_eqb, le-leb}
 use Rattle.seqs.proofs.Booleans.{test_fails, test_holds_lem}
 use Rattle.join.specs.Pieces.{Lent, lent_of, piece_count, cursor_at, sums_fit, pieces_fit}
 use Rattle.join.proofs.Cursors.{sums_summed, symbols_within, relocs_within}
 use Rattle.join.proofs.Tables.{settled_empty}
 use Rattle.join.proofs.why.lent_fits.Goals as goal
-
-pub returns-then-n-eq0 : goal.returns-then-n-eq0
-returns-then-n-eq0 c = rw (eq-eqb _ _ c.if-n-eq0.true) refl
-
-pub returns-then-n-gt-MOST_PIECES : goal.returns-then-n-gt-MOST_PIECES
-returns-then-n-gt-MOST_PIECES c =
-    rw (ne_eqb _ _ c.if-n-eq0.false, lt-leb _ _ c.if-n-gt-MOST_PIECES.true) refl
-
-pub returns-then-not-pieces_fit : goal.returns-then-not-pieces_fit
-returns-then-not-pieces_fit c =
-    rw (ne_eqb _ _ c.if-n-eq0.false, le-leb _ _ c.if-n-gt-MOST_PIECES.false) (test_fails _ c.pieces_fit.ensures (rw c.if-not-pieces_fit.true))
-
-pub sum-requires : goal.sum-requires
-sum-requires c =
-    record { pieces_within = omega arith; in_bound = c.if-n-gt-MOST_PIECES.false; pieces_fit = sym c.pieces_fit.ensures ∙ c.if-not-pieces_fit.false }
-
-pub returns-then-not-sums_fit : goal.returns-then-not-sums_fit
-returns-then-not-sums_fit c =
-    rw (ne_eqb _ _ c.if-n-eq0.false, le-leb _ _ c.if-n-gt-MOST_PIECES.false)
-    (test_holds_lem c.pieces_fit.ensures (rw c.if-not-pieces_fit.false)
-    (test_fails _ (rw c.sum.ensures.0 at (c.sums_fit.ensures c.args.pieces.now)) (rw c.if-not-sums_fit.true)))
 
 pub all_hold-requires : goal.all_hold-requires
 all_hold-requires c =
@@ -36,12 +14,18 @@ all_hold-requires c =
     let fit : pieces_fit l.pieces n ≡ true = sym c.pieces_fit.ensures ∙ c.if-not-pieces_fit.false in
     let near = rw c.sum.ensures.0 at c.sum.ensures.1 in
     let sums : sums_fit l (cursor_at l.pieces n) ≡ true =
-    sym (rw c.sum.ensures.0 at (c.sums_fit.ensures a.pieces.now)) ∙ c.if-not-sums_fit.false in
+    sym (rw c.sum.ensures.0 at (c.sums_fit.ensures a.pieces.now)) ∙ c.if-sums_fit.true in
     let summed = sums_summed l n sums in record { resolves = record { symbols = symbols_within l n (omega arith) fit near summed; settled = settled_empty _ _ _ _ }; relocations = relocs_within l n (omega arith) fit near summed }
 
-pub returns : goal.returns
-returns c =
+pub returns-then-sums_fit : goal.returns-then-sums_fit
+returns-then-sums_fit c =
     rw (ne_eqb _ _ c.if-n-eq0.false, le-leb _ _ c.if-n-gt-MOST_PIECES.false)
     (test_holds_lem c.pieces_fit.ensures (rw c.if-not-pieces_fit.false)
-    (test_holds_lem (rw c.sum.ensures.0 at (c.sums_fit.ensures c.args.pieces.now)) (rw c.if-not-sums_fit.false)
+    (test_holds_lem (rw c.sum.ensures.0 at (c.sums_fit.ensures c.args.pieces.now)) (rw c.if-sums_fit.true)
     c.all_hold.ensures))
+
+pub returns-else-sums_fit : goal.returns-else-sums_fit
+returns-else-sums_fit c =
+    rw (ne_eqb _ _ c.if-n-eq0.false, le-leb _ _ c.if-n-gt-MOST_PIECES.false, c.if-sums_fit.false)
+    (test_holds_lem c.pieces_fit.ensures (rw c.if-not-pieces_fit.false)
+    (test_fails _ (rw c.sum.ensures.0 at (c.sums_fit.ensures c.args.pieces.now)) (rw c.if-sums_fit.false)))

@@ -61,14 +61,6 @@ after-cursor-requires c =
     let placed = next_placed v.invariant.4 (record { piece = c.piece_at-piece.ensures; cursor = v.invariant.1 }) c.loop-k-test.true in
     record { piece_fits = placed.fits; near = placed.near }
 
-pub overflow_add-k : goal.overflow_add-k
-overflow_add-k c =
-    omega (arith, c.loop-k-test.true, c.loop-k.invariant.4.few)
-
-pub loop-k-smaller : goal.loop-k-smaller
-loop-k-smaller c =
-    omega (arith, c.loop-k-test.true)
-
 pub loop-k-preserved : goal.loop-k-preserved
 loop-k-preserved c =
     let v = c.loop-k in

@@ -1,5 +1,5 @@
 -- `put_pieces` meets its contract: the pieces passed stand in the outputs.
-use Rattle.std.proofs.Common.{◌≡◌, ◌-◌, ◌≤◌, length}
+use Rattle.std.proofs.Common.{◌≡◌, ◌≤◌, length}
 use Rattle.join.specs.Pieces.{lent_of, cursor_at}
 use Rattle.join.specs.steps.Writes.{Joins}
 use Rattle.join.specs.Symbols.{find}
@@ -12,6 +12,3 @@ invariant-loop-k l =
     (l.k ≤ l.n) × (l.cursor ≡ cursor_at l.pieces l.k) × (l.at ≡ count_remaining l.pieces l.relocs l.k)
     × Stands (find l.pieces l.labels l.definitions l.n) (lent_of l.pieces l.code l.labels l.relocs l.definitions) l.initial.output l.initial.joined_labels l.initial.joined_relocs l.k l.output l.joined_labels l.joined_relocs
     × Joins (lent_of l.pieces l.code l.labels l.relocs l.definitions) l.n (length l.initial.output) (length l.initial.joined_labels) (length l.initial.joined_relocs)
-
-abbrev pub decreases-loop-k : goal.decreases-loop-k
-decreases-loop-k l = l.n - l.k
