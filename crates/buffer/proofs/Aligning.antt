@@ -12,14 +12,14 @@ use Rattle.seqs.proofs.Numbers.{eq_or_ne}
 use Rattle.seqs.proofs.Picking.{yes_eq, no_eq}
 use Rattle.encoder.specs.Padding.{padding_within}
 use Rattle.relax.specs.Events.{event_size}
+use Rattle.std.specs.Prelude.{Result, Ok, Err, IfOk}
+use Rattle.refusals.specs.declared.Refusal.{Refusal}
 use Rattle.buffer.specs.declared.CodeBuffer.{CodeBuffer}
-use Rattle.buffer.specs.declared.Recorded.{Recorded}
-use Rattle.buffer.specs.declared.Spent.{Spent}
-use Rattle.buffer.specs.State.{keeps_events, with_code, with_events, accepted}
+use Rattle.buffer.specs.State.{Recorded, keeps_events, with_code, with_events, accepted}
 use Rattle.buffer.specs.Refusals.{why_align}
 use Rattle.buffer.specs.Calls.{padding, aligned_events, align_to}
 use Rattle.buffer.specs.Tables.{most_entries, most_code}
-use Rattle.buffer.specs.steps.Aligned.{aligned_tables, aligned_counts}
+use Rattle.buffer.specs.steps.Aligned.{Spent, spent_of, aligned_tables, aligned_counts}
 use Rattle.buffer.proofs.Accepted.{align_accepted}
 
 first_picked : {A B : Type 0} (t : Bool) (x y : A × B) → (pick t x y).0 ≡ pick t x.0 y.0
@@ -65,3 +65,10 @@ module _ (b : CodeBuffer) (code events : List ℕ) (multiple most : ℕ) (spent 
       (omega (arith, size, f.fits, f.few), λ x64. omega (arith, f.event x64, f.few_events)))
       (λ (ne : why ≢ 0). absurd (ne (sym (ap (λ (x : Spent × (List ℕ × List ℕ)). x.0.refusal) (done ∙ no_eq why 0 _ _ ne)) ∙ none)))
       (eq_or_ne why 0)
+
+-- the same of the program's answer
+pub told_fits : (b : CodeBuffer) (o : Result ℕ Refusal)
+    → ((spent_of o).refusal ≡ 0 → (b.code + (spent_of o).len ≤ most_code) × (keeps_events b.arch ≡ true → b.events < most_entries))
+    → IfOk o (λ len. (b.code + len ≤ most_code) × (keeps_events b.arch ≡ true → b.events < most_entries))
+told_fits b (Ok n) h = h refl
+told_fits b (Err r) h = tt

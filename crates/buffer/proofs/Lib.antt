@@ -1,3 +1,4 @@
+pub mod Answered
 pub mod Keeping
 pub mod Standing
 pub mod Accepted

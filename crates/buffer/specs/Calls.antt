@@ -10,9 +10,9 @@ use Rattle.encoder.specs.Padding.{padding_within}
 use Rattle.fields.specs.Kinds.{arch_x64}
 use Rattle.relax.specs.Events.{set_event, event_size, jump_kind, alignment_kind}
 use Rattle.buffer.specs.declared.CodeBuffer.{CodeBuffer}
-use Rattle.buffer.specs.declared.Recorded.{Recorded}
-use Rattle.buffer.specs.declared.Made.{Made}
 use Rattle.buffer.specs.State.{
+  Recorded,
+  Made,
   none,
   keeps_events,
   zero_padded,

@@ -1,12 +1,14 @@
 -- A recording's counts: document 01, "Recording counts and first refusal form a struct"; document 02, Request Five, "Keep that number in the recording".
-use Rattle.std.specs.Prelude.{Bool, ℕ, eqb, ltb}
+use Rattle.std.specs.Prelude.{Bool, ℕ, eqb, ltb, Result, Ok, Err}
 use Rattle.refusals.specs.Numbers as refusals
+use Rattle.refusals.specs.declared.Refusal.{Refusal}
+use Rattle.refusals.specs.Answers.{answer_of}
 use Rattle.seqs.specs.Pick.{pick}
 use Rattle.fields.specs.Kinds.{arch_x64, arch_a64}
 use Rattle.naming.specs.Naming.{unbound}
 use Rattle.buffer.specs.declared.CodeBuffer.{CodeBuffer}
-use Rattle.buffer.specs.declared.Recorded.{Recorded}
-use Rattle.buffer.specs.declared.Made.{Made}
+use Rattle.buffer.specs.declared.Recorded as of_call
+use Rattle.buffer.specs.declared.Made as of_making
 
 -- the offset of a label that is not bound, the label of a constant that has none, and what a refused call for either gives
 abbrev pub none : ℕ
@@ -59,6 +61,27 @@ with_open b n = record { arch = b.arch; symbols = b.symbols; finished = b.finish
 -- answers every call with the first one.
 unfoldable pub refusing : CodeBuffer → ℕ → CodeBuffer
 refusing b why = pick (ltb why refusals.first_recorded) b (with_refusal b why)
+
+-- a call's answer: the recording after it, and 0 or the refusal's number; of a call for a label or a constant also its number, or `none`
+pub record Recorded : Type 0 where
+  pub buffer : CodeBuffer
+  pub refusal : ℕ
+
+pub record Made : Type 0 where
+  pub buffer : CodeBuffer
+  pub refusal : ℕ
+  pub number : ℕ
+
+-- the program's answers as these
+abbrev pub recorded : of_call.Recorded → Recorded
+recorded r = record { buffer = r.buffer; refusal = answer_of r.answer }
+
+abbrev pub number_made : Result ℕ Refusal → ℕ
+number_made (Ok n) = n
+number_made (Err _) = none
+
+abbrev pub made_of : of_making.Made → Made
+made_of m = record { buffer = m.buffer; refusal = answer_of m.answer; number = number_made m.answer }
 
 -- a call that is turned down, and one that is not
 abbrev pub turned_down : CodeBuffer → ℕ → Recorded

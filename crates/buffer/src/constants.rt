@@ -2,15 +2,17 @@
 ghost use Rattle.std.specs.Prelude.{◌≡◌, ◌+◌, ◌*◌, ◌/◌, ◌≤◌, length};
 ghost use Rattle.seqs.specs.Over.{over};
 ghost use Rattle.words.specs.Words.{set_word};
-ghost use Rattle.buffer.specs.State.{none};
+ghost use Rattle.refusals.specs.Answers.{answer_of};
+ghost use Rattle.buffer.specs.State.{none, made_of};
 ghost use Rattle.buffer.specs.Refusals.{why_constant, why_constant_label};
 ghost use Rattle.buffer.specs.Calls.{add_constant, asked_first, constant_label};
 ghost use Rattle.buffer.specs.Tables.{most_constant, label_size, constant_words, constant_size, constant_head, asked_size};
 
 use crate::{
     ASKED_SIZE, CONSTANT_HEAD, CONSTANT_SIZE, CONSTANT_WORDS, CodeBuffer, LABEL_SIZE,
-    MOST_CONSTANT, MOST_ENTRIES, Made, NONE, both,
+    MOST_CONSTANT, MOST_ENTRIES, Made, NONE,
 };
+use refusals::Refusal;
 
 fn put_constant(constants: &mut [u8], i: usize, bytes: &[u8])
     requires { (i * constant_size + constant_size ≤ length constants.old) × (length bytes.now ≤ most_constant) }
@@ -24,29 +26,25 @@ fn put_constant(constants: &mut [u8], i: usize, bytes: &[u8])
 }
 
 impl CodeBuffer {
-    fn why_no_constant(self, room: usize, n: usize) -> u32
-        ensures { result ≡ why_constant self room n }
+    fn why_no_constant(self, room: usize, n: usize) -> Result<(), Refusal>
+        ensures { answer_of result ≡ why_constant self room n }
     {
         let count = self.constants as usize;
-        let why = self.standing(count <= room, room <= MOST_ENTRIES);
-        if why != 0 {
-            return why;
-        }
+        self.standing(count <= room, room <= MOST_ENTRIES)?;
         if MOST_CONSTANT < n {
-            return refusals::BAD_ENTRY;
+            return Err(Refusal::BadEntry);
         }
         if room <= count {
-            return refusals::TABLE_FULL;
+            return Err(Refusal::TableFull);
         }
-        0
+        Ok(())
     }
 
     // A new constant, without a label.
     pub fn add_constant(mut self, constants: &mut [u8], bytes: &[u8]) -> Made
-        ensures { (result, constants.new) ≡ add_constant self constants.old bytes.now }
+        ensures { (made_of result, constants.new) ≡ add_constant self constants.old bytes.now }
     {
-        let why = self.why_no_constant(constants.len() / CONSTANT_SIZE, bytes.len());
-        if why != 0 {
+        if let Err(why) = self.why_no_constant(constants.len() / CONSTANT_SIZE, bytes.len()) {
             return self.make_none(why);
         }
         let n = self.constants;
@@ -54,8 +52,7 @@ impl CodeBuffer {
         self.constants = n + 1;
         Made {
             buffer: self,
-            refusal: 0,
-            number: n,
+            answer: Ok(n),
         }
     }
 
@@ -65,25 +62,18 @@ impl CodeBuffer {
         asked: usize,
         labels: usize,
         constant: u32,
-    ) -> u32
-        ensures { result ≡ why_constant_label self constants asked labels constant }
+    ) -> Result<(), Refusal>
+        ensures { answer_of result ≡ why_constant_label self constants asked labels constant }
     {
-        let fit = both(
-            self.constants as usize <= constants,
-            both(self.asked as usize <= asked, self.labels as usize <= labels),
-        );
-        let within = both(
-            constants <= MOST_ENTRIES,
-            both(asked <= MOST_ENTRIES, labels <= MOST_ENTRIES),
-        );
-        let why = self.standing(fit, within);
-        if why != 0 {
-            return why;
-        }
+        self.standing(
+            self.constants as usize <= constants
+                && (self.asked as usize <= asked && self.labels as usize <= labels),
+            constants <= MOST_ENTRIES && (asked <= MOST_ENTRIES && labels <= MOST_ENTRIES),
+        )?;
         if self.constants <= constant {
-            return refusals::UNKNOWN_NUMBER;
+            return Err(Refusal::UnknownNumber);
         }
-        0
+        Ok(())
     }
 
     // The label of a constant that has none: a new one.
@@ -95,15 +85,14 @@ impl CodeBuffer {
         constant: u32,
     ) -> Made
         requires { why_constant_label self (length constants.old / constant_size) (length asked.old / asked_size) (length labels.old / label_size) constant ≡ 0 }
-        ensures { (result, (constants.new, (asked.new, labels.new))) ≡ asked_first self constants.old asked.old labels.old constant }
+        ensures { (made_of result, (constants.new, (asked.new, labels.new))) ≡ asked_first self constants.old asked.old labels.old constant }
     {
         let label = self.labels;
         let place = self.asked;
-        if labels.len() / LABEL_SIZE <= label as usize {
-            return self.make_none(11);
-        }
-        if asked.len() / ASKED_SIZE <= place as usize {
-            return self.make_none(11);
+        if labels.len() / LABEL_SIZE <= label as usize
+            || asked.len() / ASKED_SIZE <= place as usize
+        {
+            return self.make_none(Refusal::TableFull);
         }
         words::put_word(constants, constant as usize * CONSTANT_WORDS + 1, label);
         words::put_word(asked, place as usize, constant);
@@ -112,36 +101,33 @@ impl CodeBuffer {
         self.labels = label + 1;
         Made {
             buffer: self,
-            refusal: 0,
-            number: label,
+            answer: Ok(label),
         }
     }
 
     // The constant's label, made where this is the first asking.
     pub fn get_label_for_constant(
-        mut self,
+        self,
         constants: &mut [u8],
         asked: &mut [u8],
         labels: &mut [u8],
         constant: u32,
     ) -> Made
-        ensures { (result, (constants.new, (asked.new, labels.new))) ≡ constant_label self constants.old asked.old labels.old constant }
+        ensures { (made_of result, (constants.new, (asked.new, labels.new))) ≡ constant_label self constants.old asked.old labels.old constant }
     {
-        let why = self.why_no_constant_label(
+        if let Err(why) = self.why_no_constant_label(
             constants.len() / CONSTANT_SIZE,
             asked.len() / ASKED_SIZE,
             labels.len() / LABEL_SIZE,
             constant,
-        );
-        if why != 0 {
+        ) {
             return self.make_none(why);
         }
         let held = words::word_at(constants, constant as usize * CONSTANT_WORDS + 1);
         if held != NONE {
             return Made {
                 buffer: self,
-                refusal: 0,
-                number: held,
+                answer: Ok(held),
             };
         }
         self.ask_first(constants, asked, labels, constant)

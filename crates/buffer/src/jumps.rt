@@ -1,5 +1,7 @@
 // Jumps that relaxation may shrink or grow: events, kept on X64.
 ghost use Rattle.std.specs.Prelude.{◌≡◌, ◌*◌, ◌≤◌, length};
+ghost use Rattle.refusals.specs.Answers.{answer_of};
+ghost use Rattle.buffer.specs.State.{recorded};
 ghost use Rattle.buffer.specs.Refusals.{last_end, label_inside, jump_malformed, jump_unfit, why_jump};
 ghost use Rattle.buffer.specs.Calls.{record_jump};
 ghost use Rattle.buffer.specs.Tables.{label_size};
@@ -7,7 +9,8 @@ ghost use Rattle.buffer.specs.steps.Below.{Told};
 ghost use Rattle.relax.specs.Events.{event_size};
 
 use crate::open::opened;
-use crate::{CodeBuffer, LABEL_SIZE, MOST_ENTRIES, NONE, Recorded, both, either};
+use crate::{CodeBuffer, LABEL_SIZE, MOST_ENTRIES, Recorded};
+use refusals::Refusal;
 
 // The end of the last of `n` events.
 pub fn last_end(events: &[u8], n: usize) -> u64
@@ -26,11 +29,9 @@ fn label_inside(labels: &[u8], n: usize, start: u32, end: u32) -> bool
     ensures { result ≡ label_inside labels.now n start end }
 {
     let mut found = false;
-    let mut i: usize = 0;
-    while i < n {
+    for i in 0..n {
         let at = words::word_at(labels, i);
-        found = either(both(start < at, at < end), found);
-        i += 1;
+        found = ((start < at) & (at < end)) | found;
     }
     found
 }
@@ -39,20 +40,14 @@ fn label_inside(labels: &[u8], n: usize, start: u32, end: u32) -> bool
 fn is_malformed(code: u32, start: u32, len: u32, cc: u32) -> bool
     ensures { result ≡ jump_malformed code start len cc }
 {
-    if start as u64 + len as u64 != code as u64 {
-        return true;
-    }
-    if len < relax::SHORT_LEN {
-        return true;
-    }
-    if relax::MOST_JUMP < len {
-        return true;
-    }
-    relax::NO_CONDITION < cc
+    start as u64 + len as u64 != code as u64
+        || len < relax::SHORT_LEN
+        || relax::MOST_JUMP < len
+        || relax::NO_CONDITION < cc
 }
 
 impl CodeBuffer {
-    // `nearest`: the greatest offset of a label below the current offset, or `NONE` where the labels are to be looked at.
+    // `nearest`: the greatest offset of a label below the current offset; where it is not told, the labels are looked at.
     fn is_unfit(
         self,
         labels: &[u8],
@@ -60,7 +55,7 @@ impl CodeBuffer {
         start: u32,
         len: u32,
         cc: u32,
-        nearest: u32,
+        nearest: Option<u32>,
     ) -> bool
         requires { (self.labels * label_size ≤ length labels.now) × (self.events * event_size ≤ length events.now) × Told labels.now self.labels self.code nearest }
         ensures { result ≡ jump_unfit self labels.now events.now start len cc }
@@ -71,10 +66,10 @@ impl CodeBuffer {
         if (start as u64) < last_end(events, self.events as usize) {
             return true;
         }
-        if nearest != NONE {
-            return start < nearest;
+        match nearest {
+            Some(at) => start < at,
+            None => label_inside(labels, self.labels as usize, start, self.code),
         }
-        label_inside(labels, self.labels as usize, start, self.code)
     }
 
     fn why_not_jump(
@@ -85,33 +80,30 @@ impl CodeBuffer {
         len: u32,
         label: u32,
         cc: u32,
-        nearest: u32,
-    ) -> u32
+        nearest: Option<u32>,
+    ) -> Result<(), Refusal>
         requires { Told labels.now self.labels self.code nearest }
-        ensures { result ≡ why_jump self labels.now events.now start len label cc }
+        ensures { answer_of result ≡ why_jump self labels.now events.now start len label cc }
     {
         let known = labels.len() / LABEL_SIZE;
         let room = events.len() / relax::EVENT_SIZE;
-        let why = self.standing(
-            both(self.labels as usize <= known, self.events as usize <= room),
-            both(known <= MOST_ENTRIES, room <= MOST_ENTRIES),
-        );
-        if why != 0 {
-            return why;
-        }
+        self.standing(
+            self.labels as usize <= known && self.events as usize <= room,
+            known <= MOST_ENTRIES && room <= MOST_ENTRIES,
+        )?;
         if self.arch != fields::X64 {
-            return 0;
+            return Ok(());
         }
         if self.labels <= label {
-            return refusals::UNKNOWN_NUMBER;
+            return Err(Refusal::UnknownNumber);
         }
         if self.is_unfit(labels, events, start, len, cc, nearest) {
-            return refusals::BAD_ENTRY;
+            return Err(Refusal::BadEntry);
         }
         if room <= self.events as usize {
-            return refusals::TABLE_FULL;
+            return Err(Refusal::TableFull);
         }
-        0
+        Ok(())
     }
 
     // Records a jump, told of the labels what `is_unfit` is.
@@ -123,35 +115,29 @@ impl CodeBuffer {
         len: u32,
         label: u32,
         cc: u32,
-        nearest: u32,
+        nearest: Option<u32>,
     ) -> Recorded
         requires { Told labels.now self.labels self.code nearest }
-        ensures { (result, events.new) ≡ record_jump self labels.now events.old start len label cc }
+        ensures { (recorded result, events.new) ≡ record_jump self labels.now events.old start len label cc }
     {
-        let why = self.why_not_jump(labels, events, start, len, label, cc, nearest);
-        if why != 0 {
+        if let Err(why) = self.why_not_jump(labels, events, start, len, label, cc, nearest) {
             return self.turn_down(why);
         }
-        if self.arch != fields::X64 {
-            return Recorded {
-                buffer: self,
-                refusal: 0,
-            };
+        if self.arch == fields::X64 {
+            let n = self.events;
+            relax::put_event(events, n as usize, relax::JUMP, start, len, label, cc);
+            self.events = n + 1;
+            self.unresolved += opened(labels, label);
         }
-        let n = self.events;
-        let more = opened(labels, label);
-        relax::put_event(events, n as usize, relax::JUMP, start, len, label, cc);
-        self.events = n + 1;
-        self.unresolved = self.unresolved + more;
         Recorded {
             buffer: self,
-            refusal: 0,
+            answer: Ok(()),
         }
     }
 
     // Records a jump that ends at the current offset. Off X64 it is accepted unread.
     pub fn record_relaxable_jump(
-        mut self,
+        self,
         labels: &[u8],
         events: &mut [u8],
         start: u32,
@@ -159,8 +145,8 @@ impl CodeBuffer {
         label: u32,
         cc: u32,
     ) -> Recorded
-        ensures { (result, events.new) ≡ record_jump self labels.now events.old start len label cc }
+        ensures { (recorded result, events.new) ≡ record_jump self labels.now events.old start len label cc }
     {
-        self.record_jump(labels, events, start, len, label, cc, NONE)
+        self.record_jump(labels, events, start, len, label, cc, None)
     }
 }

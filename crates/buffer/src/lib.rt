@@ -2,8 +2,9 @@
 // The tables are lent by the caller as byte slices, whole entries of little-endian words; their lengths are their capacities.
 #![tactic(auto)]
 
-ghost use Rattle.std.specs.Prelude.{◌≡◌, ◌&&◌, ◌||◌, leb, ◌<◌, ◌≤◌};
-ghost use Rattle.buffer.specs.State.{keeps_events, turned_down, none_made};
+ghost use Rattle.std.specs.Prelude.{◌≡◌, ◌+◌, ◌≤◌, ◌&&◌, ◌||◌, leb};
+ghost use Rattle.refusals.specs.Answers.{number_of, answer_of};
+ghost use Rattle.buffer.specs.State.{keeps_events, with_open, turned_down, none_made, recorded, made_of};
 ghost use Rattle.buffer.specs.Refusals.{arch_occurs, refusal_occurs, standing};
 ghost use Rattle.buffer.specs.Calls.{started};
 ghost use Rattle.buffer.specs.Tables.{most_open};
@@ -15,6 +16,8 @@ mod labels;
 mod open;
 pub mod relocs;
 pub mod uses;
+
+use refusals::Refusal;
 
 // The offset of a label that is not bound, the label of a constant that has none, and what a refused call for either gives.
 pub const NONE: u32 = naming::UNBOUND;
@@ -88,36 +91,18 @@ pub struct CodeBuffer {
     pub unresolved: u32,
 }
 
-// The recording after a call, and 0 or the refusal's number.
+// The recording after a call, and whether the call was turned down.
 #[derive(Clone, Copy)]
 pub struct Recorded {
     pub buffer: CodeBuffer,
-    pub refusal: u32,
+    pub answer: Result<(), Refusal>,
 }
 
-// The same of a call for a label or a constant, with its number, or `NONE`.
+// The same of a call for a label or a constant, with its number.
 #[derive(Clone, Copy)]
 pub struct Made {
     pub buffer: CodeBuffer,
-    pub refusal: u32,
-    pub number: u32,
-}
-
-// What an alignment spends, and 0 or the refusal's number.
-#[derive(Clone, Copy)]
-pub struct Spent {
-    pub refusal: u32,
-    pub len: u32,
-}
-
-// The refusal that stands after a call's answer: numbers from 6 on are recorded.
-pub(crate) fn kept_refusal(old: u32, why: u32) -> u32
-    ensures { (why < 6 → result ≡ old) × (6 ≤ why → result ≡ why) }
-{
-    if why < refusals::FIRST_RECORDED {
-        return old;
-    }
-    why
+    pub answer: Result<u32, Refusal>,
 }
 
 pub fn both(a: bool, b: bool) -> bool
@@ -148,34 +133,22 @@ pub fn keeps_events(arch: u32) -> bool
 pub fn arch_occurs(arch: u32) -> bool
     ensures { result ≡ arch_occurs arch }
 {
-    if arch == fields::X86 {
-        return true;
-    }
-    if arch == fields::X64 {
-        return true;
-    }
-    arch == fields::AARCH64
+    arch == fields::X86 || arch == fields::X64 || arch == fields::AARCH64
 }
 
 fn refusal_occurs(n: u32) -> bool
     ensures { result ≡ refusal_occurs n }
 {
-    if n == 0 {
-        return true;
-    }
-    if n < refusals::FIRST_RECORDED {
-        return false;
-    }
-    if refusals::CODE_FULL < n {
-        return false;
-    }
-    n != refusals::ALREADY_BOUND
+    n == 0
+        || Refusal::UnsupportedUse as u32 <= n
+            && n <= Refusal::CodeFull as u32
+            && n != Refusal::AlreadyBound as u32
 }
 
 impl CodeBuffer {
     // A recording with nothing in it.
     pub fn new(arch: u32, symbols: u32) -> Recorded
-        ensures { result ≡ started arch symbols }
+        ensures { recorded result ≡ started arch symbols }
     {
         if !arch_occurs(arch) {
             return Recorded {
@@ -194,7 +167,7 @@ impl CodeBuffer {
                     relocs: 0,
                     unresolved: 0,
                 },
-                refusal: refusals::UNKNOWN_ARCH,
+                answer: Err(Refusal::UnknownArch),
             };
         }
         Recorded {
@@ -213,64 +186,78 @@ impl CodeBuffer {
                 relocs: 0,
                 unresolved: 0,
             },
-            refusal: 0,
+            answer: Ok(()),
         }
     }
 
     fn is_sound(self, fit: bool) -> bool
         ensures { result ≡ (arch_occurs self.arch && refusal_occurs self.refusal && leb self.unresolved most_open && fit) }
     {
-        let known = both(arch_occurs(self.arch), refusal_occurs(self.refusal));
-        both(both(known, self.unresolved <= MOST_OPEN), fit)
+        arch_occurs(self.arch)
+            && refusal_occurs(self.refusal)
+            && self.unresolved <= MOST_OPEN
+            && fit
     }
 
-    // What every call looks at first: 0, 1, the recorded refusal, 3 or 4. `fit`: every count that can be compared with what is lent passes it
+    // What every call looks at first: 1, the recorded refusal, 3 or 4. `fit`: every count that can be compared with what is lent passes it
     // nowhere, and the arguments have their form. `within`: no limit is passed by what is lent.
-    pub fn standing(self, fit: bool, within: bool) -> u32
-        ensures { result ≡ standing self fit within }
+    pub fn standing(self, fit: bool, within: bool) -> Result<(), Refusal>
+        ensures { answer_of result ≡ standing self fit within }
     {
         if !self.is_sound(fit) {
-            return refusals::MALFORMED;
+            return Err(Refusal::Malformed);
         }
-        if self.refusal != 0 {
-            return self.refusal;
+        // The count is any number that C hands in; once it is sound, 0 alone is no refusal's.
+        if let Ok(first) = Refusal::try_from(self.refusal) {
+            return Err(first);
         }
         if !within {
-            return refusals::PAST_LIMIT;
+            return Err(Refusal::PastLimit);
         }
         if self.finished != 0 {
-            return refusals::ALREADY_FINISHED;
+            return Err(Refusal::AlreadyFinished);
         }
-        0
+        Ok(())
+    }
+
+    // The recording after a call for an entry that names a label, and `more` open entries. Such a call has this one exit, since it is slower where the
+    // counts are stored one by one and then loaded as a whole.
+    pub(crate) fn entered(mut self, answer: Result<(), Refusal>, more: u32) -> Recorded
+        requires { self.unresolved + more ≤ 4294967295 }
+        ensures { recorded result ≡ turned_down (with_open self (self.unresolved + more)) (answer_of answer) }
+    {
+        self.unresolved += more;
+        if let Err(why) = answer
+            && why.is_recorded()
+        {
+            self.refusal = why.number();
+        }
+        Recorded {
+            buffer: self,
+            answer,
+        }
     }
 
     // A call that is turned down: numbers from 6 on are recorded.
-    pub(crate) fn turn_down(mut self, why: u32) -> Recorded
-        ensures { result ≡ turned_down self why }
+    pub(crate) fn turn_down(mut self, why: Refusal) -> Recorded
+        ensures { recorded result ≡ turned_down self (number_of why) }
     {
-        if why < refusals::FIRST_RECORDED {
-            return Recorded {
-                buffer: self,
-                refusal: why,
-            };
+        if why.is_recorded() {
+            self.refusal = why.number();
         }
-        self.refusal = why;
         Recorded {
             buffer: self,
-            refusal: why,
+            answer: Err(why),
         }
     }
 
     // The same of a call for a label or a constant.
-    pub(crate) fn make_none(self, why: u32) -> Made
-        ensures { result ≡ none_made self why }
+    pub(crate) fn make_none(self, why: Refusal) -> Made
+        ensures { made_of result ≡ none_made self (number_of why) }
     {
-        let answer = self.turn_down(why);
-        let buffer = answer.buffer;
         Made {
-            buffer,
-            refusal: why,
-            number: NONE,
+            buffer: self.turn_down(why).buffer,
+            answer: Err(why),
         }
     }
 }

@@ -6,19 +6,14 @@ ghost use Rattle.buffer.specs.Open.{opened, target_opened, named, settled};
 ghost use Rattle.buffer.specs.Tables.{label_size};
 ghost use Rattle.buffer.specs.steps.Count.{NamersFit, open_count};
 
-use crate::{
-    CodeBuffer, LABEL_TARGET, MOST_ENTRIES, NONE, REF_WORDS, RELOC_WORDS, USE_WORDS, both,
-};
+use crate::{CodeBuffer, LABEL_TARGET, MOST_ENTRIES, NONE, REF_WORDS, RELOC_WORDS, USE_WORDS};
 
 // 1 where the label is not bound.
 pub(crate) fn opened(labels: &[u8], label: u32) -> u32
     requires { label * label_size + label_size ≤ length labels.now }
     ensures { (result ≡ opened labels.now label) × (result ≤ 1) }
 {
-    if words::word_at(labels, label as usize) == NONE {
-        return 1;
-    }
-    0
+    u32::from(words::word_at(labels, label as usize) == NONE)
 }
 
 // The same of a relocation's target, where that is a label's.
@@ -36,8 +31,8 @@ pub(crate) fn target_opened(labels: &[u8], target: u32) -> u32
 pub(crate) fn namers_within(events: usize, uses: usize, refs: usize, relocs: usize) -> bool
     ensures { result ≡ namers_within events uses refs relocs }
 {
-    let fields = both(refs <= MOST_ENTRIES, relocs <= MOST_ENTRIES);
-    both(events <= MOST_ENTRIES, both(uses <= MOST_ENTRIES, fields))
+    events <= MOST_ENTRIES
+        && (uses <= MOST_ENTRIES && (refs <= MOST_ENTRIES && relocs <= MOST_ENTRIES))
 }
 
 impl CodeBuffer {
@@ -45,11 +40,9 @@ impl CodeBuffer {
     pub(crate) fn namers_fit(self, events: usize, uses: usize, refs: usize, relocs: usize) -> bool
         ensures { result ≡ namers_fit self events uses refs relocs }
     {
-        let fields = both(self.refs as usize <= refs, self.relocs as usize <= relocs);
-        both(
-            self.events as usize <= events,
-            both(self.uses as usize <= uses, fields),
-        )
+        self.events as usize <= events
+            && (self.uses as usize <= uses
+                && (self.refs as usize <= refs && self.relocs as usize <= relocs))
     }
 
     // How many entries name the label.

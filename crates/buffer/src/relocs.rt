@@ -1,6 +1,8 @@
 // Relocations. An entry is offset, kind, target, 0, and the addend's two halves, low first.
 ghost use Rattle.std.specs.Prelude.{◌≡◌, ◌+◌, ◌*◌, ◌/◌, ◌%◌, ◌≤◌, length, get_or};
 ghost use Rattle.words.specs.Words.{set_word};
+ghost use Rattle.refusals.specs.Answers.{answer_of};
+ghost use Rattle.buffer.specs.State.{recorded};
 ghost use Rattle.buffer.specs.Refusals.{reloc_archs, foreign_reloc, target_known, why_reloc};
 ghost use Rattle.buffer.specs.Calls.{add_reloc};
 ghost use Rattle.buffer.specs.Tables.{reloc_words, reloc_size};
@@ -8,8 +10,9 @@ ghost use Rattle.buffer.specs.Tables.{reloc_words, reloc_size};
 use crate::open::target_opened;
 use crate::{
     CodeBuffer, LABEL_SIZE, LABEL_TARGET, LAST_OFFSET, LAST_RELOC, MOST_ENTRIES, RELOC_SIZE,
-    RELOC_WORDS, Recorded, both,
+    RELOC_WORDS, Recorded,
 };
+use refusals::Refusal;
 
 // The architecture of each kind: 0 any, 1 X86 and X64, 2 AArch64, 3 none here.
 const ARCHS: [u8; 28] = [
@@ -29,20 +32,12 @@ fn arch_of_kind(kind: u32) -> u8
 pub fn is_foreign_kind(kind: u32, arch: u32) -> bool
     ensures { result ≡ foreign_reloc kind arch }
 {
-    let which = arch_of_kind(kind);
-    if which == 0 {
-        return false;
+    match arch_of_kind(kind) {
+        0 => false,
+        1 => arch != fields::X86 && arch != fields::X64,
+        2 => arch != fields::AARCH64,
+        _ => true,
     }
-    if which == 1 {
-        if arch == fields::X86 {
-            return false;
-        }
-        return arch != fields::X64;
-    }
-    if which == 2 {
-        return arch != fields::AARCH64;
-    }
-    true
 }
 
 // Makes entry `i` of `relocs`.
@@ -71,31 +66,34 @@ impl CodeBuffer {
     }
 
     // `known` labels are lent, and room for `room` relocations.
-    fn why_no_reloc(self, known: usize, room: usize, offset: u32, kind: u32, target: u32) -> u32
-        ensures { result ≡ why_reloc self known room offset kind target }
+    fn why_no_reloc(
+        self,
+        known: usize,
+        room: usize,
+        offset: u32,
+        kind: u32,
+        target: u32,
+    ) -> Result<(), Refusal>
+        ensures { answer_of result ≡ why_reloc self known room offset kind target }
     {
         let n = self.relocs as usize;
-        let formed = both(n <= room, kind <= LAST_RELOC);
-        let why = self.standing(
-            both(self.labels as usize <= known, formed),
-            both(known <= MOST_ENTRIES, room <= MOST_ENTRIES),
-        );
-        if why != 0 {
-            return why;
-        }
+        self.standing(
+            self.labels as usize <= known && (n <= room && kind <= LAST_RELOC),
+            known <= MOST_ENTRIES && room <= MOST_ENTRIES,
+        )?;
         if is_foreign_kind(kind, self.arch) {
-            return refusals::FOREIGN_KIND;
+            return Err(Refusal::ForeignKind);
         }
         if !self.is_known(target) {
-            return refusals::UNKNOWN_NUMBER;
+            return Err(Refusal::UnknownNumber);
         }
         if LAST_OFFSET < offset {
-            return refusals::BAD_ENTRY;
+            return Err(Refusal::BadEntry);
         }
         if room <= n {
-            return refusals::TABLE_FULL;
+            return Err(Refusal::TableFull);
         }
-        0
+        Ok(())
     }
 
     // A relocation at `offset`; the addend is a 64-bit two's complement word.
@@ -108,9 +106,9 @@ impl CodeBuffer {
         target: u32,
         addend: u64,
     ) -> Recorded
-        ensures { (result, relocs.new) ≡ add_reloc self labels.now relocs.old offset kind target addend }
+        ensures { (recorded result, relocs.new) ≡ add_reloc self labels.now relocs.old offset kind target addend }
     {
-        let why = self.why_no_reloc(
+        let answer = self.why_no_reloc(
             labels.len() / LABEL_SIZE,
             relocs.len() / RELOC_SIZE,
             offset,
@@ -119,17 +117,12 @@ impl CodeBuffer {
         );
         let mut more: u32 = 0;
         let mut took: u32 = 0;
-        if why == 0 {
+        if answer.is_ok() {
             more = target_opened(labels, target);
             took = 1;
             put_reloc(relocs, self.relocs as usize, offset, kind, target, addend);
         }
-        self.relocs = self.relocs + took;
-        self.unresolved = self.unresolved + more;
-        self.refusal = crate::kept_refusal(self.refusal, why);
-        Recorded {
-            buffer: self,
-            refusal: why,
-        }
+        self.relocs += took;
+        self.entered(answer, more)
     }
 }

@@ -2,14 +2,18 @@
 ghost use Rattle.std.specs.Prelude.{◌≡◌, ◌+◌, ◌*◌, ◌≤◌, length};
 ghost use Rattle.words.specs.Words.{set_word};
 ghost use Rattle.fields.specs.Kinds.{decoded};
+ghost use Rattle.refusals.specs.Answers.{answer_of};
+ghost use Rattle.buffer.specs.State.{recorded};
 ghost use Rattle.buffer.specs.Refusals.{foreign, why_use, why_ref};
 ghost use Rattle.buffer.specs.Calls.{use_label, record_ref};
 ghost use Rattle.buffer.specs.Tables.{use_words, use_size, ref_words, ref_size};
 
 use crate::open::opened;
 use crate::{
-    CodeBuffer, LABEL_SIZE, MOST_ENTRIES, REF_SIZE, REF_WORDS, Recorded, USE_SIZE, USE_WORDS, both,
+    CodeBuffer, LABEL_SIZE, MOST_ENTRIES, REF_SIZE, REF_WORDS, Recorded, USE_SIZE, USE_WORDS,
+    keeps_events,
 };
+use refusals::Refusal;
 
 // Whether the architecture has no field of the kind that `code` stands for.
 pub fn is_foreign(code: u32, arch: u32) -> bool
@@ -44,31 +48,27 @@ fn put_ref(refs: &mut [u8], i: usize, offset: u32, label: u32, code: u32, addend
 
 impl CodeBuffer {
     // `known` labels are lent, and room for `room` uses.
-    fn why_no_use(self, known: usize, room: usize, label: u32, code: u32) -> u32
-        ensures { result ≡ why_use self known room label code }
+    fn why_no_use(self, known: usize, room: usize, label: u32, code: u32) -> Result<(), Refusal>
+        ensures { answer_of result ≡ why_use self known room label code }
     {
         let n = self.uses as usize;
-        let formed = both(n <= room, code <= fields::LAST_CODE);
-        let why = self.standing(
-            both(self.labels as usize <= known, formed),
-            both(known <= MOST_ENTRIES, room <= MOST_ENTRIES),
-        );
-        if why != 0 {
-            return why;
-        }
+        self.standing(
+            self.labels as usize <= known && (n <= room && code <= fields::LAST_CODE),
+            known <= MOST_ENTRIES && room <= MOST_ENTRIES,
+        )?;
         if code == fields::UNSUPPORTED_CODE {
-            return refusals::UNSUPPORTED_USE;
+            return Err(Refusal::UnsupportedUse);
         }
         if is_foreign(code, self.arch) {
-            return refusals::FOREIGN_KIND;
+            return Err(Refusal::ForeignKind);
         }
         if self.labels <= label {
-            return refusals::UNKNOWN_NUMBER;
+            return Err(Refusal::UnknownNumber);
         }
         if room <= n {
-            return refusals::TABLE_FULL;
+            return Err(Refusal::TableFull);
         }
-        0
+        Ok(())
     }
 
     // The field at `offset`, of the kind that `code` stands for, names the label.
@@ -80,9 +80,9 @@ impl CodeBuffer {
         label: u32,
         code: u32,
     ) -> Recorded
-        ensures { (result, uses.new) ≡ use_label self labels.now uses.old offset label code }
+        ensures { (recorded result, uses.new) ≡ use_label self labels.now uses.old offset label code }
     {
-        let why = self.why_no_use(
+        let answer = self.why_no_use(
             labels.len() / LABEL_SIZE,
             uses.len() / USE_SIZE,
             label,
@@ -90,45 +90,36 @@ impl CodeBuffer {
         );
         let mut more: u32 = 0;
         let mut took: u32 = 0;
-        if why == 0 {
+        if answer.is_ok() {
             more = opened(labels, label);
             took = 1;
             put_use(uses, self.uses as usize, offset, label, code);
         }
-        self.uses = self.uses + took;
-        self.unresolved = self.unresolved + more;
-        self.refusal = crate::kept_refusal(self.refusal, why);
-        Recorded {
-            buffer: self,
-            refusal: why,
-        }
+        self.uses += took;
+        self.entered(answer, more)
     }
 
-    fn why_no_ref(self, known: usize, room: usize, label: u32, code: u32) -> u32
-        ensures { result ≡ why_ref self known room label code }
+    fn why_no_ref(self, known: usize, room: usize, label: u32, code: u32) -> Result<(), Refusal>
+        ensures { answer_of result ≡ why_ref self known room label code }
     {
         let n = self.refs as usize;
-        let formed = both(n <= room, code <= fields::LAST_CODE);
-        let why = self.standing(
-            both(self.labels as usize <= known, formed),
-            both(known <= MOST_ENTRIES, room <= MOST_ENTRIES),
-        );
-        if why != 0 {
-            return why;
-        }
-        if !crate::keeps_events(self.arch) {
-            return 0;
+        self.standing(
+            self.labels as usize <= known && (n <= room && code <= fields::LAST_CODE),
+            known <= MOST_ENTRIES && room <= MOST_ENTRIES,
+        )?;
+        if !keeps_events(self.arch) {
+            return Ok(());
         }
         if is_foreign(code, self.arch) {
-            return refusals::FOREIGN_KIND;
+            return Err(Refusal::ForeignKind);
         }
         if self.labels <= label {
-            return refusals::UNKNOWN_NUMBER;
+            return Err(Refusal::UnknownNumber);
         }
         if room <= n {
-            return refusals::TABLE_FULL;
+            return Err(Refusal::TableFull);
         }
-        0
+        Ok(())
     }
 
     // The same with an addend, a 32-bit two's complement word. Off X64 nothing is kept.
@@ -141,9 +132,9 @@ impl CodeBuffer {
         code: u32,
         addend: u32,
     ) -> Recorded
-        ensures { (result, refs.new) ≡ record_ref self labels.now refs.old offset label code addend }
+        ensures { (recorded result, refs.new) ≡ record_ref self labels.now refs.old offset label code addend }
     {
-        let why = self.why_no_ref(
+        let answer = self.why_no_ref(
             labels.len() / LABEL_SIZE,
             refs.len() / REF_SIZE,
             label,
@@ -151,17 +142,12 @@ impl CodeBuffer {
         );
         let mut more: u32 = 0;
         let mut took: u32 = 0;
-        if both(why == 0, crate::keeps_events(self.arch)) {
+        if answer.is_ok() && keeps_events(self.arch) {
             more = opened(labels, label);
             took = 1;
             put_ref(refs, self.refs as usize, offset, label, code, addend);
         }
-        self.refs = self.refs + took;
-        self.unresolved = self.unresolved + more;
-        self.refusal = crate::kept_refusal(self.refusal, why);
-        Recorded {
-            buffer: self,
-            refusal: why,
-        }
+        self.refs += took;
+        self.entered(answer, more)
     }
 }

@@ -135,5 +135,5 @@ pub fn why_not_standing(
         segments,
         output,
     );
-    b.standing(fit, within)
+    refusals::answer_of(b.standing(fit, within))
 }

@@ -17,9 +17,7 @@ use Rattle.encoder.proofs.Padding.{padding_spends}
 use Rattle.relax.specs.declared.Segment.{Segment}
 use Rattle.relax.specs.Events.{event_size}
 use Rattle.buffer.specs.declared.CodeBuffer.{CodeBuffer}
-use Rattle.buffer.specs.declared.Recorded.{Recorded}
-use Rattle.buffer.specs.declared.Made.{Made}
-use Rattle.buffer.specs.State.{keeps_events, with_refusal, refusing}
+use Rattle.buffer.specs.State.{Recorded, Made, keeps_events, with_refusal, refusing}
 use Rattle.buffer.specs.Refusals.{why_align}
 use Rattle.buffer.specs.Calls.{put_bytes, get_label, bind_label, padding, aligned_events, align_to, use_label, record_ref, record_jump, add_constant, asked_first, constant_label, add_reloc}
 use Rattle.buffer.proofs.Appends.{padding_length_lem}

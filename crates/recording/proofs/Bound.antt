@@ -11,9 +11,7 @@ use Rattle.seqs.proofs.Booleans.{true_is_not_false, both_false}
 use Rattle.seqs.proofs.Picking.{yes_eq}
 use Rattle.words.specs.Words.{set_word}
 use Rattle.buffer.specs.declared.CodeBuffer.{CodeBuffer}
-use Rattle.buffer.specs.declared.Recorded.{Recorded}
-use Rattle.buffer.specs.declared.Made.{Made}
-use Rattle.buffer.specs.State.{none, with_refusal, refusing}
+use Rattle.buffer.specs.State.{Recorded, Made, none, with_refusal, refusing}
 use Rattle.relax.specs.Events.{event_size}
 use Rattle.buffer.specs.Tables.{label_size, use_size, ref_size, asked_size, reloc_size}
 use Rattle.buffer.specs.Refusals.{why_label, why_bind, no_room_to_ask}

@@ -15,9 +15,7 @@ use Rattle.fields.specs.Kinds.{arch_x64}
 use Rattle.relax.specs.Events.{set_event, event_at, event_words, event_size, jump_kind, alignment_kind}
 use Rattle.words.specs.Words.{set_word}
 use Rattle.buffer.specs.declared.CodeBuffer.{CodeBuffer}
-use Rattle.buffer.specs.declared.Recorded.{Recorded}
-use Rattle.buffer.specs.declared.Made.{Made}
-use Rattle.buffer.specs.State.{none, keeps_events, with_refusal, with_code, with_labels, with_events, with_uses, with_refs, with_asked, with_relocs, with_open, refusing, none_made}
+use Rattle.buffer.specs.State.{Recorded, Made, none, keeps_events, with_refusal, with_code, with_labels, with_events, with_uses, with_refs, with_asked, with_relocs, with_open, refusing, none_made}
 use Rattle.buffer.specs.Tables.{most_entries, most_open, label_size, use_words, use_size, ref_words, ref_size, asked_size, reloc_words, reloc_size}
 use Rattle.buffer.specs.Refusals.{why_label, why_align, why_use, why_ref, why_jump, no_room_to_ask, why_reloc}
 use Rattle.buffer.specs.Calls.{padding, put_bytes, get_label, bind_label, aligned_events, align_to, use_label, record_ref, record_jump, add_constant, asked_first, constant_label, add_reloc}

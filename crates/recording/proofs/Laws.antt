@@ -16,9 +16,7 @@ use Rattle.words.proofs.Entries.{three_words, four_words, five_words, six_words}
 use Rattle.encoder.specs.Padding.{padding_within}
 use Rattle.relax.specs.Events.{event_of, set_event, event_words, event_size}
 use Rattle.buffer.specs.declared.CodeBuffer.{CodeBuffer}
-use Rattle.buffer.specs.declared.Recorded.{Recorded}
-use Rattle.buffer.specs.declared.Made.{Made}
-use Rattle.buffer.specs.State.{none, keeps_events, with_code, with_refusal, refusing}
+use Rattle.buffer.specs.State.{Recorded, Made, none, keeps_events, with_code, with_refusal, refusing}
 use Rattle.buffer.specs.Refusals.{why_bytes, why_label, why_bind, why_align, why_use, why_ref, why_jump, why_constant, why_constant_label, no_room_to_ask, why_reloc}
 use Rattle.buffer.specs.Calls.{put_bytes, get_label, bind_label, padding, aligned_events, align_to, use_label, record_ref, record_jump, add_constant, asked_first, constant_label, add_reloc}
 use Rattle.buffer.proofs.Appends.{padding_length_lem}

@@ -17,9 +17,7 @@ use Rattle.words.specs.Words.{word_at, set_word}
 use Rattle.encoder.specs.Padding.{padding_within}
 use Rattle.relax.specs.Events.{event_of, event_size, jump_kind, alignment_kind}
 use Rattle.buffer.specs.declared.CodeBuffer.{CodeBuffer}
-use Rattle.buffer.specs.declared.Recorded.{Recorded}
-use Rattle.buffer.specs.declared.Made.{Made}
-use Rattle.buffer.specs.State.{none, keeps_events, with_refusal, refusing}
+use Rattle.buffer.specs.State.{Recorded, Made, none, keeps_events, with_refusal, refusing}
 use Rattle.buffer.specs.Tables.{label_size, use_size, ref_size, asked_size, reloc_size}
 use Rattle.buffer.specs.Refusals.{why_label, why_bind, why_align, why_use, why_ref, why_jump, no_room_to_ask, why_reloc}
 use Rattle.buffer.specs.Open.{opened, target_opened, settled}

@@ -13,9 +13,7 @@ use Rattle.fields.specs.Kinds.{last_code, arch_x64}
 use Rattle.words.specs.Words.{word_at}
 use Rattle.relax.specs.Events.{event_size}
 use Rattle.buffer.specs.declared.CodeBuffer.{CodeBuffer}
-use Rattle.buffer.specs.declared.Recorded.{Recorded}
-use Rattle.buffer.specs.declared.Made.{Made}
-use Rattle.buffer.specs.State.{keeps_events, with_code, with_open, refusing, turned_down, none_made, made, none}
+use Rattle.buffer.specs.State.{Recorded, Made, keeps_events, with_code, with_open, refusing, turned_down, none_made, made, none}
 use Rattle.buffer.specs.Tables.{most_entries, most_code, most_open, last_reloc, label_size, use_size, ref_size, constant_words, constant_size, asked_size, reloc_size}
 use Rattle.buffer.specs.Refusals.{standing, namers_fit, namers_within, jump_unfit, target_known, why_bytes, why_label, why_bind, why_align, why_use, why_ref, why_jump, why_constant, why_constant_label, no_room_to_ask, why_reloc}
 use Rattle.buffer.specs.Calls.{padding, put_bytes, get_label, bind_label, aligned_events, align_to, use_label, record_ref, record_jump, add_constant, asked_first, constant_label, add_reloc}

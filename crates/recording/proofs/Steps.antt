@@ -18,9 +18,7 @@ use Rattle.encoder.specs.Padding.{padding_within}
 use Rattle.relax.specs.Events.{set_event, event_words, event_size}
 use Rattle.words.proofs.Entries.{three_words, four_words, five_words, six_words}
 use Rattle.buffer.specs.declared.CodeBuffer.{CodeBuffer}
-use Rattle.buffer.specs.declared.Recorded.{Recorded}
-use Rattle.buffer.specs.declared.Made.{Made}
-use Rattle.buffer.specs.State.{none, keeps_events, with_refusal, with_code, refusing}
+use Rattle.buffer.specs.State.{Recorded, Made, none, keeps_events, with_refusal, with_code, refusing}
 use Rattle.buffer.specs.Refusals.{no_room_to_ask, why_bytes, why_label, why_bind, why_align, why_use, why_ref, why_jump, why_constant, why_constant_label, why_reloc}
 use Rattle.buffer.specs.Calls.{put_bytes, get_label, bind_label, aligned_events, align_to, use_label, record_ref, record_jump, padding, add_constant, asked_first, constant_label, add_reloc}
 use Rattle.recording.specs.Calls.{Recording, Word, Word64, bytes, new_label, bind, align, use_of_label, ref, jump, constant, label_of_constant, relocation, with_buffer, with_code_table, with_label_table, with_event_table, with_use_table, with_ref_table, with_constant_table, with_asked_table, with_reloc_table, after}

@@ -13,11 +13,9 @@ use Rattle.words.specs.Words.{word_at}
 use Rattle.fields.specs.Kinds.{arch_x64}
 use Rattle.relax.specs.Events.{event_size}
 use Rattle.buffer.specs.declared.CodeBuffer.{CodeBuffer}
-use Rattle.buffer.specs.declared.Recorded.{Recorded}
-use Rattle.buffer.specs.declared.Made.{Made}
 use Rattle.buffer.specs.Tables.{label_size, use_size, ref_size, constant_size, asked_size, reloc_size}
 use Rattle.buffer.specs.Open.{target_opened}
-use Rattle.buffer.specs.State.{none, label_target, keeps_events, with_open, with_refusal, with_code, with_labels, with_events, with_uses, with_refs, with_constants, with_asked, with_relocs, refusing}
+use Rattle.buffer.specs.State.{Recorded, Made, none, label_target, keeps_events, with_open, with_refusal, with_code, with_labels, with_events, with_uses, with_refs, with_constants, with_asked, with_relocs, refusing}
 use Rattle.buffer.specs.Refusals.{standing, why_bytes, why_label, why_align, why_use, why_ref, why_jump, why_constant, why_constant_label, no_room_to_ask, why_reloc}
 use Rattle.buffer.specs.Calls.{started, put_bytes, get_label, bind_label, aligned_events, align_to, use_label, record_ref, record_jump, add_constant, asked_first, constant_label, add_reloc}
 use Rattle.buffer.proofs.Accepted.{label_accepted, bytes_accepted, align_accepted, use_accepted, ref_accepted, jump_accepted, constant_accepted, constant_label_accepted, reloc_accepted}

@@ -1,7 +1,7 @@
 -- A call that asks one question after another, or one of entry after entry: what it answers where one is refused, and where all are past.
 use mathlib.Core.Path.{◌≡◌, refl, sym, ◌∙◌}
 use Prim.Native.Nat.{ℕ, ◌+◌, ◌<◌}
-use Rattle.std.specs.Prelude.{Result, Ok, Err, ⊤}
+use Rattle.std.specs.Prelude.{Result, Err, ⊤}
 use Rattle.seqs.specs.Pick.{or_else, first_of}
 use Rattle.seqs.proofs.Picking.{yes_eq, no_eq}
 use Rattle.seqs.proofs.Scans.{NoneRefused, refuse_next, refuse_first, refuse_none, refuse_end}

@@ -1,7 +1,7 @@
 -- Every refusal has a number of its own kind: none is 0, and the compiler's number of a variant is the refusal's.
 use mathlib.Core.Path.{◌≡◌, refl}
 use mathlib.Core.Logic.{◌≢◌}
-use Prim.Native.Nat.{ℕ, ◌+◌}
+use Prim.Native.Nat.{◌+◌}
 use native.Mathlib.Omega.{arith}
 use denote.Enum.Declared.{tag_of}
 use Rattle.refusals.specs.contracts.Refusal.{the_type}

@@ -1,6 +1,7 @@
 -- The reasons as values, and the number that a call answers.
-use Rattle.std.specs.Prelude.{ℕ, Result, Ok, Err, ⊤}
+use Rattle.std.specs.Prelude.{◌≡◌, ◌<◌, ℕ, Result, Ok, Err, ◌⊎◌, MatchResult}
 use Rattle.refusals.specs.declared.Refusal.{Refusal}
+use Rattle.refusals.specs.declared.NoRefusal.{NoRefusal}
 use Rattle.refusals.specs.declared.Refusal.TheVariants.{
   Malformed,
   UnknownArch,
@@ -96,6 +97,10 @@ number_of SymbolDefinedTwice = symbol_defined_twice
 number_of SymbolUndefined = symbol_undefined
 
 -- 0, or the refusal's number
-abbrev pub answer_of : Result ⊤ Refusal → ℕ
+abbrev pub answer_of : {A : Type 0} → Result A Refusal → ℕ
 answer_of (Ok _) = 0
 answer_of (Err r) = number_of r
+
+-- the result is the refusal with this number, or an error where none has it
+abbrev pub Numbered : ℕ → Result Refusal NoRefusal → Type 0
+Numbered n outcome = MatchResult outcome (λ r. number_of r ≡ n) (λ _. (n ≡ 0) ⊎ (symbol_undefined < n))

@@ -4,7 +4,7 @@
 
 ghost use Rattle.std.specs.Prelude.{◌≡◌, leb};
 ghost use Rattle.refusals.specs.Numbers.{unsupported_use};
-ghost use Rattle.refusals.specs.Answers.{number_of, answer_of};
+ghost use Rattle.refusals.specs.Answers.{number_of, answer_of, Numbered};
 
 #[derive(Clone, Copy)]
 pub enum Refusal {
@@ -80,6 +80,51 @@ impl Refusal {
         ensures { result ≡ leb unsupported_use (number_of self) }
     {
         FIRST_RECORDED <= self.number()
+    }
+}
+
+// A number that is no refusal's.
+#[derive(Clone, Copy)]
+pub struct NoRefusal;
+
+impl TryFrom<u32> for Refusal {
+    type Error = NoRefusal;
+
+    ghost try_from_gives = { Numbered };
+
+    fn try_from(number: u32) -> Result<Refusal, NoRefusal> {
+        match number {
+            1 => Ok(Refusal::Malformed),
+            2 => Ok(Refusal::UnknownArch),
+            3 => Ok(Refusal::PastLimit),
+            4 => Ok(Refusal::AlreadyFinished),
+            5 => Ok(Refusal::BadAlignment),
+            6 => Ok(Refusal::UnsupportedUse),
+            7 => Ok(Refusal::ForeignKind),
+            8 => Ok(Refusal::UnknownNumber),
+            9 => Ok(Refusal::AlreadyBound),
+            10 => Ok(Refusal::BadEntry),
+            11 => Ok(Refusal::TableFull),
+            12 => Ok(Refusal::CodeFull),
+            13 => Ok(Refusal::PoolLabelBound),
+            14 => Ok(Refusal::PoolTooLarge),
+            15 => Ok(Refusal::UnboundLabel),
+            16 => Ok(Refusal::TooFewSegments),
+            17 => Ok(Refusal::RefOverlaps),
+            18 => Ok(Refusal::RefOutOfReach),
+            19 => Ok(Refusal::UsePastEnd),
+            20 => Ok(Refusal::BranchOutOfReach),
+            21 => Ok(Refusal::LabelTooFarAhead),
+            22 => Ok(Refusal::LabelTooFarBack),
+            23 => Ok(Refusal::OutputTooSmall),
+            24 => Ok(Refusal::NoElfType),
+            25 => Ok(Refusal::AddendOverflow),
+            26 => Ok(Refusal::ElfOutputTooSmall),
+            27 => Ok(Refusal::ArchitecturesDiffer),
+            28 => Ok(Refusal::SymbolDefinedTwice),
+            29 => Ok(Refusal::SymbolUndefined),
+            _ => Err(NoRefusal),
+        }
     }
 }
 

@@ -1,15 +1,25 @@
 -- An alignment in two steps: what it does to the tables, and what it does to the counts. `align_to` (Calls) is the two together (`align_answered`).
-use Rattle.std.specs.Prelude.{List, ℕ, ◌+◌, ◌/◌, eqb, length}
+use Rattle.std.specs.Prelude.{List, ℕ, ◌+◌, ◌/◌, eqb, length, Result, Ok, Err}
 use Rattle.seqs.specs.Over.{over}
 use Rattle.seqs.specs.Pick.{pick}
 use Rattle.encoder.specs.Padding.{padding_within}
 use Rattle.relax.specs.Events.{event_size}
 use Rattle.buffer.specs.declared.CodeBuffer.{CodeBuffer}
-use Rattle.buffer.specs.declared.Recorded.{Recorded}
-use Rattle.buffer.specs.declared.Spent.{Spent}
-use Rattle.buffer.specs.State.{keeps_events, with_code, with_events, turned_down, accepted}
+use Rattle.refusals.specs.declared.Refusal.{Refusal}
+use Rattle.refusals.specs.Answers.{number_of}
+use Rattle.buffer.specs.State.{Recorded, keeps_events, with_code, with_events, turned_down, accepted}
 use Rattle.buffer.specs.Refusals.{why_align}
 use Rattle.buffer.specs.Calls.{padding, aligned_events}
+
+-- what an alignment spends, and 0 or the refusal's number
+pub record Spent : Type 0 where
+  pub refusal : ℕ
+  pub len : ℕ
+
+-- the program's answer as this
+abbrev pub spent_of : Result ℕ Refusal → Spent
+spent_of (Ok n) = record { refusal = 0; len = n }
+spent_of (Err r) = record { refusal = number_of r; len = 0 }
 
 unfoldable pub aligned_tables : CodeBuffer → List ℕ → List ℕ → ℕ → ℕ → Spent × (List ℕ × List ℕ)
 aligned_tables b code events multiple most =

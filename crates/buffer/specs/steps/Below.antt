@@ -1,8 +1,7 @@
 -- What the call for a jump may be told of the labels, so that it need not look at each: the greatest offset below the current one.
-use Rattle.std.specs.Prelude.{◌≡◌, ◌≢◌, List, ℕ, zero, suc, max, ltb}
+use Rattle.std.specs.Prelude.{◌≡◌, List, ℕ, zero, suc, max, ltb, Option, Some}
 use Rattle.seqs.specs.Pick.{pick}
 use Rattle.words.specs.Words.{word_at}
-use Rattle.buffer.specs.State.{none}
 
 -- an offset below the limit; 0 for any other
 abbrev pub under : ℕ → ℕ → ℕ
@@ -13,6 +12,6 @@ unfoldable pub greatest_below : List ℕ → ℕ → ℕ → ℕ
 greatest_below labels zero limit = 0
 greatest_below labels (suc n) limit = max (under (word_at labels n) limit) (greatest_below labels n limit)
 
--- the number that is told is none, or that of the labels below the current offset
-pub record Told (labels : List ℕ) (n code nearest : ℕ) : Type 0 where
-  pub right : nearest ≢ none → nearest ≡ greatest_below labels n code
+-- what is told is nothing, or the number of the labels below the current offset
+pub record Told (labels : List ℕ) (n code : ℕ) (nearest : Option ℕ) : Type 0 where
+  pub right : (at : ℕ) → nearest ≡ Some at → at ≡ greatest_below labels n code

@@ -1,25 +1,24 @@
 -- `add_constant` meets its contract: where it is not turned down, the table has room for the entry, and the entry for the bytes.
+use Rattle.std.proofs.Common.{sym, arith}
+use Rattle.buffer.proofs.Answered.{past, down}
 use Rattle.buffer.specs.Calls.{add_constant}
 use Rattle.buffer.proofs.Accepted.{constant_accepted}
-use Rattle.seqs.proofs.Picking.{yes_eq, no_eq}
-use mathlib.Core.Path.{sym, ◌∙◌}
-use native.Mathlib.Omega.{arith}
 use Rattle.buffer.proofs.CodeBuffer.add_constant.Goals as goal
 
-pub returns-then-why-ne0 : goal.returns-then-why-ne0
+pub returns-in-Err : goal.returns-in-Err
 unfolding add_constant
-returns-then-why-ne0 c =
-    let why = c.why_no_constant-why.ensures in rw (c.make_none.ensures, why) (sym (no_eq _ 0 _ _ (λ e. c.if-why-ne0.true (why ∙ e))))
+returns-in-Err c =
+    rw (c.make_none.ensures, c.in-Err.ensures) (sym (down _ _ c.in-Err.why c.in-Err.ensures))
 
 pub put_constant-requires : goal.put_constant-requires
 put_constant-requires c =
-    omega (arith, constant_accepted (sym c.why_no_constant-why.ensures ∙ c.if-why-ne0.false))
+    omega (arith, constant_accepted (sym c.in_default.ensures))
 
 pub overflow_add-self : goal.overflow_add-self
 overflow_add-self c =
-    omega (arith, constant_accepted (sym c.why_no_constant-why.ensures ∙ c.if-why-ne0.false))
+    omega (arith, constant_accepted (sym c.in_default.ensures))
 
 pub returns : goal.returns
 unfolding add_constant
 returns c =
-    rw c.put_constant.ensures (sym (yes_eq _ 0 _ _ (sym c.why_no_constant-why.ensures ∙ c.if-why-ne0.false)))
+    rw c.put_constant.ensures (sym (past _ _ c.in_default.ensures))

@@ -1,24 +1,24 @@
+-- `get_label` meets its contract: where it is not turned down, the table has room for the label.
+use Rattle.std.proofs.Common.{sym, arith}
+use Rattle.buffer.proofs.Answered.{past, down}
 use Rattle.buffer.specs.Calls.{get_label}
 use Rattle.buffer.proofs.Accepted.{label_accepted}
-use Rattle.seqs.proofs.Picking.{yes_eq, no_eq}
-use mathlib.Core.Path.{sym, ◌∙◌}
-use native.Mathlib.Omega.{arith}
 use Rattle.buffer.proofs.CodeBuffer.get_label.Goals as goal
 
-pub returns-then-why-ne0 : goal.returns-then-why-ne0
+pub returns-in-Err : goal.returns-in-Err
 unfolding get_label
-returns-then-why-ne0 c =
-    let why = c.why_no_label-why.ensures in rw (c.make_none.ensures, why) (sym (no_eq _ 0 _ _ (λ e. c.if-why-ne0.true (why ∙ e))))
+returns-in-Err c =
+    rw (c.make_none.ensures, c.in-Err.ensures) (sym (down _ _ c.in-Err.why c.in-Err.ensures))
 
 pub put_word-requires : goal.put_word-requires
 put_word-requires c =
-    omega (arith, label_accepted (sym c.why_no_label-why.ensures ∙ c.if-why-ne0.false))
+    omega (arith, label_accepted (sym c.in_default.ensures))
 
 pub overflow_add-self : goal.overflow_add-self
 overflow_add-self c =
-    omega (arith, label_accepted (sym c.why_no_label-why.ensures ∙ c.if-why-ne0.false))
+    omega (arith, label_accepted (sym c.in_default.ensures))
 
 pub returns : goal.returns
 unfolding get_label
 returns c =
-    rw c.put_word.ensures (sym (yes_eq _ 0 _ _ (sym c.why_no_label-why.ensures ∙ c.if-why-ne0.false)))
+    rw c.put_word.ensures (sym (past _ _ c.in_default.ensures))

@@ -1,7 +1,6 @@
 -- `is_unfit` meets its contract: its tests are those of `jump_unfit`, in order.
+use Rattle.std.proofs.Common.{◌≡◌, sym, ap, ◌∙◌, arith}
 use borrow.Author.Tests.{lt-ltb}
-use mathlib.Core.Path.{◌≡◌, sym, ap, ◌∙◌}
-use native.Mathlib.Omega.{arith}
 use lib.Dec.{ltb}
 use Rattle.buffer.specs.Refusals.{label_inside, jump_unfit}
 use Rattle.buffer.proofs.Scan.{unfit_by_label}
@@ -22,15 +21,15 @@ returns-then-start-last_end c =
       lt-ltb c.args.start c.last_end.result c.if-start-last_end.true,
     )
 
-pub returns-then-nearest-ne-NONE : goal.returns-then-nearest-ne-NONE
-returns-then-nearest-ne-NONE c =
+pub returns-in-Some : goal.returns-in-Some
+returns-in-Some c =
     let a = c.args in
     let only : jump_unfit a.self a.labels.now a.events.now a.start a.len a.cc ≡ label_inside a.labels.now a.self.labels a.start a.self.code =
     unfit_by_label a.self a.labels.now a.events.now a.start a.len a.cc (sym c.is_malformed.ensures ∙ c.if-is_malformed.false) (omega (arith, c.last_end.ensures, c.if-start-last_end.false)) in
-    sym (only ∙ (inside_below a.labels.now a.self.labels a.start a.self.code ∙ ap (ltb a.start) (sym (c.requires.2.right c.if-nearest-ne-NONE.true))))
+    sym (only ∙ (inside_below a.labels.now a.self.labels a.start a.self.code ∙ ap (ltb a.start) (sym (c.requires.2.right c.in-Some.at c.in-Some.is))))
 
-pub returns : goal.returns
-returns c =
+pub returns-in-None : goal.returns-in-None
+returns-in-None c =
     let a = c.args in
     let only : jump_unfit a.self a.labels.now a.events.now a.start a.len a.cc ≡ label_inside a.labels.now a.self.labels a.start a.self.code =
     unfit_by_label a.self a.labels.now a.events.now a.start a.len a.cc (sym c.is_malformed.ensures ∙ c.if-is_malformed.false) (omega (arith, c.last_end.ensures, c.if-start-last_end.false)) in

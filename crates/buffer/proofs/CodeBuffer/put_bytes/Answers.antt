@@ -1,32 +1,27 @@
 -- `put_bytes` meets its contract: the bytes fit where no test refuses, and fill the part that they are copied into.
-use mathlib.Core.Path.{sym, ◌∙◌}
-use native.Mathlib.Omega.{arith}
-use Rattle.seqs.proofs.Picking.{yes_eq, no_eq}
+use Rattle.std.proofs.Common.{sym, arith}
+use Rattle.buffer.proofs.Answered.{past, down}
 use Rattle.buffer.specs.Calls.{put_bytes}
 use Rattle.buffer.proofs.Accepted.{bytes_accepted}
 use Rattle.buffer.proofs.Appends.{part_copied}
 use Rattle.buffer.proofs.CodeBuffer.put_bytes.Goals as goal
 
-pub returns-then-why-ne0 : goal.returns-then-why-ne0
+pub returns-in-Err : goal.returns-in-Err
 unfolding put_bytes
-returns-then-why-ne0 c =
-    let why = c.why_no_bytes-why.ensures in
-    rw (c.turn_down.ensures, why) (sym (no_eq _ 0 _ _ (λ e. c.if-why-ne0.true (why ∙ e))))
+returns-in-Err c =
+    rw (c.turn_down.ensures, c.in-Err.ensures) (sym (down _ _ c.in-Err.why c.in-Err.ensures))
 
 pub slice_bounds-copy-end : goal.slice_bounds-copy-end
 slice_bounds-copy-end c =
-    omega (arith, bytes_accepted (sym c.why_no_bytes-why.ensures ∙ c.if-why-ne0.false))
+    omega (arith, bytes_accepted (sym c.in_default.ensures))
 
 pub overflow_cast-self : goal.overflow_cast-self
 overflow_cast-self c =
-    omega (arith, bytes_accepted (sym c.why_no_bytes-why.ensures ∙ c.if-why-ne0.false))
+    omega (arith, bytes_accepted (sym c.in_default.ensures))
 
 pub returns : goal.returns
 unfolding put_bytes
 returns c =
-    let a = c.args in
-    let at = a.self.code in
-    let why = sym c.why_no_bytes-why.ensures ∙ c.if-why-ne0.false in
-    let fits = bytes_accepted why in
-    let copied = part_copied a.code.now a.bytes.now at (omega arith) in
-    rw (c.copy.ensures, copied) (sym (yes_eq _ 0 _ _ why))
+    let fits = bytes_accepted (sym c.in_default.ensures) in
+    let copied = part_copied c.args.code.now c.args.bytes.now c.args.self.code (omega arith) in
+    rw (c.copy.ensures, copied) (sym (past _ _ c.in_default.ensures))

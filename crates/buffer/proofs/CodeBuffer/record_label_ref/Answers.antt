@@ -1,78 +1,48 @@
 -- `record_label_ref` meets its contract: where a recording that keeps refs is not turned down, the table has room for the entry.
-use mathlib.Core.Path.{◌≡◌, sym, ◌∙◌}
-use mathlib.Core.Logic.{◌≢◌, ⊎_elim}
-use mathlib.Core.Bool.{Bool, true, false, ◌&&◌}
-use Prim.Native.Nat.{ℕ}
+use Rattle.std.proofs.Common.{refl, sym, ◌∙◌, arith}
+use Rattle.buffer.proofs.Answered.{past, is_past, is_down}
 use native.Mathlib.Nat.{add-zero}
-use native.Mathlib.Omega.{arith}
-use borrow.Author.Tests.{eqb-true, eq-eqb}
-use lib.Dec.{eqb}
-use Rattle.seqs.proofs.Booleans.{both_true}
-use Rattle.seqs.proofs.Numbers.{lt_or_ge, eq_or_ne}
-use Rattle.seqs.proofs.Picking.{pick_yes, pick_no, yes_eq, no_eq, yes_lt, no_lt}
-use Rattle.buffer.specs.declared.CodeBuffer.{CodeBuffer}
-use Rattle.buffer.specs.State.{refusing, keeps_events}
-use Rattle.buffer.specs.Refusals.{why_ref}
+use Rattle.seqs.proofs.Picking.{no_eq, pick_yes, pick_no}
+use Rattle.buffer.proofs.Answered.{refusing_0}
 use Rattle.buffer.specs.Calls.{record_ref}
-use Rattle.buffer.proofs.Accepted.{RefAccepted, ref_accepted}
+use Rattle.buffer.proofs.Accepted.{ref_accepted}
+use Rattle.buffer.proofs.CodeBuffer.record_label_ref.Goals.{then-is_ok+then-keeps_events, else-is_ok, else-is_ok-via-then-is_ok+else-keeps_events, else-is_ok-via-else-is_ok}
 use Rattle.buffer.proofs.CodeBuffer.record_label_ref.Goals as goal
-use Rattle.buffer.proofs.CodeBuffer.record_label_ref.Goals.{then-both, else-both}
-
--- What the test says where it holds, and where it does not.
-record Kept (b : CodeBuffer) (known room label code why : ℕ) : Type 0 where
-  none : why ≡ 0
-  keeps : keeps_events b.arch ≡ true
-  fits : RefAccepted b known room label code
-
-kept : (b : CodeBuffer) (known room label code why : ℕ) {keeps t : Bool} → why ≡ why_ref b known room label code → keeps ≡ keeps_events b.arch → t ≡ (eqb why 0 && keeps) → t ≡ true → Kept b known room label code why
-kept b known room label code why {keeps} e told test holds =
-    let parts = both_true (eqb why 0) keeps (sym test ∙ holds) in
-    let none : why ≡ 0 = eqb-true why 0 parts.0 in
-    let on : keeps_events b.arch ≡ true = sym told ∙ parts.1 in
-    record { none = none; keeps = on; fits = ref_accepted (sym e ∙ none) on }
-
-not-kept : (why arch : ℕ) {keeps t : Bool} → keeps ≡ keeps_events arch → t ≡ (eqb why 0 && keeps) → t ≡ false → why ≡ 0 → keeps_events arch ≡ false
-not-kept why arch told test fails none = sym told ∙ sym (rw (eq-eqb why 0 none) at test) ∙ fails
 
 pub opened-more-requires : goal.opened-more-requires
 opened-more-requires c =
-    let f = (kept _ _ _ _ _ _ c.why_no_ref-why.ensures c.keeps_events.ensures c.both.ensures c.if-both.true).fits in
+    let f = ref_accepted (sym (is_past _ c.if-is_ok.ensures.value c.why_no_ref-answer.ensures)) (sym c.if-keeps_events.ensures) in
     omega (arith, f.labels, f.known)
 
 pub put_ref-requires : goal.put_ref-requires
 put_ref-requires c =
-    let f = (kept _ _ _ _ _ _ c.why_no_ref-why.ensures c.keeps_events.ensures c.both.ensures c.if-both.true).fits in
+    let f = ref_accepted (sym (is_past _ c.if-is_ok.ensures.value c.why_no_ref-answer.ensures)) (sym c.if-keeps_events.ensures) in
     omega (arith, f.fits, f.few)
 
 pub overflow_add-self : goal.overflow_add-self
 overflow_add-self c =
-    elim c.if-both.branch [
-      | then-both w ↦ let f = (kept _ _ _ _ _ _ c.why_no_ref-why.ensures c.keeps_events.ensures c.both.ensures w.if-both.true).fits in omega (arith, f.fits, f.few, w.took-is)
-      | else-both w ↦ omega (arith, w.took-is)
+    elim c.if-is_ok.branch [
+      | then-is_ok+then-keeps_events w ↦ let f = ref_accepted (sym (is_past _ w.if-is_ok.ensures.value c.why_no_ref-answer.ensures)) (sym w.if-keeps_events.ensures) in omega (arith, f.fits, f.few, w.took-is)
+      | else-is_ok w ↦ omega (arith, w.took-is)
     ]
 
-pub overflow_add-self-2 : goal.overflow_add-self-2
-overflow_add-self-2 c =
-    elim c.if-both.branch [
-      | then-both w ↦ let f = (kept _ _ _ _ _ _ c.why_no_ref-why.ensures c.keeps_events.ensures c.both.ensures w.if-both.true).fits in omega (arith, f.few_open, w.opened-more.ensures.1, w.more-is)
-      | else-both w ↦ omega (arith, w.more-is)
+pub entered-requires : goal.entered-requires
+entered-requires c =
+    elim c.if-is_ok.branch [
+      | then-is_ok+then-keeps_events w ↦ let f = ref_accepted (sym (is_past _ w.if-is_ok.ensures.value c.why_no_ref-answer.ensures)) (sym w.if-keeps_events.ensures) in omega (arith, f.few_open, w.opened-more.ensures.1, w.more-is)
+      | else-is_ok w ↦ omega (arith, w.more-is)
     ]
 
 pub returns : goal.returns
-unfolding record_ref refusing
+unfolding record_ref
 returns c =
-    let b = c.args.self in
-    let refused = c.kept_refusal.ensures in
-    let why = c.why_no_ref-why.ensures in
-    elim c.if-both.branch [
-      | then-both w ↦ let k = kept _ _ _ _ _ _ why c.keeps_events.ensures c.both.ensures w.if-both.true in
-          rw (w.took-is, w.more-is, w.refs-is, w.put_ref.ensures, w.opened-more.ensures.0, refused.0 (omega (arith, k.none)), k.none) (sym (yes_eq _ 0 _ _ (sym why ∙ k.none) ∙ pick_yes _ _ _ k.keeps))
-      | else-both w ↦ rw (w.refs-is, w.more-is, w.took-is, add-zero, add-zero)
-          (⊎_elim
-          (λ (none : c.why_no_ref-why.result ≡ 0). rw (refused.0 (omega (arith, none)), none) (sym (yes_eq _ 0 _ _ (sym why ∙ none) ∙ pick_no _ _ _ (not-kept c.why_no_ref-why.result b.arch c.keeps_events.ensures c.both.ensures w.if-both.false none))))
-          (λ (some : c.why_no_ref-why.result ≢ 0). rw why (⊎_elim
-          (λ lt. rw (refused.0 lt) (sym (no_eq _ 0 _ _ (λ e. some (why ∙ e)) ∙ rw (yes_lt _ 6 _ _ (rw why at lt)))))
-          (λ ge. rw (refused.1 ge, why) (sym (no_eq _ 0 _ _ (λ e. some (why ∙ e)) ∙ rw (no_lt _ 6 _ _ (rw why at ge)))))
-          (lt_or_ge c.why_no_ref-why.result 6)))
-          (eq_or_ne c.why_no_ref-why.result 0))
+    elim c.if-is_ok.branch [
+      | then-is_ok+then-keeps_events w ↦ let none = is_past _ w.if-is_ok.ensures.value c.why_no_ref-answer.ensures in
+          rw (c.entered.ensures, w.took-is, w.more-is, w.refs-is, w.put_ref.ensures, w.opened-more.ensures.0, c.why_no_ref-answer.ensures, ← none, refusing_0)
+          (sym (past _ _ refl ∙ pick_yes _ _ _ (sym w.if-keeps_events.ensures)))
+      | else-is_ok w ↦ elim w.else-is_ok.branch [
+        | else-is_ok-via-then-is_ok+else-keeps_events w1 ↦ let none = is_past _ w1.if-is_ok.ensures.value c.why_no_ref-answer.ensures in
+            rw (c.entered.ensures, w.refs-is, w.more-is, w.took-is, add-zero, add-zero, c.why_no_ref-answer.ensures, ← none, refusing_0) (sym (past _ _ refl ∙ pick_no _ _ _ (sym w1.if-keeps_events.ensures)))
+        | else-is_ok-via-else-is_ok w2 ↦ rw (c.entered.ensures, w.refs-is, w.more-is, w.took-is, add-zero, add-zero, c.why_no_ref-answer.ensures) (sym (no_eq _ 0 _ _ (is_down _ w2.if-is_ok.ensures.value c.why_no_ref-answer.ensures)))
+      ]
     ]

@@ -1,13 +1,14 @@
+use Rattle.std.proofs.Common.{rules}
+use Rattle.seqs.proofs.Picking.{picks}
 use Rattle.buffer.specs.State.{refusing}
-use Rattle.seqs.proofs.Picking.{yes_lt, no_lt}
 use Rattle.buffer.proofs.CodeBuffer.turn_down.Goals as goal
 
-pub returns-then-why-lt-FIRST_RECORDED : goal.returns-then-why-lt-FIRST_RECORDED
+pub returns-then-is_recorded : goal.returns-then-is_recorded
 unfolding refusing
-returns-then-why-lt-FIRST_RECORDED c =
-    rw (yes_lt c.args.why 6 _ _ c.if-why-lt-FIRST_RECORDED.true)
+returns-then-is_recorded c =
+    search (rules, picks)
 
-pub returns : goal.returns
+pub returns-else-is_recorded : goal.returns-else-is_recorded
 unfolding refusing
-returns c =
-    rw (no_lt c.args.why 6 _ _ c.if-why-lt-FIRST_RECORDED.false)
+returns-else-is_recorded c =
+    search (rules, picks)

@@ -1,25 +1,22 @@
--- `why_no_constant` meets its contract: each return is where the chain of tests ends.
+-- `why_no_constant` meets its contract: its tests are those of `why_constant`, in order.
+use Rattle.std.proofs.Common.{rules}
+use Rattle.seqs.proofs.Picking.{picks}
+use Rattle.refusals.proofs.Chains.{chains}
 use Rattle.buffer.specs.Refusals.{why_constant}
-use Rattle.seqs.proofs.Picking.{yes_eq, no_eq, yes_lt, no_lt, yes_le, no_le}
-use mathlib.Core.Path.{sym, ◌∙◌}
 use Rattle.buffer.proofs.CodeBuffer.why_no_constant.Goals as goal
 
-pub returns-then-why-ne0 : goal.returns-then-why-ne0
+pub returns-in_err-standing : goal.returns-in_err-standing
 unfolding why_constant
-returns-then-why-ne0 c =
-    rw (← c.standing-why.ensures) (sym (no_eq _ 0 _ _ c.if-why-ne0.true))
+returns-in_err-standing c = search (rules, chains, picks)
 
 pub returns-then-n-gt-MOST_CONSTANT : goal.returns-then-n-gt-MOST_CONSTANT
 unfolding why_constant
-returns-then-n-gt-MOST_CONSTANT c =
-    rw (← c.standing-why.ensures) (sym (yes_eq _ 0 _ _ c.if-why-ne0.false ∙ yes_lt _ _ _ _ c.if-n-gt-MOST_CONSTANT.true))
+returns-then-n-gt-MOST_CONSTANT c = search (rules, chains, picks)
 
 pub returns-then-room-count : goal.returns-then-room-count
 unfolding why_constant
-returns-then-room-count c =
-    rw (← c.standing-why.ensures) (sym (yes_eq _ 0 _ _ c.if-why-ne0.false ∙ no_lt _ _ _ _ c.if-n-gt-MOST_CONSTANT.false ∙ yes_le _ _ _ _ c.if-room-count.true))
+returns-then-room-count c = search (rules, chains, picks)
 
 pub returns : goal.returns
 unfolding why_constant
-returns c =
-    rw (← c.standing-why.ensures) (sym (yes_eq _ 0 _ _ c.if-why-ne0.false ∙ no_lt _ _ _ _ c.if-n-gt-MOST_CONSTANT.false ∙ no_le _ _ _ _ c.if-room-count.false))
+returns c = search (rules, chains, picks)

@@ -1,19 +1,18 @@
+-- `why_no_label` meets its contract: its tests are those of `why_label`, in order.
+use Rattle.std.proofs.Common.{rules}
+use Rattle.seqs.proofs.Picking.{picks}
+use Rattle.refusals.proofs.Chains.{chains}
 use Rattle.buffer.specs.Refusals.{why_label}
-use Rattle.seqs.proofs.Picking.{yes_eq, no_eq, yes_le, no_le}
-use mathlib.Core.Path.{sym, ◌∙◌}
 use Rattle.buffer.proofs.CodeBuffer.why_no_label.Goals as goal
 
-pub returns-then-why-ne0 : goal.returns-then-why-ne0
+pub returns-in_err-standing : goal.returns-in_err-standing
 unfolding why_label
-returns-then-why-ne0 c =
-    rw (← c.standing-why.ensures) (sym (no_eq _ 0 _ _ c.if-why-ne0.true))
+returns-in_err-standing c = search (rules, chains, picks)
 
 pub returns-then-room-n : goal.returns-then-room-n
 unfolding why_label
-returns-then-room-n c =
-    rw (← c.standing-why.ensures) (sym (yes_eq _ 0 _ _ c.if-why-ne0.false ∙ yes_le _ _ _ _ c.if-room-n.true))
+returns-then-room-n c = search (rules, chains, picks)
 
 pub returns : goal.returns
 unfolding why_label
-returns c =
-    rw (← c.standing-why.ensures) (sym (yes_eq _ 0 _ _ c.if-why-ne0.false ∙ no_le _ _ _ _ c.if-room-n.false))
+returns c = search (rules, chains, picks)

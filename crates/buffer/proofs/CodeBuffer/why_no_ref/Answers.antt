@@ -1,41 +1,32 @@
--- `why_no_ref` meets its contract: each return is where the chain of tests ends.
-use mathlib.Core.Path.{◌≡◌}
-use mathlib.Core.Bool.{true, false}
+-- `why_no_ref` meets its contract: its tests are those of `why_ref`, in order.
+use Rattle.std.proofs.Common.{rules, ◌≡◌, Err}
 use Rattle.seqs.proofs.Picking.{picks}
+use Rattle.refusals.proofs.Chains.{chains, refused_first}
 use Rattle.buffer.specs.Refusals.{why_ref}
 use Rattle.buffer.proofs.CodeBuffer.why_no_ref.Goals as goal
 
-pub returns-then-why-ne0 : goal.returns-then-why-ne0
+pub returns-in_err-standing : goal.returns-in_err-standing
 unfolding why_ref
-returns-then-why-ne0 c =
-    search (picks, ← c.both-formed.ensures, ← c.both.ensures, ← c.both-2.ensures, ← c.standing-why.ensures)
+returns-in_err-standing c =
+    let told : c.from_residual.result ≡ Err c.in_err-standing.field-0.0 = search rules in
+    refused_first _ _ told (search rules)
 
 pub returns-then-not-keeps_events : goal.returns-then-not-keeps_events
 unfolding why_ref
-returns-then-not-keeps_events c =
-    let off : c.keeps_events.result ≡ false = c.if-not-keeps_events.true in
-    search (picks, ← c.both-formed.ensures, ← c.both.ensures, ← c.both-2.ensures, ← c.standing-why.ensures, ← c.keeps_events.ensures)
+returns-then-not-keeps_events c = search (rules, chains, picks)
 
 pub returns-then-is_foreign : goal.returns-then-is_foreign
 unfolding why_ref
-returns-then-is_foreign c =
-    let on : c.keeps_events.result ≡ true = c.if-not-keeps_events.false in
-    search (picks, ← c.both-formed.ensures, ← c.both.ensures, ← c.both-2.ensures, ← c.standing-why.ensures, ← c.is_foreign.ensures, ← c.keeps_events.ensures)
+returns-then-is_foreign c = search (rules, chains, picks)
 
 pub returns-then-self-label : goal.returns-then-self-label
 unfolding why_ref
-returns-then-self-label c =
-    let on : c.keeps_events.result ≡ true = c.if-not-keeps_events.false in
-    search (picks, ← c.both-formed.ensures, ← c.both.ensures, ← c.both-2.ensures, ← c.standing-why.ensures, ← c.is_foreign.ensures, ← c.keeps_events.ensures)
+returns-then-self-label c = search (rules, chains, picks)
 
 pub returns-then-room-n : goal.returns-then-room-n
 unfolding why_ref
-returns-then-room-n c =
-    let on : c.keeps_events.result ≡ true = c.if-not-keeps_events.false in
-    search (picks, ← c.both-formed.ensures, ← c.both.ensures, ← c.both-2.ensures, ← c.standing-why.ensures, ← c.is_foreign.ensures, ← c.keeps_events.ensures)
+returns-then-room-n c = search (rules, chains, picks)
 
 pub returns : goal.returns
 unfolding why_ref
-returns c =
-    let on : c.keeps_events.result ≡ true = c.if-not-keeps_events.false in
-    search (picks, ← c.both-formed.ensures, ← c.both.ensures, ← c.both-2.ensures, ← c.standing-why.ensures, ← c.is_foreign.ensures, ← c.keeps_events.ensures)
+returns c = search (rules, chains, picks)

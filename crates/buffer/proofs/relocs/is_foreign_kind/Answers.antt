@@ -1,31 +1,30 @@
--- `is_foreign_kind` meets its contract, architecture by architecture.
+use Rattle.std.proofs.Common.{rules}
+use Rattle.seqs.proofs.Picking.{picks}
+use borrow.Author.Tests.{tests}
 use Rattle.buffer.specs.Refusals.{foreign_reloc}
-use Rattle.seqs.proofs.Picking.{yes_eq, no_eq}
-use borrow.Author.Tests.{eq-eqb, ne_eqb}
-use mathlib.Core.Path.{sym, ◌∙◌}
 use Rattle.buffer.proofs.relocs.is_foreign_kind.Goals as goal
 
-pub returns-then-which-eq0 : goal.returns-then-which-eq0
+pub returns-in-0 : goal.returns-in-0
 unfolding foreign_reloc
-returns-then-which-eq0 c =
-    rw (← c.arch_of_kind-which.ensures) (sym (yes_eq _ 0 _ _ c.if-which-eq0.true))
+returns-in-0 c =
+    search (rules, picks, tests)
 
-pub returns-then-arch-eq-X86 : goal.returns-then-arch-eq-X86
+pub returns-then-arch-ne-X86 : goal.returns-then-arch-ne-X86
 unfolding foreign_reloc
-returns-then-arch-eq-X86 c =
-    rw (← c.arch_of_kind-which.ensures, eq-eqb c.args.arch 1 c.if-arch-eq-X86.true) (sym (no_eq _ 0 _ _ c.if-which-eq0.false ∙ yes_eq _ 1 _ _ c.if-which-eq1.true))
+returns-then-arch-ne-X86 c =
+    search (rules, picks, tests)
 
-pub returns-then-which-eq1 : goal.returns-then-which-eq1
+pub returns-else-arch-ne-X86 : goal.returns-else-arch-ne-X86
 unfolding foreign_reloc
-returns-then-which-eq1 c =
-    rw (← c.arch_of_kind-which.ensures, ne_eqb c.args.arch 1 c.if-arch-eq-X86.false) (sym (no_eq _ 0 _ _ c.if-which-eq0.false ∙ yes_eq _ 1 _ _ c.if-which-eq1.true))
+returns-else-arch-ne-X86 c =
+    search (rules, picks, tests)
 
-pub returns-then-which-eq2 : goal.returns-then-which-eq2
+pub returns-in-2 : goal.returns-in-2
 unfolding foreign_reloc
-returns-then-which-eq2 c =
-    rw (← c.arch_of_kind-which.ensures) (sym (no_eq _ 0 _ _ c.if-which-eq0.false ∙ no_eq _ 1 _ _ c.if-which-eq1.false ∙ yes_eq _ 2 _ _ c.if-which-eq2.true))
+returns-in-2 c =
+    search (rules, picks, tests)
 
-pub returns : goal.returns
+pub returns-in_default : goal.returns-in_default
 unfolding foreign_reloc
-returns c =
-    rw (← c.arch_of_kind-which.ensures) (sym (no_eq _ 0 _ _ c.if-which-eq0.false ∙ no_eq _ 1 _ _ c.if-which-eq1.false ∙ no_eq _ 2 _ _ c.if-which-eq2.false))
+returns-in_default c =
+    search (rules, picks, tests)

@@ -5,4 +5,4 @@ use Rattle.checks.proofs.lent.why_not_standing.Goals as goal
 pub returns : goal.returns
 unfolding counts_fit within_limits
 returns c =
-    rw (c.standing.ensures, c.counts_fit-fit.ensures, c.within_limits-within.ensures)
+    rw (c.answer_of.ensures, c.standing.ensures, c.counts_fit-fit.ensures, c.within_limits-within.ensures)
