@@ -10,6 +10,7 @@ use lib.Dec.{eqb}
 use lib.ListN.{length}
 use Rattle.seqs.specs.Counting.{one, how_many, count}
 use Rattle.seqs.specs.Every.{every}
+use Rattle.std.specs.Int.{from_bool}
 use Rattle.seqs.specs.Pick.{pick}
 
 pub one_le : (t : Bool) → one t ≤ 1
@@ -66,3 +67,9 @@ module _ {A : Type 0} where
       by : (t : Bool) (n : ℕ) → eqb n 0 ≡ every (λ (x : A). not (f x)) xs → eqb (one t + n) 0 ≡ (not t && every (λ (x : A). not (f x)) xs)
       by true n e = ne_eqb (1 + n) 0 (λ z. omega arith)
       by false n e = let z : 0 + n ≡ n = omega arith in rw z e
+
+-- a test as a number
+pub byte_one : (t : Bool) → from_bool t ≡ one t
+unfolding pick
+byte_one true = refl
+byte_one false = refl
