@@ -4,22 +4,14 @@
 ghost use Rattle.std.specs.Prelude.{◌≡◌, ◌+◌, ◌*◌, ◌≤◌, ◌<◌, length};
 ghost use Rattle.words.specs.Words.{word_at, set_word};
 
-fn wide(x: u8) -> u32
-    ensures { (result ≡ x) × (result < 256) }
-{
-    x as u32
-}
-
 // Word `k` of `bytes`.
+#[tactic(auto, unfolding(crate::specs::Words::word_at))]
 pub fn word_at(bytes: &[u8], k: usize) -> u32
     requires { k * 4 + 4 ≤ length bytes.now }
     ensures { result ≡ word_at bytes.now k }
 {
     let i = k * 4;
-    wide(bytes[i])
-        + wide(bytes[i + 1]) * 256
-        + wide(bytes[i + 2]) * 65536
-        + wide(bytes[i + 3]) * 16777216
+    u32::from_le_bytes([bytes[i], bytes[i + 1], bytes[i + 2], bytes[i + 3]])
 }
 
 // Makes `v` word `k` of `bytes`.
@@ -28,8 +20,5 @@ pub fn put_word(bytes: &mut [u8], k: usize, v: u32)
     ensures { bytes.new ≡ set_word bytes.old k v }
 {
     let i = k * 4;
-    bytes[i] = (v % 256) as u8;
-    bytes[i + 1] = (v / 256 % 256) as u8;
-    bytes[i + 2] = (v / 65536 % 256) as u8;
-    bytes[i + 3] = (v / 16777216 % 256) as u8;
+    bytes[i..i + 4].copy_from_slice(&v.to_le_bytes());
 }

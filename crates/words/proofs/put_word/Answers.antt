@@ -1,19 +1,11 @@
--- `put_word` meets its contract: four stores in a row are one overwrite.
-use native.Mathlib.Omega.{arith}
-use lib.ListN.{length-set}
-use Rattle.seqs.proofs.Overwrites.{set4_over}
-use Rattle.words.specs.Words.{set_word}
+-- `put_word` meets its contract: the four bytes are written over a part of the slice.
+use Rattle.std.proofs.Common.{◌+◌, ◌*◌, ◌-◌, arith}
+use Rattle.seqs.proofs.Overwrites.{over_mid}
+use Rattle.words.specs.Words.{bytes_of, set_word}
 use Rattle.words.proofs.put_word.Goals as goal
-
-pub bounds-bytes-i-2 : goal.bounds-bytes-i-2
-bounds-bytes-i-2 c = simp length-set (omega arith)
-
-pub bounds-bytes-i-3 : goal.bounds-bytes-i-3
-bounds-bytes-i-3 c = simp length-set (omega arith)
-
-pub bounds-bytes-i-4 : goal.bounds-bytes-i-4
-bounds-bytes-i-4 c = simp length-set (omega arith)
 
 pub returns : goal.returns
 unfolding set_word
-returns c = search set4_over
+returns c =
+    let i = c.args.k * 4 in
+    rw (c.copy_from_slice.ensures.after, c.to_le_bytes.ensures) (over_mid c.args.bytes.now i (i + 4 - i) (bytes_of c.args.v) (omega arith) (omega arith))
