@@ -34,8 +34,7 @@ impl RelaxableJump {
     pub fn long_len(self) -> u32
         ensures { result ≡ long_len self.cc }
     {
-        let cc = self.cc;
-        match cc {
+        match self.cc {
             Condition::Always => 5,
             Condition::On(_) => 6,
         }
@@ -85,19 +84,24 @@ pub struct Segment {
     pub new_end: u32,
 }
 
-// 0 to 15 are condition codes; this is none.
+// 0 to 15 are condition codes; this is none. A condition is a word of the table, lent by C; inside the program it is a `Condition`.
 pub const NO_CONDITION: u32 = 16;
 
-fn condition_of(n: u32) -> Condition
-    ensures { result ≡ condition_of n }
-{
-    if n == NO_CONDITION {
-        return Condition::Always;
+impl From<u32> for Condition {
+    #[tactic(auto, using(seqs::proofs::Picking::picks), unfolding(crate::specs::Events::condition_of))]
+    fn from(n: u32) -> Condition
+        ensures { result ≡ condition_of n }
+    {
+        if n == NO_CONDITION {
+            Condition::Always
+        } else {
+            Condition::On(n)
+        }
     }
-    Condition::On(n)
 }
 
-// An entry of the table: its words, its bytes, and the kinds that stand in its first word.
+// An entry of the table: its words, its bytes, and the kinds that stand in its first word. The table is lent by C, so a kind is a word in it; inside the
+// program it is the variant of a `LayoutEvent`.
 pub const EVENT_WORDS: usize = 5;
 
 pub const EVENT_SIZE: usize = 20;
@@ -109,17 +113,16 @@ pub const ALIGNMENT: u32 = 2;
 pub const BRANCH: u32 = 3;
 
 // Whether an entry of this kind names a label.
+#[tactic(auto, unfolding(crate::specs::Events::names_label))]
 pub fn names_label(kind: u32) -> bool
     ensures { result ≡ names_label kind }
 {
-    if kind == JUMP {
-        return true;
-    }
-    kind == BRANCH
+    kind == JUMP || kind == BRANCH
 }
 
 // Event `i` of the table. An entry is kind (`JUMP`, `BRANCH`, else an alignment), start, length, label or multiple, condition, code or the most bytes of
 // padding.
+#[tactic(auto, using(seqs::proofs::Picking::picks), unfolding(crate::specs::Events::event_at, crate::specs::Events::event_of))]
 pub fn event_at(events: &[u8], i: usize) -> LayoutEvent
     requires { i * event_size + event_size ≤ length events.now }
     ensures { result ≡ event_at events.now i }
@@ -130,32 +133,30 @@ pub fn event_at(events: &[u8], i: usize) -> LayoutEvent
     let len = words::word_at(events, k + 2);
     let what = words::word_at(events, k + 3);
     let how = words::word_at(events, k + 4);
-    if kind == JUMP {
-        let cc = condition_of(how);
-        return LayoutEvent::Jump(RelaxableJump {
+    match kind {
+        JUMP => LayoutEvent::Jump(RelaxableJump {
             start,
             len,
             label: what,
-            cc,
-        });
-    }
-    if kind == BRANCH {
-        return LayoutEvent::Far(FarBranch {
+            cc: Condition::from(how),
+        }),
+        BRANCH => LayoutEvent::Far(FarBranch {
             start,
             len,
             label: what,
             code: how,
-        });
+        }),
+        _ => LayoutEvent::Align(Alignment {
+            start,
+            len,
+            align: what,
+            most: how,
+        }),
     }
-    LayoutEvent::Align(Alignment {
-        start,
-        len,
-        align: what,
-        most: how,
-    })
 }
 
 // Writes entry `i` of the table.
+#[tactic(auto, unfolding(crate::specs::Events::set_event))]
 pub fn put_event(events: &mut [u8], i: usize, kind: u32, start: u32, len: u32, what: u32, how: u32)
     requires { i * event_size + event_size ≤ length events.old }
     ensures { events.new ≡ set_event events.old i kind start len what how }
