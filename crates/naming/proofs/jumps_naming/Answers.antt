@@ -1,18 +1,10 @@
--- `jumps_naming` meets its contract: each event adds 1 where it is a jump to the label.
-use native.Mathlib.Omega.{arith}
-use Rattle.naming.specs.Naming.{jumps_naming}
-use Rattle.naming.proofs.Turns.{counting, found_le}
+-- `jumps_naming` meets its contract: the test is that of `jump_names`.
+use Rattle.std.proofs.Common.{rules}
+use borrow.Author.Tests.{tests}
+use Rattle.naming.specs.Naming.{jump_names, jumps_naming}
 use Rattle.naming.proofs.jumps_naming.Goals as goal
-
-pub loop-i-init : goal.loop-i-init
-loop-i-init c = search counting
-
-pub loop-i-preserved : goal.loop-i-preserved
-loop-i-preserved c = search counting
-
-pub overflow_add-found : goal.overflow_add-found
-overflow_add-found c = omega (arith, found_le (loop-i-preserved c))
 
 pub returns : goal.returns
 unfolding jumps_naming
-returns c = search counting
+returns c =
+    c.how_many.ensures (jump_names c.args.events.now c.args.label) (λ i b q. search (rules, tests))

@@ -1,32 +1,12 @@
--- `open_entries` meets its contract: each entry adds 1 where it names an open label.
-use native.Mathlib.Omega.{arith}
-use Rattle.naming.specs.steps.Open.{open_entries}
-use Rattle.naming.proofs.Entries.{entry_within}
-use Rattle.naming.proofs.Turns.{counting, found_le, count_grows}
+-- `open_entries` meets its contract: the test is that of `opens_at`.
+use Rattle.std.proofs.Common.{ℕ, ◌+◌, ◌*◌, rules}
+use borrow.Author.Tests.{tests}
+use Rattle.words.specs.Words.{word_at}
+use Rattle.naming.specs.steps.Open.{opens_at, open_entries}
 use Rattle.naming.proofs.open_entries.Goals as goal
-
-pub loop-i-init : goal.loop-i-init
-loop-i-init c = search counting
-
-pub overflow_mul-i : goal.overflow_mul-i
-overflow_mul-i c =
-    omega (arith, entry_within c.loop-i-test.true c.requires.1)
-
-pub overflow_add-i : goal.overflow_add-i
-overflow_add-i c =
-    omega (arith, entry_within c.loop-i-test.true c.requires.1)
-
-pub word_at-word-requires : goal.word_at-word-requires
-word_at-word-requires c =
-    omega (arith, entry_within c.loop-i-test.true c.requires.1)
-
-pub loop-i-preserved : goal.loop-i-preserved
-loop-i-preserved c =
-    count_grows c.loop-i.invariant (omega arith) (rw c.word_at-word.ensures at c.opens-found.ensures)
-
-pub overflow_add-found : goal.overflow_add-found
-overflow_add-found c = omega (arith, found_le (loop-i-preserved c))
 
 pub returns : goal.returns
 unfolding open_entries
-returns c = search counting
+returns c =
+    let a = c.args in
+    c.how_many.ensures (λ (i : ℕ). opens_at a.labels.now a.known a.base (word_at a.table.now (i * a.stride + a.at))) (λ i b q. search (rules, tests))

@@ -1,18 +1,14 @@
--- `open_jumps` meets its contract: each event adds 1 where it is a jump to an open label.
-use native.Mathlib.Omega.{arith}
-use Rattle.naming.specs.steps.Open.{open_jumps}
-use Rattle.naming.proofs.Turns.{counting, found_le}
+-- `open_jumps` meets its contract: a jump or a branch, to an open label.
+use Rattle.std.proofs.Common.{ℕ, ◌+◌, ◌*◌, ◌&&◌, rules}
+use borrow.Author.Tests.{tests}
+use Rattle.words.specs.Words.{word_at}
+use Rattle.relax.specs.Events.{event_words, names_label}
+use Rattle.naming.specs.steps.Open.{is_open_at, open_jumps}
 use Rattle.naming.proofs.open_jumps.Goals as goal
-
-pub loop-i-init : goal.loop-i-init
-loop-i-init c = search counting
-
-pub loop-i-preserved : goal.loop-i-preserved
-loop-i-preserved c = search counting
-
-pub overflow_add-found : goal.overflow_add-found
-overflow_add-found c = omega (arith, found_le (loop-i-preserved c))
 
 pub returns : goal.returns
 unfolding open_jumps
-returns c = search counting
+returns c =
+    let events = c.args.events.now in
+    c.how_many.ensures (λ (i : ℕ). names_label (word_at events (i * event_words)) && is_open_at c.args.labels.now c.args.known (word_at events (i * event_words + 3)))
+    (λ i b q. search (rules, tests))
