@@ -19,30 +19,27 @@ const NOP_TABLE: [[u8; 9]; 9] = [
 ];
 
 // Fills `pad` with one form, the start of its row.
-fn push_nop(pad: &mut [u8], row: &[u8])
-    requires { (length pad.old ≤ 9) × (length row.now ≡ 9) × (take (length pad.old) row.now ≡ form (length pad.old)) }
+fn push_nop(pad: &mut [u8], row: &[u8; 9])
+    requires { (length pad.old ≤ 9) × (take (length pad.old) row.now ≡ form (length pad.old)) }
     ensures { pad.new ≡ form (length pad.old) }
 {
-    let n = pad.len();
-    seqs::copy(&row[..n], pad);
+    pad.copy_from_slice(&row[..pad.len()]);
 }
 
-// Fills `pad` with NOPs, longest first. The table is built once, and the longest form's row taken from it once.
+// Fills `pad` with NOPs, longest first. The table is built once. In the place of `chunks_mut(9)` a loop: of a slice that was lent by parts a proof knows
+// the length alone.
 pub fn push_nops(pad: &mut [u8])
     ensures { pad.new ≡ nops (length pad.old) }
 {
     let len = pad.len();
     let table = NOP_TABLE;
-    let nine = table[8];
     let mut i: usize = 0;
     while 9 <= len - i {
-        push_nop(&mut pad[i..i + 9], &nine);
+        push_nop(&mut pad[i..i + 9], &table[8]);
         i += 9;
     }
     if i < len {
-        let index = len - i - 1;
-        let row = table[index];
-        push_nop(&mut pad[i..len], &row);
+        push_nop(&mut pad[i..], &table[len - i - 1]);
     }
 }
 
@@ -55,7 +52,7 @@ pub fn padding_len(offset: u32, align_to: u32) -> u32
     }
     let mask = align_to - 1;
     if align_to & mask == 0 {
-        return std::num::wrapping_sub_u32(0, offset) & mask;
+        return offset.wrapping_neg() & mask;
     }
     let past = offset % align_to;
     if past == 0 {

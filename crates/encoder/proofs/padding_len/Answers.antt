@@ -14,7 +14,7 @@ pub returns-then-align_to-mask-eq0 : goal.returns-then-align_to-mask-eq0
 returns-then-align_to-mask-eq0 c =
     let a = c.args in
     let power = power_of_two 32 a.align_to (omega arith) (omega arith) c.if-align_to-mask-eq0.true in
-    padding_wrapped a.offset a.align_to c.wrapping_sub_u32.result (omega arith) (omega arith) c.wrapping_sub_u32.ensures.value power
+    padding_wrapped a.offset a.align_to c.wrapping_neg.result (omega arith) (omega arith) c.wrapping_neg.ensures power
 
 pub returns-then-past-eq0 : goal.returns-then-past-eq0
 returns-then-past-eq0 c =

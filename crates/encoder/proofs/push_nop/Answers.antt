@@ -1,17 +1,6 @@
 -- `push_nop` meets its contract: the row starts with the form, and the copy fills `pad`.
-use Rattle.std.proofs.Common.{◌≤◌, length, sym, ap, ◌∙◌, arith, length-take-le}
-use Rattle.seqs.specs.Over.{over}
-use Rattle.seqs.proofs.Overwrites.{over_all}
-use Rattle.encoder.specs.Nops.{form}
-use Rattle.encoder.proofs.Forms.{form_length}
+use Rattle.std.proofs.Common.{◌∙◌}
 use Rattle.encoder.proofs.push_nop.Goals as goal
 
-pub slice_bounds-copy-end : goal.slice_bounds-copy-end
-slice_bounds-copy-end c = let h : length c.args.pad.now ≤ length c.args.row.now = omega (arith, c.requires.0, c.requires.1) in sym (length-take-le _ c.args.row.now h)
-
 pub returns : goal.returns
-returns c =
-    let pad = c.args.pad.now in
-    let n = length pad in
-    c.copy.ensures
-    ∙ (ap (over pad 0) c.requires.2 ∙ over_all pad (form n) (form_length n c.requires.0))
+returns c = c.copy_from_slice.ensures.after ∙ c.requires.1
