@@ -1,4 +1,5 @@
 pub mod Jumps
+pub mod Displaced
 pub mod Fields
 pub mod Turns
 pub mod Runs
