@@ -12,11 +12,13 @@ use Rattle.fields.specs.Words64.{plus, sign_extend}
 use Rattle.join.specs.declared.Piece.{Piece}
 use Rattle.join.specs.declared.Cursor.{Cursor}
 use Rattle.join.specs.declared.AsmReloc.{AsmReloc}
-use Rattle.join.specs.declared.Test.{Test}
-use Rattle.join.specs.declared.Test.TheVariants.{Defined, Inside, Reaches}
 use Rattle.join.specs.Pieces.{Lent, piece_count, piece_at, gap, base_of, cursor_at}
 use Rattle.join.specs.Symbols.{first_place}
 use Rattle.join.specs.Join.{
+  Test,
+  Defined,
+  Inside,
+  Reaches,
   Joined,
   last_place,
   is_filled,

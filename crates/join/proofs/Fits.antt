@@ -10,8 +10,6 @@ use Rattle.buffer.specs.State.{label_target}
 use Rattle.buffer.specs.Tables.{most_entries, most_code, label_size, reloc_size}
 use Rattle.join.specs.declared.Piece.{Piece}
 use Rattle.join.specs.declared.Cursor.{Cursor}
-use Rattle.join.specs.declared.Test.{Test}
-use Rattle.join.specs.declared.Test.TheVariants.{Known, Defined, Inside, Reaches, Moves}
 use Rattle.join.specs.Pieces.{
   Lent,
   lent_of,
@@ -28,6 +26,12 @@ use Rattle.join.specs.Pieces.{
   within_limits,
 }
 use Rattle.join.specs.Join.{
+  Test,
+  Known,
+  Defined,
+  Inside,
+  Reaches,
+  Moves,
   last_place,
   is_filled,
   piece_reloc,

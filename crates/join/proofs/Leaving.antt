@@ -18,11 +18,9 @@ use Rattle.buffer.specs.Tables.{most_entries, most_code, reloc_words}
 use Rattle.fields.specs.Words64.{plus}
 use Rattle.join.specs.declared.Piece.{Piece}
 use Rattle.join.specs.declared.Cursor.{Cursor}
-use Rattle.join.specs.declared.Test.{Test}
-use Rattle.join.specs.declared.Test.TheVariants.{Known, Moves}
 use Rattle.join.specs.Pieces.{Lent, piece_count, piece_at, base_of, cursor_at, piece_within_limits, within_limits}
 use Rattle.join.specs.Symbols.{undefined, unbound, first_place, symbol_at, defining_label, place, defined, defined_as, find_in, find}
-use Rattle.join.specs.Join.{Joined, last_place, is_filled, label_moves, moved_target, reloc_of, piece_reloc, remaining_holds, holds, all_hold, value, moved_reloc, remaining_words, remaining_in, remaining, count_remaining_in, count_remaining, image, known_in, why_not_joined, Left, joined, join}
+use Rattle.join.specs.Join.{Test, Known, Moves, Joined, last_place, is_filled, label_moves, moved_target, reloc_of, piece_reloc, remaining_holds, holds, all_hold, value, moved_reloc, remaining_words, remaining_in, remaining, count_remaining_in, count_remaining, image, known_in, why_not_joined, Left, joined, join}
 use Rattle.join.specs.Whole.{piece, before, base, reloc, SymbolPlace, place_of, number_of, Whole}
 use Rattle.join.proofs.Writing.{length_remaining_in, count_grows, length_remaining}
 use Rattle.join.proofs.Fits.{each_holds, reloc_holds}

@@ -8,10 +8,9 @@ use Rattle.words.specs.Words.{bytes_of_all, over_words}
 use Rattle.buffer.specs.Tables.{label_size, reloc_size}
 use Rattle.join.specs.declared.Piece.{Piece}
 use Rattle.join.specs.declared.Cursor.{Cursor}
-use Rattle.join.specs.declared.Test.TheVariants.{Inside}
 use Rattle.join.specs.Pieces.{Lent, piece_at, gap, cursor_at}
 use Rattle.join.specs.Symbols.{find}
-use Rattle.join.specs.Join.{labels_move, all_labels_move, moved_labels, labels_joined, remaining_in, remaining, count_remaining_in, count_remaining, filled_code, image}
+use Rattle.join.specs.Join.{Inside, labels_move, all_labels_move, moved_labels, labels_joined, remaining_in, remaining, count_remaining_in, count_remaining, filled_code, image}
 use Rattle.join.specs.steps.Within.{Placed}
 use Rattle.join.specs.steps.Writes.{Puts, Joins}
 use Rattle.join.proofs.Cursors.{piece_within}

@@ -18,8 +18,6 @@ use Rattle.finish.specs.declared.CodeBufferFinalized.{CodeBufferFinalized}
 use Rattle.join.specs.declared.Piece.{Piece}
 use Rattle.join.specs.declared.Cursor.{Cursor}
 use Rattle.join.specs.declared.AsmReloc.{AsmReloc}
-use Rattle.join.specs.declared.Test.{Test}
-use Rattle.join.specs.declared.Test.TheVariants.{Known, Defined, Inside, Reaches, Moves}
 use Rattle.join.specs.Pieces.{
   Lent,
   most_pieces,
@@ -70,6 +68,15 @@ value known p c r = minus (plus (known - first_place) r.addend) (base_of p c + r
 -- "32 bits signed"
 abbrev pub fits32 : ℕ → Bool
 fits32 v = range 2147483648 2147483647 v
+
+-- What is asked of every relocation, in the order of the refusals: its label is one of its piece; its symbol is defined by a bound label; its field lies in its
+-- piece; its value fits; it has an offset in the whole.
+pub data Test : Type 0 where
+  Known : Test
+  Defined : Test
+  Inside : Test
+  Reaches : Test
+  Moves : Test
 
 -- What is asked of a relocation that is filled, where `known` is what is known of each symbol: 29 its symbol is defined by a bound label; 17 its field lies in
 -- its piece; 18 its value fits.

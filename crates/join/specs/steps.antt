@@ -1,3 +1,4 @@
 pub mod Within
+pub mod Asking
 pub mod Tables
 pub mod Writes

@@ -48,17 +48,6 @@ pub struct AsmReloc {
     pub addend: u64,
 }
 
-// What is asked of every relocation, in the order of the refusals: its label is one of its piece; its symbol is defined by a bound label; its field lies in its
-// piece; its value fits; it has an offset in the whole.
-#[derive(Clone, Copy)]
-pub enum Test {
-    Known,
-    Defined,
-    Inside,
-    Reaches,
-    Moves,
-}
-
 // The last offset of a label or a relocation of the whole, and its greatest length.
 const LAST_PLACE: u64 = 4294967294;
 

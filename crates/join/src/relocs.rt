@@ -1,16 +1,16 @@
 // Relocations: which are filled and with what, and what is asked of each.
-ghost use Rattle.std.specs.Prelude.{◌≡◌, ◌+◌, ◌-◌, ◌*◌, ◌<◌, ◌≤◌, true, not, ◌||◌, length, nat_le, nat_lt};
+ghost use Rattle.std.specs.Prelude.{◌≡◌, ℕ, ◌+◌, ◌-◌, ◌*◌, ◌<◌, ◌≤◌, true, not, ◌||◌, length, nat_le, nat_lt};
 ghost use Rattle.seqs.specs.Counting.{one};
 ghost use Rattle.fields.specs.Words64.{minus};
 ghost use Rattle.buffer.specs.State.{label_target};
 ghost use Rattle.buffer.specs.Tables.{reloc_size};
 ghost use Rattle.join.specs.Pieces.{base_of};
 ghost use Rattle.join.specs.Symbols.{first_place, find};
-ghost use Rattle.join.specs.Join.{is_filled, reloc_of, value, fits32, field_size, last_place, filled_holds, remaining_holds, holds, relocs_hold, all_hold, count_remaining_in, count_remaining};
+ghost use Rattle.join.specs.Join.{Test, is_filled, reloc_of, value, fits32, field_size, last_place, filled_holds, remaining_holds, holds, relocs_hold, all_hold, count_remaining_in, count_remaining};
 ghost use Rattle.join.specs.steps.Within.{Placed, RelocsIn, Relocations};
-ghost use Rattle.join.specs.steps.Tables.{Resolves};
+ghost use Rattle.join.specs.steps.Asking.{Callable, Asks};
 
-use crate::{AsmReloc, Cursor, LAST_PLACE, Piece, Test, pieces, symbols};
+use crate::{AsmReloc, Cursor, LAST_PLACE, Piece, pieces, symbols};
 
 // The kinds that are filled: X86PCRel4, X86CallPCRel4 and X86CallPLTRel4.
 const FIRST_FILLED: u32 = 2;
@@ -55,170 +55,66 @@ pub fn value(known: u64, piece: Piece, cursor: Cursor, reloc: AsmReloc) -> u64
 }
 
 // Whether a 64-bit two's complement word fits 32 bits, signed.
-fn fits_32(value: u64) -> bool
+pub fn fits_32(value: u64) -> bool
     ensures { result ≡ fits32 value }
 {
     value.wrapping_add(2147483648) <= 4294967295
 }
 
-fn is_label_known(piece: Piece, reloc: AsmReloc) -> bool
+pub fn is_label_known(piece: Piece, reloc: AsmReloc) -> bool
     ensures { result ≡ (nat_lt reloc.target label_target || nat_lt (reloc.target - label_target) piece.labels) }
 {
     reloc.target < buffer::LABEL_TARGET || reloc.target - buffer::LABEL_TARGET < piece.labels
 }
 
-fn lies_inside(piece: Piece, reloc: AsmReloc) -> bool
+pub fn lies_inside(piece: Piece, reloc: AsmReloc) -> bool
     ensures { result ≡ nat_le (reloc.offset + field_size) piece.len }
 {
     reloc.offset as usize + FIELD_SIZE <= piece.len as usize
 }
 
-fn moves(piece: Piece, cursor: Cursor, reloc: AsmReloc) -> bool
+pub fn moves(piece: Piece, cursor: Cursor, reloc: AsmReloc) -> bool
     requires { Placed piece cursor }
     ensures { result ≡ nat_le (base_of piece cursor + reloc.offset) last_place }
 {
     pieces::base(piece, cursor) + reloc.offset as u64 <= LAST_PLACE
 }
 
-// What `test` asks of a relocation that is filled.
-fn filled_holds(
-    test: Test,
-    table: &[u64],
-    pieces: &[u8],
-    labels: &[u8],
-    definitions: &[u8],
-    n: usize,
-    piece: Piece,
-    cursor: Cursor,
-    reloc: AsmReloc,
-) -> bool
-    requires resolves { Resolves table.now pieces.now labels.now definitions.now n }
-    requires placed { Placed piece cursor }
-    ensures { result ≡ filled_holds test (find pieces.now labels.now definitions.now n) piece cursor reloc }
-{
-    match test {
-        Test::Known => true,
-        Test::Defined => {
-            let known = symbols::known(table, pieces, labels, definitions, n, reloc.target);
-            symbols::FIRST_PLACE <= known
-        }
-        Test::Inside => lies_inside(piece, reloc),
-        Test::Reaches => {
-            let known = symbols::known(table, pieces, labels, definitions, n, reloc.target);
-            fits_32(value(known, piece, cursor, reloc))
-        }
-        Test::Moves => true,
-    }
-}
-
-// And of one that remains.
-fn remaining_holds(test: Test, piece: Piece, cursor: Cursor, reloc: AsmReloc) -> bool
-    requires { Placed piece cursor }
-    ensures { result ≡ remaining_holds test piece cursor reloc }
-{
-    match test {
-        Test::Known => is_label_known(piece, reloc),
-        Test::Defined => true,
-        Test::Inside => true,
-        Test::Reaches => true,
-        Test::Moves => moves(piece, cursor, reloc),
-    }
-}
-
-fn holds(
-    test: Test,
-    table: &[u64],
-    pieces: &[u8],
-    labels: &[u8],
-    definitions: &[u8],
-    n: usize,
-    piece: Piece,
-    cursor: Cursor,
-    reloc: AsmReloc,
-) -> bool
-    requires resolves { Resolves table.now pieces.now labels.now definitions.now n }
-    requires placed { Placed piece cursor }
-    ensures { result ≡ holds test (find pieces.now labels.now definitions.now n) piece cursor reloc }
-{
-    if is_filled(piece.arch, reloc) {
-        filled_holds(
-            test,
-            table,
-            pieces,
-            labels,
-            definitions,
-            n,
-            piece,
-            cursor,
-            reloc,
-        )
-    } else {
-        remaining_holds(test, piece, cursor, reloc)
-    }
-}
-
 // Whether `test` holds of every relocation of a piece.
-fn relocs_hold(
-    test: Test,
-    table: &[u64],
-    pieces: &[u8],
-    labels: &[u8],
+fn relocs_hold<F: Fn(Piece, Cursor, AsmReloc) -> bool>(
+    test: &F,
     relocs: &[u8],
-    definitions: &[u8],
-    n: usize,
     piece: Piece,
     cursor: Cursor,
 ) -> bool
-    requires resolves { Resolves table.now pieces.now labels.now definitions.now n }
     requires placed { Placed piece cursor }
     requires relocs_in { RelocsIn relocs.now piece cursor }
-    ensures { result ≡ relocs_hold test (find pieces.now labels.now definitions.now n) relocs.now piece cursor piece.relocs }
+    requires callable { Callable (F.pre test.now) }
+    ensures { (asked : Test) (known : ℕ → ℕ) → Asks (F.post test.now) asked known → result ≡ relocs_hold asked known relocs.now piece cursor piece.relocs }
 {
-    (0..piece.relocs as usize).all(|j| {
-        let reloc = reloc_at(relocs, cursor.relocs + j);
-        holds(
-            test,
-            table,
-            pieces,
-            labels,
-            definitions,
-            n,
-            piece,
-            cursor,
-            reloc,
-        )
-    })
+    for j in 0..piece.relocs as usize {
+        if !test(piece, cursor, reloc_at(relocs, cursor.relocs + j)) {
+            return false;
+        }
+    }
+    true
 }
 
 // Whether it holds of every relocation of the `n` pieces.
-pub fn all_hold(
-    test: Test,
-    table: &[u64],
+pub fn all_hold<F: Fn(Piece, Cursor, AsmReloc) -> bool>(
+    test: F,
     pieces: &[u8],
-    labels: &[u8],
     relocs: &[u8],
-    definitions: &[u8],
     n: usize,
 ) -> bool
-    requires resolves { Resolves table.now pieces.now labels.now definitions.now n }
     requires relocations { Relocations pieces.now relocs.now n }
-    ensures { result ≡ all_hold test (find pieces.now labels.now definitions.now n) pieces.now relocs.now n }
+    requires callable { Callable (F.pre test) }
+    ensures { (asked : Test) (known : ℕ → ℕ) → Asks (F.post test) asked known → result ≡ all_hold asked known pieces.now relocs.now n }
 {
     let mut cursor = pieces::START;
     for k in 0..n {
         let piece = pieces::piece_at(pieces, k);
-        let passed = relocs_hold(
-            test,
-            table,
-            pieces,
-            labels,
-            relocs,
-            definitions,
-            n,
-            piece,
-            cursor,
-        );
-        if !passed {
+        if !relocs_hold(&test, relocs, piece, cursor) {
             return false;
         }
         cursor = pieces::after(piece, cursor);

@@ -6,7 +6,8 @@ ghost use Rattle.join.specs.Join.{lent_fits, why_unfit, why_undefined, why_no_ta
 ghost use Rattle.join.specs.steps.Tables.{Settled};
 
 use crate::{
-    Cursor, DEFINITION_SIZE, LAST_PLACE, PIECE_SIZE, Test, labels, pieces, relocs, symbols,
+    AsmReloc, Cursor, DEFINITION_SIZE, LAST_PLACE, PIECE_SIZE, Piece, labels, pieces, relocs,
+    symbols,
 };
 use refusals::Refusal;
 
@@ -30,10 +31,11 @@ fn lent_fits(pieces: &[u8], code: &[u8], labels: &[u8], relocs: &[u8], definitio
     if n == 0 || MOST_PIECES < n || !pieces::pieces_fit(pieces, n) {
         return false;
     }
-    // No symbol is looked up by this test.
-    let none = [0u64; 0];
+    let known = |piece: Piece, _: Cursor, reloc: AsmReloc| {
+        relocs::is_filled(piece.arch, reloc) || relocs::is_label_known(piece, reloc)
+    };
     sums_fit(pieces::sum(pieces, n), code, labels, relocs, definitions)
-        && relocs::all_hold(Test::Known, &none, pieces, labels, relocs, definitions, n)
+        && relocs::all_hold(known, pieces, relocs, n)
 }
 
 // 1, 3 and 27.
@@ -76,7 +78,12 @@ fn undefined(
     if !symbols::settle(table, pieces, labels, definitions, n) {
         return Err(Refusal::SymbolDefinedTwice);
     }
-    if !relocs::all_hold(Test::Defined, table, pieces, labels, relocs, definitions, n) {
+    let defined = |piece: Piece, _: Cursor, reloc: AsmReloc| {
+        !relocs::is_filled(piece.arch, reloc)
+            || symbols::FIRST_PLACE
+                <= symbols::known(table, pieces, labels, definitions, n, reloc.target)
+    };
+    if !relocs::all_hold(defined, pieces, relocs, n) {
         return Err(Refusal::SymbolUndefined);
     }
     Ok(())
@@ -119,10 +126,20 @@ fn no_field(
     ensures { answer_of result ≡ why_no_field (lent_of pieces.now code.now labels.now relocs.now definitions.now) }
 {
     let n = pieces.len() / PIECE_SIZE;
-    if !relocs::all_hold(Test::Inside, table, pieces, labels, relocs, definitions, n) {
+    let inside = |piece: Piece, _: Cursor, reloc: AsmReloc| {
+        !relocs::is_filled(piece.arch, reloc) || relocs::lies_inside(piece, reloc)
+    };
+    if !relocs::all_hold(inside, pieces, relocs, n) {
         return Err(Refusal::RefOverlaps);
     }
-    if !relocs::all_hold(Test::Reaches, table, pieces, labels, relocs, definitions, n) {
+    let reaches = |piece: Piece, cursor: Cursor, reloc: AsmReloc| {
+        !relocs::is_filled(piece.arch, reloc)
+            || {
+                let known = symbols::known(table, pieces, labels, definitions, n, reloc.target);
+                relocs::fits_32(relocs::value(known, piece, cursor, reloc))
+            }
+    };
+    if !relocs::all_hold(reaches, pieces, relocs, n) {
         return Err(Refusal::RefOutOfReach);
     }
     Ok(())
@@ -144,10 +161,13 @@ fn no_output(
 {
     let n = pieces.len() / PIECE_SIZE;
     let sum = pieces::sum(pieces, n);
+    let moves = |piece: Piece, cursor: Cursor, reloc: AsmReloc| {
+        relocs::is_filled(piece.arch, reloc) || relocs::moves(piece, cursor, reloc)
+    };
     if LAST_PLACE < sum.end
         || output < sum.end as usize
         || !labels::all_labels_move(pieces, labels, n)
-        || !relocs::all_hold(Test::Moves, table, pieces, labels, relocs, definitions, n)
+        || !relocs::all_hold(moves, pieces, relocs, n)
     {
         return Err(Refusal::OutputTooSmall);
     }

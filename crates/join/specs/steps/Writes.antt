@@ -5,10 +5,9 @@ use Rattle.buffer.specs.Tables.{label_size, reloc_size}
 use Rattle.join.specs.declared.Piece.{Piece}
 use Rattle.join.specs.declared.Cursor.{Cursor}
 use Rattle.join.specs.declared.AsmReloc.{AsmReloc}
-use Rattle.join.specs.declared.Test.TheVariants.{Inside}
 use Rattle.join.specs.Pieces.{Lent, most_pieces, base_of, piece_at, cursor_at, pieces_fit}
 use Rattle.join.specs.Symbols.{find}
-use Rattle.join.specs.Join.{last_place, is_filled, piece_reloc, relocs_hold, all_hold, labels_move, all_labels_move, count_remaining_in, count_remaining}
+use Rattle.join.specs.Join.{Inside, last_place, is_filled, piece_reloc, relocs_hold, all_hold, labels_move, all_labels_move, count_remaining_in, count_remaining}
 use Rattle.join.specs.steps.Within.{Placed, Labelled, RelocsIn, CodeIn, Labels, Relocations}
 
 -- a relocation that remains has an offset in the whole, and its target is below 2^32 there

@@ -7,43 +7,44 @@ use Rattle.join.proofs.Turns.{Turn, next_cursor, turn_placed, turn_relocating}
 use Rattle.join.proofs.relocs.all_hold.Goals as goal
 
 pub loop-k-init : goal.loop-k-init
-loop-k-init c = (pass_none _ _, sym (cursor_none _))
+loop-k-init g c = (λ asked known asks. pass_none _ _, sym (cursor_none _))
 
 pub piece_at-piece-requires : goal.piece_at-piece-requires
-piece_at-piece-requires c =
+piece_at-piece-requires g c =
     omega (arith, c.requires.relocations.standing.room)
 
-pub relocs_hold-passed-requires : goal.relocs_hold-passed-requires
-relocs_hold-passed-requires c =
+pub relocs_hold-requires : goal.relocs_hold-requires
+relocs_hold-requires g c =
     let turn : Turn c.args.pieces.now c.loop-k.k c.piece_at-piece.result c.loop-k.cursor =
     record { piece = c.piece_at-piece.ensures; cursor = c.loop-k.invariant.1 } in
     let within = c.loop-k-test.true in
-    record { resolves = c.requires.resolves; placed = turn_placed turn within c.requires.relocations.standing; relocs_in = turn_relocating turn within c.requires.relocations }
+    record { callable = c.requires.callable; placed = turn_placed turn within c.requires.relocations.standing; relocs_in = turn_relocating turn within c.requires.relocations }
 
-pub returns-then-not-passed : goal.returns-then-not-passed
+pub returns-then-not-relocs_hold : goal.returns-then-not-relocs_hold
 unfolding all_hold
-returns-then-not-passed c =
-    pass_fails c.loop-k.invariant.0 c.loop-k-test.true
-    (rw (c.piece_at-piece.ensures, c.loop-k.invariant.1) at c.relocs_hold-passed.ensures)
-    (rw c.if-not-passed.true)
+returns-then-not-relocs_hold g c =
+    λ asked known asks.
+    pass_fails (c.loop-k.invariant.0 asked known asks) c.loop-k-test.true
+    (rw (c.piece_at-piece.ensures, c.loop-k.invariant.1) at (c.relocs_hold.ensures asked known asks))
+    (rw c.if-not-relocs_hold.true)
 
 pub after-cursor-requires : goal.after-cursor-requires
-after-cursor-requires c =
+after-cursor-requires g c =
     let turn : Turn c.args.pieces.now c.loop-k.k c.piece_at-piece.result c.loop-k.cursor =
     record { piece = c.piece_at-piece.ensures; cursor = c.loop-k.invariant.1 } in
     let placed = turn_placed turn c.loop-k-test.true c.requires.relocations.standing in
     record { piece_fits = placed.fits; near = placed.near }
 
 pub loop-k-preserved : goal.loop-k-preserved
-loop-k-preserved c =
+loop-k-preserved g c =
     let l = c.loop-k in (
-      pass_one l.invariant.0 c.loop-k-test.true
-          (rw (c.piece_at-piece.ensures, l.invariant.1) at c.relocs_hold-passed.ensures)
-          (rw c.if-not-passed.false),
+      λ asked known asks.
+          pass_one (l.invariant.0 asked known asks) c.loop-k-test.true
+          (rw (c.piece_at-piece.ensures, l.invariant.1) at (c.relocs_hold.ensures asked known asks))
+          (rw c.if-not-relocs_hold.false),
       next_cursor _ l.k c.piece_at-piece.ensures l.invariant.1 c.after-cursor.ensures.0,
     )
 
 pub returns : goal.returns
 unfolding all_hold
-returns c =
-    pass_all c.loop-k.invariant.0 (omega arith)
+returns g c = λ asked known asks. pass_all (c.loop-k.invariant.0 asked known asks) (omega arith)

@@ -1,13 +1,21 @@
--- `relocs_hold` meets its contract: `all` asks it of each relocation.
-use Rattle.std.proofs.Common.{ℕ, rules}
-use borrow.Author.Tests.{tests}
-use Rattle.seqs.proofs.Ranges.{all_of_range}
-use Rattle.join.specs.Symbols.{find}
-use Rattle.join.specs.Join.{piece_reloc, holds, relocs_hold}
+-- `relocs_hold` meets its contract: what is asked holds of all the relocations passed.
+use Rattle.std.proofs.Common.{arith}
+use Rattle.seqs.proofs.Scans.{pass_none, pass_one, pass_fails, pass_all}
+use Rattle.join.specs.Join.{relocs_hold}
 use Rattle.join.proofs.relocs.relocs_hold.Goals as goal
+
+pub loop-j-init : goal.loop-j-init
+loop-j-init g c = λ asked known asks. pass_none _ _
+
+pub returns-then-not-test : goal.returns-then-not-test
+unfolding relocs_hold
+returns-then-not-test g c =
+    λ asked known asks. pass_fails (c.loop-j.invariant asked known asks) c.loop-j-test.true (rw c.reloc_at.ensures at (asks _ _ _ _ c.requires.placed c.test.ensures)) (rw c.if-not-test.true)
+
+pub loop-j-preserved : goal.loop-j-preserved
+loop-j-preserved g c =
+    λ asked known asks. pass_one (c.loop-j.invariant asked known asks) c.loop-j-test.true (rw c.reloc_at.ensures at (asks _ _ _ _ c.requires.placed c.test.ensures)) (rw c.if-not-test.false)
 
 pub returns : goal.returns
 unfolding relocs_hold
-returns c =
-    let a = c.args in
-    all_of_range (λ (j : ℕ). holds a.test (find a.pieces.now a.labels.now a.definitions.now a.n) a.piece a.cursor (piece_reloc a.relocs.now a.cursor j)) a.piece.relocs c.all.ensures.ran (λ x b q k. search (rules, tests))
+returns g c = λ asked known asks. pass_all (c.loop-j.invariant asked known asks) (omega arith)

@@ -2,9 +2,8 @@
 use Rattle.std.proofs.Common.{◌≡◌, ℕ, ◌+◌, ◌≤◌, length, sym, refl, ap, ◌∙◌, add-one, arith, leb-true}
 use Rattle.seqs.proofs.Every.{all_at}
 use Rattle.seqs.proofs.Picking.{pick_yes}
-use Rattle.join.specs.declared.Test.TheVariants.{Inside}
 use Rattle.join.specs.Symbols.{find}
-use Rattle.join.specs.Join.{piece_reloc, field_size, holds, relocs_hold, filled_with}
+use Rattle.join.specs.Join.{Inside, piece_reloc, field_size, holds, relocs_hold, filled_with}
 use Rattle.join.proofs.Writing.{length_filled}
 use Rattle.join.proofs.write.fill_fields.Goals as goal
 
