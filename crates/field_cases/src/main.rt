@@ -2,28 +2,28 @@
 // beforehand, in hexadecimal, and what it becomes (document 02, Request Four): its field is replaced, its sh is not.
 #![tactic(auto)]
 
-use fields::{Decoded, LabelUse};
+use fields::{LabelUse, NoField};
 
 // Runs one use on a field that holds `word`.
 fn run(name: &[u8], code: u32, word: u32, offset: u32, label: u32) {
     io::write_all(1, name);
     io::write_all(1, b" ");
-    match LabelUse::from_code(code) {
-        Decoded::Use(kind) => {
-            let refusal = kind.reach_refusal(offset, label);
-            if refusal == 0 {
+    match LabelUse::try_from(code) {
+        Ok(kind) => match kind.reach_refusal(offset, label) {
+            Ok(()) => {
                 let mut field = [0u8; 4];
                 words::put_word(&mut field, 0, word);
                 kind.patch(&mut field, offset, label);
                 io::print_hex(1, words::word_at(&field, 0) as u64, 8);
-            } else {
-                io::print_decimal(1, refusal as u64);
             }
-        }
-        Decoded::Unsupported => {
+            Err(refusal) => {
+                io::print_decimal(1, refusal.number() as u64);
+            }
+        },
+        Err(NoField::Unsupported) => {
             io::write_all(1, b"no field here");
         }
-        Decoded::Unknown => {
+        Err(NoField::Unknown) => {
             io::write_all(1, b"no such code");
         }
     }
