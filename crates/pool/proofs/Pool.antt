@@ -1,7 +1,7 @@
 -- Laws of the pool: one turn of each of its loops, where it ends, and what binding its labels and taking that back leave.
 use mathlib.Core.Path.{◌≡◌, refl, sym, ap, ◌∙◌}
 use mathlib.Core.Logic.{◌≢◌, ⊎_elim}
-use mathlib.Core.Bool.{Bool, true, false, not, ◌||◌}
+use mathlib.Core.Bool.{Bool, true, false, not, ◌&&◌, ◌||◌}
 use mathlib.Core.List.{List, [], ◌∷◌, ◌++◌}
 use Prim.Native.Nat.{ℕ, zero, suc, ◌+◌, ◌*◌, ◌-◌, ◌≤◌, ◌<◌}
 use native.Mathlib.Nat.{not-suc-le-zero}
@@ -9,9 +9,10 @@ use native.Mathlib.Numerals.{add-one}
 use native.Mathlib.Omega.{arith}
 use lib.Dec.{eqb}
 use lib.ListN.{length, get_or, take, drop, replicate, length-append, length-take, length-drop, length-replicate}
+use Rattle.seqs.specs.Every.{all}
 use Rattle.seqs.specs.Over.{over}
 use Rattle.seqs.proofs.Numbers.{eq_or_ne, lt_or_ge}
-use Rattle.seqs.proofs.Overwrites.{length_over, over_append, over_mid, over_all}
+use Rattle.seqs.proofs.Overwrites.{length_over, over_append, over_mid}
 use Rattle.words.specs.Words.{word_at, set_word, bytes_of}
 use Rattle.words.proofs.Laws.{length_set_word, word_at_same, word_at_other}
 use Rattle.encoder.specs.Padding.{padding_length}
@@ -60,24 +61,19 @@ pub unbound_turn : {labels constants asked : List ℕ} {j label : ℕ} {now : Li
 unfolding pool_unbound
 unbound_turn {j = j} t = rw (add-one j, t.unbound, t.labelled)
 
-or-true : (t : Bool) → (t || true) ≡ true
-or-true true = refl
-or-true false = refl
-
-pub one_bound : (labels constants asked : List ℕ) (j n : ℕ) → j < n → not (eqb (word_at labels (label_at constants asked j)) none) ≡ true
-    → is_any_bound labels constants asked n ≡ true
-unfolding is_any_bound
-one_bound labels constants asked j zero h e = absurd (not-suc-le-zero h)
-one_bound labels constants asked j (suc n) h e =
-    ⊎_elim
-    (λ (same : j ≡ n). rw (← same, e) (or-true (is_any_bound labels constants asked j)))
-    (λ other. rw (one_bound labels constants asked j n (omega arith) e))
-    (eq_or_ne j n)
-
-pub none_bound : (labels constants asked : List ℕ) (j : ℕ) → is_any_bound labels constants asked j ≡ false
-    → not (eqb (word_at labels (label_at constants asked j)) none) ≡ false → is_any_bound labels constants asked (j + 1) ≡ false
-unfolding is_any_bound
-none_bound labels constants asked j h e = rw (add-one j, h, e)
+-- the labels are tested by their numbers
+pub any_bound : (labels constants asked : List ℕ) (n : ℕ)
+    → not (all (λ (j : ℕ). not (not (eqb (word_at labels (label_at constants asked j)) none))) n) ≡ is_any_bound labels constants asked n
+unfolding is_any_bound all
+any_bound labels constants asked zero = refl
+any_bound labels constants asked (suc n) =
+    let test = λ (j : ℕ). not (eqb (word_at labels (label_at constants asked j)) none) in
+    rw (← any_bound labels constants asked n) (either (all (λ (j : ℕ). not (test j)) n) (test n))
+  where
+    either : (t u : Bool) → not (t && not u) ≡ (not t || u)
+    either true true = refl
+    either true false = refl
+    either false u = refl
 
 -- where the pool ends: its length, and bounds
 pub length_pool_bytes : (arch from : ℕ) (constants asked : List ℕ) (n : ℕ)
@@ -198,7 +194,7 @@ module _ {labels constants asked : List ℕ} {j size label offset number : ℕ} 
 
   pub written_turn : (output : List ℕ) {now part : List ℕ} → now ≡ pool_written output labels constants asked j
       → number * constant_size + constant_head + size ≤ length constants → offset + size ≤ length now
-      → let a = number * constant_size + constant_head in let k = a + size - a in let m = offset + size - offset in part ≡ over (take m (drop offset now)) 0 (take k (drop a constants))
+      → let a = number * constant_size + constant_head in let k = a + size - a in let m = offset + size - offset in part ≡ take k (drop a constants)
       → take offset now ++ (part ++ drop m (drop offset now)) ≡ pool_written output labels constants asked (j + 1)
   unfolding pool_written
   written_turn output {now} {part} e ha hb f =
@@ -206,8 +202,7 @@ module _ {labels constants asked : List ℕ} {j size label offset number : ℕ} 
       let k : a + size - a ≡ size = omega arith in
       let m : offset + size - offset ≡ size = omega arith in
       let bytes = take size (drop a constants) in
-      let whole : part ≡ bytes =
-      (rw (k, m) at f) ∙ over_all (take size (drop offset now)) bytes (part_length constants a size ha ∙ sym (part_length now offset size hb)) in
+      let whole : part ≡ bytes = rw k at f in
       rw (m, whole) (over_mid now offset size bytes (part_length constants a size ha) hb ∙ rw (t.placed, t.numbered, t.sized, t.labelled, e, add-one j))
 
 -- the length stays

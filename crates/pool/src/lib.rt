@@ -2,7 +2,7 @@
 // of `constants` is a size, a label and 64 bytes.
 #![tactic(auto)]
 
-ghost use Rattle.std.specs.Prelude.{◌≡◌, ◌+◌, ◌*◌, ◌≤◌, max, length};
+ghost use Rattle.std.specs.Prelude.{◌≡◌, ◌+◌, ◌*◌, ◌≤◌, length};
 ghost use Rattle.seqs.specs.Over.{over};
 ghost use Rattle.words.specs.Words.{word_at};
 ghost use Rattle.buffer.specs.Tables.{constant_size, asked_size};
@@ -13,13 +13,11 @@ ghost use Rattle.pool.specs.steps.Pool.{size_at, label_at, pool_start, pool_byte
 pub fn constant_alignment(size: u32) -> u32
     ensures { result ≡ constant_alignment size }
 {
-    if size <= 8 {
-        return 8;
+    match size {
+        0..=8 => 8,
+        9..=32 => 16,
+        _ => 64,
     }
-    if size <= 32 {
-        return 16;
-    }
-    64
 }
 
 pub fn size_at(constants: &[u8], asked: &[u8], j: usize) -> u32
@@ -45,19 +43,11 @@ pub fn pool_end(from: u32, constants: &[u8], asked: &[u8], n: usize) -> u32
     ensures { (result ≡ pool_start from constants.now asked.now n) × (result ≤ from + n * most_pooled) }
 {
     let mut at = from;
-    let mut j: usize = 0;
-    while j < n {
+    for j in 0..n {
         let size = size_at(constants, asked, j);
         at = at + encoder::padding_len(at, constant_alignment(size)) + size;
-        j += 1;
     }
     at
-}
-
-fn greater(a: u32, b: u32) -> u32
-    ensures { result ≡ max a b }
-{
-    if a < b { b } else { a }
 }
 
 // What the code is to be loaded on a multiple of: the greater of 32 and the largest alignment among the constants.
@@ -66,11 +56,9 @@ pub fn code_alignment(constants: &[u8], asked: &[u8], n: usize) -> u32
     ensures { result ≡ pool_alignment constants.now asked.now n }
 {
     let mut alignment: u32 = 32;
-    let mut j: usize = 0;
-    while j < n {
+    for j in 0..n {
         let size = size_at(constants, asked, j);
-        alignment = greater(alignment, constant_alignment(size));
-        j += 1;
+        alignment = alignment.max(constant_alignment(size));
     }
     alignment
 }
@@ -81,15 +69,7 @@ pub fn is_any_bound(labels: &[u8], constants: &[u8], asked: &[u8], n: usize) -> 
     requires pool_labels { PoolLabels labels.now constants.now asked.now n }
     ensures { result ≡ is_any_bound labels.now constants.now asked.now n }
 {
-    let mut j: usize = 0;
-    while j < n {
-        let label = label_at(constants, asked, j) as usize;
-        if words::word_at(labels, label) != buffer::NONE {
-            return true;
-        }
-        j += 1;
-    }
-    false
+    (0..n).any(|j| words::word_at(labels, label_at(constants, asked, j) as usize) != buffer::NONE)
 }
 
 // Binds the constants' labels where the constants will stand.
@@ -100,14 +80,12 @@ pub fn bind(from: u32, labels: &mut [u8], constants: &[u8], asked: &[u8], n: usi
     ensures { labels.new ≡ pool_bound from labels.old constants.now asked.now n }
 {
     let mut at = from;
-    let mut j: usize = 0;
-    while j < n {
+    for j in 0..n {
         let size = size_at(constants, asked, j);
         let label = label_at(constants, asked, j) as usize;
         let offset = at + encoder::padding_len(at, constant_alignment(size));
         words::put_word(labels, label, offset);
         at = offset + size;
-        j += 1;
     }
 }
 
@@ -117,11 +95,9 @@ pub fn unbind(labels: &mut [u8], constants: &[u8], asked: &[u8], n: usize)
     requires pool_labels { PoolLabels labels.old constants.now asked.now n }
     ensures { labels.new ≡ pool_unbound labels.old constants.now asked.now n }
 {
-    let mut j: usize = 0;
-    while j < n {
+    for j in 0..n {
         let label = label_at(constants, asked, j) as usize;
         words::put_word(labels, label, buffer::NONE);
-        j += 1;
     }
 }
 
@@ -133,15 +109,13 @@ pub fn emit(output: &mut [u8], arch: u32, from: u32, constants: &[u8], asked: &[
     ensures { output.new ≡ over output.old from (pool_bytes arch from constants.now asked.now n) }
 {
     let mut at = from;
-    let mut j: usize = 0;
-    while j < n {
+    for j in 0..n {
         let size = size_at(constants, asked, j);
         let offset = at + encoder::padding_len(at, constant_alignment(size));
         let end = offset + size;
         buffer::bytes::pad(arch, &mut output[at as usize..offset as usize]);
-        buffer::bytes::clear(&mut output[offset as usize..end as usize]);
+        output[offset as usize..end as usize].fill(0);
         at = end;
-        j += 1;
     }
 }
 
@@ -152,17 +126,12 @@ pub fn write(output: &mut [u8], labels: &[u8], constants: &[u8], asked: &[u8], n
     requires pool_room { PoolRoom output.old labels.now constants.now asked.now n }
     ensures { output.new ≡ pool_written output.old labels.now constants.now asked.now n }
 {
-    let mut j: usize = 0;
-    while j < n {
+    for j in 0..n {
         let size = size_at(constants, asked, j) as usize;
         let label = label_at(constants, asked, j) as usize;
         let offset = words::word_at(labels, label) as usize;
         let from = words::word_at(asked, j) as usize * buffer::CONSTANT_SIZE
             + buffer::CONSTANT_HEAD;
-        seqs::copy(
-            &constants[from..from + size],
-            &mut output[offset..offset + size],
-        );
-        j += 1;
+        output[offset..offset + size].copy_from_slice(&constants[from..from + size]);
     }
 }

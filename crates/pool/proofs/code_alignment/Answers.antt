@@ -19,7 +19,7 @@ unfolding pool_alignment
 loop-j-preserved c =
     let l = c.loop-j in
     let own = c.constant_alignment.ensures ∙ ap constant_alignment c.size_at-size.ensures in
-    (omega arith, rw (add-one l.j) (omega (arith, c.greater-alignment.ensures, own, l.invariant.1)))
+    (omega arith, rw (add-one l.j) (omega (arith, c.max-alignment.ensures, own, l.invariant.1)))
 
 pub returns : goal.returns
 returns c =

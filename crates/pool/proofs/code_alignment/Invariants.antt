@@ -1,11 +1,8 @@
 -- `code_alignment` meets its contract: after j turns, `alignment` is the greater of 32 and the largest of the first j.
 use mathlib.Core.Path.{◌≡◌}
-use Prim.Native.Nat.{◌-◌, ◌≤◌}
+use Prim.Native.Nat.{◌≤◌}
 use Rattle.pool.specs.steps.Pool.{pool_alignment}
 use Rattle.pool.proofs.code_alignment.Given as goal
 
 abbrev pub invariant-loop-j : goal.invariant-loop-j
 invariant-loop-j l = (l.j ≤ l.n) × (l.alignment ≡ pool_alignment l.constants l.asked l.j)
-
-abbrev pub decreases-loop-j : goal.decreases-loop-j
-decreases-loop-j l = l.n - l.j

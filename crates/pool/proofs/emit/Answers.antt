@@ -30,8 +30,8 @@ slice_bounds-pad-end c =
     let a = c.args in let turned : let l = c.loop-j in Turn a.from a.constants.now a.asked.now l.j l.at c.size_at-size.result c.constant_alignment.result c.padding_len.result = search in
     omega (arith, within_turn turned c.loop-j-test.true, c.requires.output_within)
 
-pub slice_bounds-clear-end : goal.slice_bounds-clear-end
-slice_bounds-clear-end c =
+pub slice_bounds-fill-end : goal.slice_bounds-fill-end
+slice_bounds-fill-end c =
     let a = c.args in let turned : let l = c.loop-j in Turn a.from a.constants.now a.asked.now l.j l.at c.size_at-size.result c.constant_alignment.result c.padding_len.result = search in
     omega (arith, within_turn turned c.loop-j-test.true, c.requires.output_within)
 
@@ -41,7 +41,7 @@ loop-j-preserved c =
     let a = c.args in
     let turn = turned in
     let inside = within_turn turn c.loop-j-test.true in
-    let written = emit_turn a.output.now a.arch turn c.loop-j.invariant.4 (omega (arith, inside, c.requires.output_within)) c.pad.ensures c.clear.ensures in
+    let written = emit_turn a.output.now a.arch turn c.loop-j.invariant.4 (omega (arith, inside, c.requires.output_within)) c.pad.ensures (c.fill.ensures.after (λ y e. e)) in
     (omega arith, start_turn turn, omega (arith, pad_small turn, c.requires.pool_fits.sized _ c.loop-j-test.true, turn.sized), rw written (length_over _ _ _), written)
 
 pub returns : goal.returns

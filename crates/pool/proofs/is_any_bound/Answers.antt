@@ -1,31 +1,16 @@
--- `is_any_bound` meets its contract: none of the labels passed is bound.
-use mathlib.Core.Path.{◌≡◌, refl, sym}
-use native.Mathlib.Omega.{arith}
-use borrow.Author.Tests.{eq-eqb, ne_eqb}
-use Rattle.pool.specs.steps.Pool.{is_any_bound}
-use Rattle.pool.proofs.Pool.{one_bound, none_bound}
+-- `is_any_bound` meets its contract: `any` asks of each constant whether its label is bound.
+use Rattle.std.proofs.Common.{ℕ, not, eqb, rules, ◌∙◌}
+use borrow.Author.Tests.{tests}
+use Rattle.seqs.proofs.Ranges.{any_of_range}
+use Rattle.words.specs.Words.{word_at}
+use Rattle.buffer.specs.State.{none}
+use Rattle.pool.specs.steps.Pool.{label_at}
+use Rattle.pool.proofs.Pool.{any_bound}
 use Rattle.pool.proofs.is_any_bound.Goals as goal
-
-pub loop-j-init : goal.loop-j-init
-unfolding is_any_bound
-loop-j-init c = (omega arith, refl)
-
-pub label_at-label-requires : goal.label_at-label-requires
-label_at-label-requires c =
-    omega (arith, c.requires.pool_fits.listed _ c.loop-j-test.true)
-
-pub word_at-requires : goal.word_at-requires
-word_at-requires c =
-    omega (arith, c.requires.pool_labels.known _ c.loop-j-test.true, c.label_at-label.ensures)
-
-pub returns-then-word_at : goal.returns-then-word_at
-returns-then-word_at c =
-    sym (one_bound _ _ _ c.loop-j.j _ (omega arith) (rw (← c.label_at-label.ensures, ← c.word_at.ensures, ne_eqb _ _ c.if-word_at.true)))
-
-pub loop-j-preserved : goal.loop-j-preserved
-loop-j-preserved c =
-    (omega arith, none_bound _ _ _ _ c.loop-j.invariant.1 (rw (← c.label_at-label.ensures, ← c.word_at.ensures, eq-eqb _ _ c.if-word_at.false)))
 
 pub returns : goal.returns
 returns c =
-    let all : c.loop-j.j ≡ c.args.n = omega arith in sym (rw all at c.loop-j.invariant.1)
+    let a = c.args in
+    let bound = λ (j : ℕ). not (eqb (word_at a.labels.now (label_at a.constants.now a.asked.now j)) none) in
+    any_of_range bound a.n c.any.ensures.ran (λ x b q k. search (rules, tests))
+    ∙ any_bound a.labels.now a.constants.now a.asked.now a.n

@@ -25,13 +25,13 @@ pub word_at-requires : goal.word_at-requires
 word_at-requires c =
     omega (arith, c.requires.pool_fits.listed _ c.loop-j-test.true)
 
-pub slice_bounds-copy-end : goal.slice_bounds-copy-end
-slice_bounds-copy-end c =
+pub slice_bounds-copy_from_slice-end-in-loop-j : goal.slice_bounds-copy_from_slice-end-in-loop-j
+slice_bounds-copy_from_slice-end-in-loop-j c =
     let a = c.args in let turned : Writing a.labels.now a.constants.now a.asked.now c.loop-j.j c.size_at-size.result c.label_at-label.result c.word_at-offset.result c.word_at.result = search in
     omega (arith, from_turn turned c.requires.pool_fits c.loop-j-test.true)
 
-pub slice_bounds-copy-end-in-loop-j : goal.slice_bounds-copy-end-in-loop-j
-slice_bounds-copy-end-in-loop-j c =
+pub slice_bounds-copy_from_slice-end : goal.slice_bounds-copy_from_slice-end
+slice_bounds-copy_from_slice-end c =
     let a = c.args in let turned : Writing a.labels.now a.constants.now a.asked.now c.loop-j.j c.size_at-size.result c.label_at-label.result c.word_at-offset.result c.word_at.result = search in
     omega (arith, room_turn turned c.requires.pool_room c.loop-j-test.true)
 
@@ -41,7 +41,7 @@ loop-j-preserved c =
     let more = c.loop-j-test.true in
     let turn = turned in
     let room = room_turn turn c.requires.pool_room more in
-    let written = written_turn turn c.args.output.now c.loop-j.invariant.2 (from_turn turn c.requires.pool_fits more) (omega arith) c.copy.ensures in
+    let written = written_turn turn c.args.output.now c.loop-j.invariant.2 (from_turn turn c.requires.pool_fits more) (omega arith) c.copy_from_slice.ensures.after in
     (omega arith, rw written (length_pool_written _ _ _ _ _), written)
 
 pub returns : goal.returns
