@@ -5,7 +5,7 @@
 ghost use Rattle.std.specs.Prelude.{◌≡◌, ℕ, ◌+◌, ◌-◌, ◌*◌, ◌≤◌, List, [], ◌∷◌, length, take, drop};
 ghost use Rattle.seqs.specs.Over.{over};
 ghost use Rattle.words.specs.Words.{word_at};
-ghost use Rattle.fields.specs.Kinds.{Use, decoded, patch_size};
+ghost use Rattle.fields.specs.Kinds.{decoded, patch_size};
 ghost use Rattle.fields.specs.Words64.{plus, minus, sign_extend};
 ghost use Rattle.fields.specs.Patch.{patched, patched_use};
 ghost use Rattle.relax.specs.Events.{event_at, event_size, start_of, extent_of, end_of};
@@ -15,7 +15,6 @@ ghost use Rattle.fresh.specs.Forms.{short_form, long_form, form, width, role_of}
 ghost use Rattle.fresh.specs.Fill.{part, fill_jump};
 ghost use Rattle.fresh.specs.Segments.{map_offset};
 ghost use Rattle.fresh.specs.steps.Runs.{form_at, runs};
-ghost use Rattle.pool.specs.steps.Pool.{offset_bound};
 ghost use Rattle.lookup.specs.steps.Index.{Indexed};
 ghost use Rattle.layout.specs.steps.Layout.{start_at, Rising};
 ghost use Rattle.emit.specs.steps.Emit.{jump_form, branch_form, Encodes, Writes, Keeps, Emits, use_filled, uses_filled, UseFits, UsesFit, ref_filled, refs_filled, RefFits, RefsFit, field_reaches, refs_reach, RefsKnown, jumps_filled, displaced, JumpFits, JumpsFit, mapped_words, WordsFit};
@@ -38,7 +37,7 @@ fn put_short(part: &mut [u8], cc: Condition)
     requires part_length { length part.old ≡ length (short_form cc) }
     ensures { part.new ≡ short_form cc }
 {
-    buffer::bytes::clear(part);
+    part.fill(0);
     part[0] = short_opcode(cc);
 }
 
@@ -47,7 +46,7 @@ fn put_long(part: &mut [u8], cc: Condition)
     requires part_length { length part.old ≡ length (long_form cc) }
     ensures { part.new ≡ long_form cc }
 {
-    buffer::bytes::clear(part);
+    part.fill(0);
     match cc {
         Condition::Always => {
             part[0] = 0xe9;
@@ -110,7 +109,7 @@ pub fn copy_run(output: &mut [u8], code: &[u8], old: usize, start: usize, new: u
     ensures { output.new ≡ over output.old new (take (start - old) (drop old code.now)) }
 {
     let end = new + (start - old);
-    seqs::copy(&code[old..start], &mut output[new..end]);
+    output[new..end].copy_from_slice(&code[old..start]);
 }
 
 // The word that a branch was recorded with; 0 of any other event.
@@ -211,6 +210,7 @@ fn patch_field(output: &mut [u8], kind: LabelUse, at: u32, label: u32, addend: u
     kind.patch_with_addend(&mut output[start..end], at, label, addend);
 }
 
+// The addend stands in the field. A closure in the place of the last line would be no shorter than a second function.
 fn patch_held(output: &mut [u8], kind: LabelUse, at: u32, label: u32)
     requires { at + patch_size kind ≤ length output.old }
     ensures { output.new ≡ over output.old at (patched_use kind at label (part output.old at (patch_size kind))) }

@@ -9,7 +9,7 @@ ghost use Rattle.lookup.specs.steps.Index.{index_size, most_keys, Indexed};
 ghost use Rattle.relax.specs.declared.LayoutEvent.{LayoutEvent};
 ghost use Rattle.relax.specs.Events.{event_at, event_size};
 ghost use Rattle.buffer.specs.State.{none};
-ghost use Rattle.buffer.specs.Tables.{most_entries, most_code};
+ghost use Rattle.buffer.specs.Tables.{most_entries};
 ghost use Rattle.recording.specs.View.{entries};
 ghost use Rattle.fresh.specs.Forms.{width, role_of};
 ghost use Rattle.fresh.specs.Rounds.{any, join};
@@ -18,7 +18,7 @@ ghost use Rattle.fresh.specs.Segments as fresh;
 ghost use Rattle.fresh.specs.steps.Runs.{behind_of, ahead_of};
 ghost use Rattle.pool.specs.steps.Pool.{pool_start, pool_event, PoolFits, offset_bound};
 ghost use Rattle.layout.specs.steps.Targets.{in_reach, end_in, old_end_before, Stands, Shown, Finds, Aims, label_of, Aiming, held, SamePast, Placed, with_target, LaidBy, end_before, Adds, is_missed, missed};
-ghost use Rattle.layout.specs.steps.Layout.{zero_segment, start_at, Rising, Sorted, Between, Follows, Recorded, all_events, end_from, finished_length, Laid, Known, Labelled, Relaxed};
+ghost use Rattle.layout.specs.steps.Layout.{zero_segment, start_at, Rising, Sorted, Between, Follows, Recorded, all_events, end_from, finished_length, Known, Labelled, Relaxed};
 
 use relax::{LayoutEvent, Segment};
 
@@ -64,10 +64,9 @@ fn index_segments(index: &mut [u32], shift: u32, segments: &[Segment], n: usize)
     requires within { (shift < 32) × (n ≤ most_keys) }
     ensures { Indexed index.new (start_at segments.now) n shift }
 {
-    if index.len() < lookup::SIZE {
-        return;
+    if lookup::SIZE <= index.len() {
+        fill_index(index, shift, segments, n);
     }
-    fill_index(index, shift, segments, n);
 }
 
 // How many of the first `n` segments start at or before an offset. The index, if there is one, is that of their starts.
@@ -483,7 +482,7 @@ fn end_before(segments: &[Segment], k: usize) -> u32
     }
 }
 
-// Whether event `i` is a jump or branch that, were it short, would not reach its label.
+// Whether event `i` is a jump or branch that, were it short, would not reach its label. Its row holds `NONE` where it names none.
 fn is_missed(segments: &[Segment], events: &[u8], i: usize) -> bool
     requires within { (i < length segments.now) × (i * event_size + event_size ≤ length events.now) }
     requires adds { Adds segments.now (get_or segments.now i zero_segment) }
