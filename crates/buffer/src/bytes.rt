@@ -59,7 +59,7 @@ impl CodeBuffer {
         }
         let at = self.code as usize;
         let end = at + bytes.len();
-        seqs::copy(bytes, &mut code[at..end]);
+        code[at..end].copy_from_slice(bytes);
         self.code = end as u32;
         Recorded {
             buffer: self,

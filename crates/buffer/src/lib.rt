@@ -91,6 +91,22 @@ pub struct CodeBuffer {
     pub unresolved: u32,
 }
 
+const EMPTY: CodeBuffer = CodeBuffer {
+    arch: 0,
+    symbols: 0,
+    finished: 0,
+    refusal: 0,
+    code: 0,
+    labels: 0,
+    events: 0,
+    uses: 0,
+    refs: 0,
+    constants: 0,
+    asked: 0,
+    relocs: 0,
+    unresolved: 0,
+};
+
 // The recording after a call, and whether the call was turned down.
 #[derive(Clone, Copy)]
 pub struct Recorded {
@@ -152,21 +168,7 @@ impl CodeBuffer {
     {
         if !arch_occurs(arch) {
             return Recorded {
-                buffer: CodeBuffer {
-                    arch: 0,
-                    symbols: 0,
-                    finished: 0,
-                    refusal: 0,
-                    code: 0,
-                    labels: 0,
-                    events: 0,
-                    uses: 0,
-                    refs: 0,
-                    constants: 0,
-                    asked: 0,
-                    relocs: 0,
-                    unresolved: 0,
-                },
+                buffer: EMPTY,
                 answer: Err(Refusal::UnknownArch),
             };
         }
@@ -174,17 +176,7 @@ impl CodeBuffer {
             buffer: CodeBuffer {
                 arch,
                 symbols,
-                finished: 0,
-                refusal: 0,
-                code: 0,
-                labels: 0,
-                events: 0,
-                uses: 0,
-                refs: 0,
-                constants: 0,
-                asked: 0,
-                relocs: 0,
-                unresolved: 0,
+                ..EMPTY
             },
             answer: Ok(()),
         }

@@ -79,10 +79,7 @@ impl CodeBuffer {
             return self.unresolved;
         }
         let settled = self.named(events, uses, refs, relocs, label);
-        if self.unresolved < settled {
-            return 0;
-        }
-        self.unresolved - settled
+        self.unresolved.saturating_sub(settled)
     }
 
     // How many entries are open, counted over the tables.

@@ -23,10 +23,7 @@ const ARCHS: [u8; 28] = [
 fn arch_of_kind(kind: u32) -> u8
     ensures { result ≡ get_or reloc_archs kind 3 }
 {
-    if kind < 28 {
-        return ARCHS[kind as usize];
-    }
-    3
+    ARCHS.get(kind as usize).copied().unwrap_or(3)
 }
 
 pub fn is_foreign_kind(kind: u32, arch: u32) -> bool

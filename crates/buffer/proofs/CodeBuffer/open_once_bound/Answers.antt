@@ -12,11 +12,6 @@ pub returns-then-self-eq-NONE : goal.returns-then-self-eq-NONE
 unfolding settled
 returns-then-self-eq-NONE c = rw (yes_eq {A = ℕ} _ _ 0 _ c.if-self-eq-NONE.true) (omega arith)
 
-pub returns-then-self-settled : goal.returns-then-self-settled
-unfolding settled
-returns-then-self-settled c =
-    rw (no_eq {A = ℕ} _ _ 0 _ c.if-self-eq-NONE.false, ← c.named-settled.ensures) (omega arith)
-
 pub returns : goal.returns
 unfolding settled
 returns c =
