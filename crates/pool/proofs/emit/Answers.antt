@@ -1,5 +1,5 @@
 -- `emit` meets its contract: after j turns what the first j constants take is written, and `at` is where constant j's alignment starts.
-use mathlib.Core.Path.{◌≡◌, refl, sym}
+use mathlib.Core.Path.{refl, sym}
 use native.Mathlib.Omega.{arith}
 use Rattle.seqs.proofs.Overwrites.{over_nil, length_over}
 use Rattle.pool.specs.steps.Pool.{pool_start, pool_bytes}
@@ -9,10 +9,6 @@ use Rattle.pool.proofs.emit.Goals as goal
 pub loop-j-init : goal.loop-j-init
 unfolding pool_start pool_bytes
 loop-j-init c = (omega arith, refl, omega arith, refl, sym (over_nil _ _))
-
-pub size_at-size-requires : goal.size_at-size-requires
-size_at-size-requires c =
-    omega (arith, c.requires.pool_fits.listed _ c.loop-j-test.true)
 
 pub overflow_add-offset : goal.overflow_add-offset
 overflow_add-offset c =
@@ -43,7 +39,3 @@ loop-j-preserved c =
     let inside = within_turn turn c.loop-j-test.true in
     let written = emit_turn a.output.now a.arch turn c.loop-j.invariant.4 (omega (arith, inside, c.requires.output_within)) c.pad.ensures (c.fill.ensures.after (λ y e. e)) in
     (omega arith, start_turn turn, omega (arith, pad_small turn, c.requires.pool_fits.sized _ c.loop-j-test.true, turn.sized), rw written (length_over _ _ _), written)
-
-pub returns : goal.returns
-returns c =
-    let all : c.loop-j.j ≡ c.args.n = omega arith in rw all at c.loop-j.invariant.4

@@ -1,5 +1,5 @@
 -- `pool_end` meets its contract: after j turns, `at` is where constant j's alignment starts.
-use mathlib.Core.Path.{◌≡◌, refl}
+use mathlib.Core.Path.{refl}
 use native.Mathlib.Omega.{arith}
 use Rattle.pool.specs.steps.Pool.{pool_start}
 use Rattle.pool.proofs.Pool.{Turn, pad_small, start_turn}
@@ -16,10 +16,6 @@ pub loop-j-init : goal.loop-j-init
 unfolding pool_start
 loop-j-init c = (omega arith, refl, omega arith)
 
-pub size_at-size-requires : goal.size_at-size-requires
-size_at-size-requires c =
-    omega (arith, c.requires.pool_fits.listed _ c.loop-j-test.true)
-
 pub overflow_add-at : goal.overflow_add-at
 overflow_add-at c =
     omega (arith, pad_small (turned c), c.requires.pool_fits.few)
@@ -33,7 +29,3 @@ pub loop-j-preserved : goal.loop-j-preserved
 loop-j-preserved c =
     let turn = turned c in
     (omega arith, start_turn turn, omega (arith, pad_small turn, c.requires.pool_fits.sized _ c.loop-j-test.true, turn.sized))
-
-pub returns : goal.returns
-returns c =
-    let all : c.loop-j.j ≡ c.args.n = omega arith in (rw all at c.loop-j.invariant.1, omega arith)
