@@ -1,11 +1,13 @@
 // What a call that is lent a whole recording, finish or a sheet, looks at first: counts and limits.
 ghost use Rattle.std.specs.Prelude.{◌≡◌, ◌&&◌, ◌/◌, leb};
+ghost use Rattle.refusals.specs.Answers.{answer_of};
 ghost use Rattle.buffer.specs.Refusals.{standing};
 ghost use Rattle.buffer.specs.Tables.{most_entries, most_code, label_size, use_size, ref_size, constant_size, asked_size, reloc_size};
 ghost use Rattle.checks.specs.Lent.{recording_of, counts_fit, within_limits};
 ghost use Rattle.relax.specs.Events.{event_size};
 
 use buffer::CodeBuffer;
+use refusals::Refusal;
 
 // Whether no count passes what is lent; the arguments are the lengths of what is lent, in bytes.
 fn counts_fit(
@@ -59,6 +61,7 @@ fn within_limits(
 }
 
 // What every call that is lent a whole recording looks at first: 0, 1, the recorded refusal, 3 or 4.
+#[tactic(auto, unfolding(crate::specs::Lent::counts_fit, crate::specs::Lent::within_limits))]
 pub fn why_not_standing(
     b: CodeBuffer,
     code: &[u8],
@@ -71,8 +74,8 @@ pub fn why_not_standing(
     relocs: &[u8],
     segments: usize,
     output: usize,
-) -> u32
-    ensures { result ≡ standing b (counts_fit (recording_of b code.now labels.now events.now uses.now refs.now constants.now asked.now relocs.now)) (within_limits (recording_of b code.now labels.now events.now uses.now refs.now constants.now asked.now relocs.now) segments output) }
+) -> Result<(), Refusal>
+    ensures { answer_of result ≡ standing b (counts_fit (recording_of b code.now labels.now events.now uses.now refs.now constants.now asked.now relocs.now)) (within_limits (recording_of b code.now labels.now events.now uses.now refs.now constants.now asked.now relocs.now) segments output) }
 {
     let fit = counts_fit(
         b,
@@ -97,5 +100,5 @@ pub fn why_not_standing(
         segments,
         output,
     );
-    refusals::answer_of(b.standing(fit, within))
+    b.standing(fit, within)
 }
