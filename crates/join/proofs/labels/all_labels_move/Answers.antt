@@ -9,10 +9,6 @@ use Rattle.join.proofs.labels.all_labels_move.Goals as goal
 pub loop-k-init : goal.loop-k-init
 loop-k-init c = (pass_none _ _, sym (cursor_none _))
 
-pub piece_at-piece-requires : goal.piece_at-piece-requires
-piece_at-piece-requires c =
-    omega (arith, c.requires.standing.room)
-
 pub labels_move-requires : goal.labels_move-requires
 labels_move-requires c =
     let turn : Turn c.args.pieces.now c.loop-k.k c.piece_at-piece.result c.loop-k.cursor =

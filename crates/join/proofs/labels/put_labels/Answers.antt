@@ -18,10 +18,6 @@ moved-requires c =
     rw (c.word_at.ensures, c.base-base.ensures.0)
     (all_at (λ (i : ℕ). label_moves (base_of a.piece a.cursor) (word_at a.labels.now (a.cursor.labels + i))) a.piece.labels c.loop-j.j c.requires.labels_move c.loop-j-test.true)
 
-pub put_word-requires : goal.put_word-requires
-put_word-requires c =
-    omega (arith, ap length c.loop-j.invariant.1 ∙ length_over _ _ _)
-
 pub loop-j-preserved : goal.loop-j-preserved
 loop-j-preserved c =
     let l = c.loop-j in

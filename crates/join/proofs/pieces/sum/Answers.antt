@@ -8,9 +8,6 @@ use Rattle.join.proofs.pieces.sum.Goals as goal
 pub loop-k-init : goal.loop-k-init
 loop-k-init c = (omega arith, sym (cursor_none _), record { code = omega arith; labels = omega arith; relocs = omega arith; definitions = omega arith; end = omega arith })
 
-pub piece_at-requires : goal.piece_at-requires
-piece_at-requires c = omega arith
-
 pub after-cursor-requires : goal.after-cursor-requires
 unfolding pieces_fit
 after-cursor-requires c =

@@ -9,10 +9,6 @@ use Rattle.join.proofs.relocs.all_hold.Goals as goal
 pub loop-k-init : goal.loop-k-init
 loop-k-init g c = (λ asked known asks. pass_none _ _, sym (cursor_none _))
 
-pub piece_at-piece-requires : goal.piece_at-piece-requires
-piece_at-piece-requires g c =
-    omega (arith, c.requires.relocations.standing.room)
-
 pub relocs_hold-requires : goal.relocs_hold-requires
 relocs_hold-requires g c =
     let turn : Turn c.args.pieces.now c.loop-k.k c.piece_at-piece.result c.loop-k.cursor =

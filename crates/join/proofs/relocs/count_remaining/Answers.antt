@@ -11,10 +11,6 @@ pub loop-k-init : goal.loop-k-init
 unfolding count_remaining
 loop-k-init c = (omega arith, refl, sym (cursor_none _), omega arith)
 
-pub piece_at-piece-requires : goal.piece_at-piece-requires
-piece_at-piece-requires c =
-    omega (arith, c.requires.standing.room)
-
 pub count_remaining_in-count-requires : goal.count_remaining_in-count-requires
 count_remaining_in-count-requires c =
     let turn : Turn c.args.pieces.now c.loop-k.k c.piece_at-piece.result c.loop-k.cursor =

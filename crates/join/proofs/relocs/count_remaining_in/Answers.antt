@@ -10,12 +10,6 @@ pub loop-j-init : goal.loop-j-init
 unfolding count_remaining_in
 loop-j-init c = (omega arith, sym (none_counted _), omega arith)
 
-pub reloc_at-requires : goal.reloc_at-requires
-reloc_at-requires c = omega arith
-
-pub overflow_add-count : goal.overflow_add-count
-overflow_add-count c = omega arith
-
 pub loop-j-preserved : goal.loop-j-preserved
 unfolding count_remaining_in
 loop-j-preserved c =

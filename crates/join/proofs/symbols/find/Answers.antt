@@ -9,10 +9,6 @@ use Rattle.join.proofs.symbols.find.Goals as goal
 pub loop-k-init : goal.loop-k-init
 loop-k-init c = (refuse_none _ _, sym (cursor_none _))
 
-pub piece_at-piece-requires : goal.piece_at-piece-requires
-piece_at-piece-requires c =
-    omega (arith, c.requires.labelled.standing.room)
-
 pub find_in-found-requires : goal.find_in-found-requires
 find_in-found-requires c =
     let turn : Turn c.args.pieces.now c.loop-k.k c.piece_at-piece.result c.loop-k.cursor =

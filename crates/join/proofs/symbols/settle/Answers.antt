@@ -12,10 +12,6 @@ pub loop-k-init : goal.loop-k-init
 loop-k-init c =
     (pass_none _ _, sym (cursor_none _), c.requires.settled, refl)
 
-pub piece_at-piece-requires : goal.piece_at-piece-requires
-piece_at-piece-requires c =
-    omega (arith, c.requires.symbols.labelled.standing.room)
-
 pub settle_piece-requires : goal.settle_piece-requires
 settle_piece-requires c =
     let turn : Turn c.args.pieces.now c.loop-k.k c.piece_at-piece.result c.loop-k.cursor =

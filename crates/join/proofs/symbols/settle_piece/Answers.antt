@@ -10,9 +10,6 @@ pub loop-j-init : goal.loop-j-init
 loop-j-init c =
     (pass_none _ _, begun_none _ _ c.requires.settled, refl)
 
-pub symbol_at-symbol-requires : goal.symbol_at-symbol-requires
-symbol_at-symbol-requires c = omega arith
-
 pub find_before-found-requires : goal.find_before-found-requires
 find_before-found-requires c =
     record { symbols = c.requires.symbols; placed = c.requires.placed; labelled = c.requires.labelled; definitions_within = omega arith; begun = c.loop-j.invariant.1 }

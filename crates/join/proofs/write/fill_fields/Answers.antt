@@ -11,9 +11,6 @@ pub loop-j-init : goal.loop-j-init
 unfolding filled_with
 loop-j-init c = (omega arith, refl)
 
-pub reloc_at-reloc-requires : goal.reloc_at-reloc-requires
-reloc_at-reloc-requires c = omega arith
-
 pub fill_field-requires : goal.fill_field-requires
 unfolding relocs_hold holds
 fill_field-requires c =

@@ -17,10 +17,6 @@ loop-k-init c = (
   c.requires.joins,
 )
 
-pub piece_at-piece-requires : goal.piece_at-piece-requires
-piece_at-piece-requires c =
-    omega (arith, c.requires.joins.labels.standing.room)
-
 pub put_filled-requires : goal.put_filled-requires
 put_filled-requires c =
     let v = c.loop-k in

@@ -14,9 +14,6 @@ loop-j-init c =
     let a = c.args in
     (omega arith, omega (arith, none_counted (λ (i : ℕ). not (is_filled a.piece.arch (piece_reloc a.relocs.now a.cursor i)))), sym (over_nil _ _))
 
-pub reloc_at-reloc-requires : goal.reloc_at-reloc-requires
-reloc_at-reloc-requires c = omega arith
-
 pub put_remaining-i-requires : goal.put_remaining-i-requires
 unfolding count_remaining_in
 put_remaining-i-requires c =
