@@ -1,5 +1,5 @@
 -- `sum` meets its contract: the cursor behind the pieces passed, which is near.
-use Rattle.std.proofs.Common.{◌≡◌, ℕ, sym, arith}
+use Rattle.std.proofs.Common.{ℕ, sym, arith}
 use Rattle.seqs.proofs.Every.{all_at}
 use Rattle.join.specs.Pieces.{piece_at, piece_fits, pieces_fit}
 use Rattle.join.proofs.Cursors.{near_most, cursor_none, cursor_next}
@@ -21,9 +21,3 @@ loop-k-preserved c =
       rw (c.after-cursor.ensures.0, c.piece_at.ensures, l.invariant.1) (cursor_next c.args.pieces.now l.k),
       c.after-cursor.ensures.1 l.k l.invariant.2,
     )
-
-pub returns : goal.returns
-returns c =
-    let l = c.loop-k in
-    let all : l.k ≡ c.args.n = omega arith in
-    (rw all at l.invariant.1, near_most l.k l.cursor (omega arith) l.invariant.2)

@@ -1,5 +1,5 @@
 -- `count_remaining_in` meets its contract: how many of those passed remain.
-use Rattle.std.proofs.Common.{◌≡◌, ℕ, not, sym, ◌∙◌, arith}
+use Rattle.std.proofs.Common.{ℕ, not, sym, ◌∙◌, arith}
 use Rattle.seqs.proofs.Picking.{yes_not, no_not}
 use Rattle.seqs.proofs.Counting.{none_counted, one_counted}
 use Rattle.join.specs.Join.{is_filled, piece_reloc, count_remaining_in}
@@ -24,7 +24,3 @@ loop-j-preserved c =
           let none = no_not {A = ℕ} _ 1 0 (sym asked ∙ w.if-not-is_filled.false) in
           (omega arith, omega (arith, c.loop-j.invariant.1, w.count-is, more, none), omega (arith, w.count-is))
     ]
-
-pub returns : goal.returns
-returns c =
-    let all : c.loop-j.j ≡ c.args.piece.relocs = omega arith in rw all at c.loop-j.invariant.1
