@@ -2,7 +2,7 @@
 // The tables are lent by the caller as byte slices, whole entries of little-endian words; their lengths are their capacities.
 #![tactic(auto)]
 
-ghost use Rattle.std.specs.Prelude.{◌≡◌, ◌+◌, ◌≤◌, ◌&&◌, ◌||◌, leb};
+ghost use Rattle.std.specs.Prelude.{◌≡◌, ◌+◌, ◌≤◌, ◌&&◌, leb};
 ghost use Rattle.refusals.specs.Answers.{number_of, answer_of};
 ghost use Rattle.buffer.specs.State.{keeps_events, with_open, turned_down, none_made, recorded, made_of};
 ghost use Rattle.buffer.specs.Refusals.{arch_occurs, refusal_occurs, standing};
@@ -119,24 +119,6 @@ pub struct Recorded {
 pub struct Made {
     pub buffer: CodeBuffer,
     pub answer: Result<u32, Refusal>,
-}
-
-pub fn both(a: bool, b: bool) -> bool
-    ensures { result ≡ (a && b) }
-{
-    if a {
-        return b;
-    }
-    false
-}
-
-pub fn either(a: bool, b: bool) -> bool
-    ensures { result ≡ (a || b) }
-{
-    if a {
-        return true;
-    }
-    b
 }
 
 // The architectures that keep events and refs.
