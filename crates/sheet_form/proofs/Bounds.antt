@@ -1,5 +1,5 @@
 -- What is kept of the labels from call to call of a sheet: that it answers a jump, and that it stays right.
-use Rattle.std.proofs.Common.{◌≡◌, ◌≢◌, sym, ◌∙◌, ℕ, ◌≤◌, ◌<◌, List, Option, Some, None, option_map, max, refl, not, true, false, rules, cond, ltb, Bool, unwrap_or, arith}
+use Rattle.std.proofs.Common.{◌≡◌, ◌≢◌, sym, ◌∙◌, ℕ, ◌≤◌, ◌<◌, List, Option, Some, None, option_map, max, refl, not, true, false, rules, cond, ltb, Bool, arith}
 use Rattle.std.proofs.lemmas.Option.{same_Some}
 use Rattle.buffer.specs.State.{none}
 use Rattle.buffer.specs.steps.Below.{under, greatest_below, Told}
