@@ -100,6 +100,7 @@ pub fn map(segments: &[Segment], n: usize, index: &[u32], shift: u32, offset: u3
     requires in_range { (offset ≢ none → offset ≤ offset_bound) }
     ensures { result ≡ map_offset (take n segments.now) offset }
 {
+    // The word of an unbound label in the table that C lends.
     if offset == buffer::NONE {
         return offset;
     }
@@ -540,6 +541,7 @@ pub fn relax_jumps(
     index_segments(index, shift, segments, n + m);
     find_targets(segments, events, labels, n, n + m, index, shift);
     let mut layouts: u32 = 0;
+    // Document 01 asks for this form: the rounds' loop yields the summary.
     let settled = loop {
         place_ends(segments, events, constants, asked, long, n, m, code);
         layouts += 1;
