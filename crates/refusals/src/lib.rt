@@ -79,7 +79,7 @@ impl Refusal {
     pub fn is_recorded(self) -> bool
         ensures { result ≡ leb unsupported_use (number_of self) }
     {
-        FIRST_RECORDED <= self.number()
+        Refusal::UnsupportedUse.number() <= self.number()
     }
 }
 
