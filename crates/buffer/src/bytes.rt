@@ -14,6 +14,7 @@ use crate::{
 use refusals::Refusal;
 
 // A power of two, at most 4,096.
+#[tactic(auto, unfolding(crate::specs::Refusals::is_alignment))]
 pub fn is_alignment(n: u32) -> bool
     ensures { result ≡ is_alignment n }
 {
@@ -39,6 +40,7 @@ pub fn pad(arch: u32, part: &mut [u8])
 }
 
 impl CodeBuffer {
+    #[tactic(auto, using(refusals::proofs::Chains::chains, seqs::proofs::Picking::picks), unfolding(crate::specs::Refusals::why_bytes))]
     fn why_no_bytes(self, lent: usize, n: usize) -> Result<(), Refusal>
         ensures { answer_of result ≡ why_bytes self lent n }
     {
@@ -134,6 +136,7 @@ impl CodeBuffer {
     }
 
     // The recording after an alignment of its tables.
+    #[tactic(auto, using(seqs::proofs::Picking::picks), unfolding(crate::specs::steps::Aligned::aligned_counts))]
     fn aligned(mut self, spent: Result<u32, Refusal>) -> Recorded
         requires { IfOk spent (λ len. (self.code + len ≤ most_code) × (keeps_events self.arch ≡ true → self.events < most_entries)) }
         ensures { recorded result ≡ aligned_counts self (spent_of spent) }

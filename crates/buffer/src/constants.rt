@@ -26,6 +26,7 @@ fn put_constant(constants: &mut [u8], i: usize, bytes: &[u8])
 }
 
 impl CodeBuffer {
+    #[tactic(auto, using(refusals::proofs::Chains::chains, seqs::proofs::Picking::picks), unfolding(crate::specs::Refusals::why_constant))]
     fn why_no_constant(self, room: usize, n: usize) -> Result<(), Refusal>
         ensures { answer_of result ≡ why_constant self room n }
     {
@@ -77,6 +78,7 @@ impl CodeBuffer {
     }
 
     // The label of a constant that has none: a new one.
+    #[tactic(auto, using(seqs::proofs::Picking::picks), unfolding(crate::specs::Calls::asked_first))]
     fn ask_first(
         mut self,
         constants: &mut [u8],

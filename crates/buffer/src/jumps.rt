@@ -37,6 +37,7 @@ fn label_inside(labels: &[u8], n: usize, start: u32, end: u32) -> bool
 }
 
 // It does not end at `code`, or its length is not 2 to 15, or its condition is above 16.
+#[tactic(auto, unfolding(crate::specs::Refusals::jump_malformed))]
 fn is_malformed(code: u32, start: u32, len: u32, cc: u32) -> bool
     ensures { result ≡ jump_malformed code start len cc }
 {

@@ -12,6 +12,7 @@ use crate::{
 use refusals::Refusal;
 
 impl CodeBuffer {
+    #[tactic(auto, using(refusals::proofs::Chains::chains, seqs::proofs::Picking::picks), unfolding(crate::specs::Refusals::why_label))]
     fn why_no_label(self, room: usize) -> Result<(), Refusal>
         ensures { answer_of result ≡ why_label self room }
     {
@@ -40,6 +41,7 @@ impl CodeBuffer {
     }
 
     // The numbers are entries lent of each table.
+    #[tactic(auto, using(refusals::proofs::Chains::chains, seqs::proofs::Picking::picks), unfolding(crate::specs::Refusals::why_bind))]
     fn why_not_bind(
         self,
         labels: &[u8],

@@ -2,7 +2,7 @@
 // The tables are lent by the caller as byte slices, whole entries of little-endian words; their lengths are their capacities.
 #![tactic(auto)]
 
-ghost use Rattle.std.specs.Prelude.{◌≡◌, ◌+◌, ◌≤◌, ◌&&◌, ◌||◌, leb};
+ghost use Rattle.std.specs.Prelude.{◌≡◌, ◌+◌, ◌≤◌, ◌&&◌, leb};
 ghost use Rattle.refusals.specs.Answers.{number_of, answer_of};
 ghost use Rattle.buffer.specs.State.{keeps_events, with_open, turned_down, none_made, recorded, made_of};
 ghost use Rattle.buffer.specs.Refusals.{arch_occurs, refusal_occurs, standing};
@@ -121,24 +121,6 @@ pub struct Made {
     pub answer: Result<u32, Refusal>,
 }
 
-pub fn both(a: bool, b: bool) -> bool
-    ensures { result ≡ (a && b) }
-{
-    if a {
-        return b;
-    }
-    false
-}
-
-pub fn either(a: bool, b: bool) -> bool
-    ensures { result ≡ (a || b) }
-{
-    if a {
-        return true;
-    }
-    b
-}
-
 // The architectures that keep events and refs.
 pub fn keeps_events(arch: u32) -> bool
     ensures { result ≡ keeps_events arch }
@@ -163,6 +145,7 @@ fn refusal_occurs(n: u32) -> bool
 
 impl CodeBuffer {
     // A recording with nothing in it.
+    #[tactic(auto, using(seqs::proofs::Picking::picks), unfolding(crate::specs::Calls::started, crate::specs::Refusals::why_start))]
     pub fn new(arch: u32, symbols: u32) -> Recorded
         ensures { recorded result ≡ started arch symbols }
     {
@@ -193,15 +176,16 @@ impl CodeBuffer {
 
     // What every call looks at first: 1, the recorded refusal, 3 or 4. `fit`: every count that can be compared with what is lent passes it
     // nowhere, and the arguments have their form. `within`: no limit is passed by what is lent.
+    #[tactic(auto, using(refusals::proofs::Chains::chains, seqs::proofs::Picking::picks), unfolding(crate::specs::Refusals::standing))]
     pub fn standing(self, fit: bool, within: bool) -> Result<(), Refusal>
         ensures { answer_of result ≡ standing self fit within }
     {
         if !self.is_sound(fit) {
             return Err(Refusal::Malformed);
         }
-        // The count is any number that C hands in; once it is sound, 0 alone is no refusal's.
-        if let Ok(first) = Refusal::try_from(self.refusal) {
-            return Err(first);
+        // The count is any number that C hands in; once it is sound, each but 0 is a refusal's.
+        if self.refusal != 0 {
+            return Err(Refusal::try_from(self.refusal).unwrap());
         }
         if !within {
             return Err(Refusal::PastLimit);
@@ -214,6 +198,7 @@ impl CodeBuffer {
 
     // The recording after a call for an entry that names a label, and `more` open entries. Such a call has this one exit, since it is slower where the
     // counts are stored one by one and then loaded as a whole.
+    #[tactic(auto, using(seqs::proofs::Picking::picks), unfolding(crate::specs::State::refusing))]
     pub(crate) fn entered(mut self, answer: Result<(), Refusal>, more: u32) -> Recorded
         requires { self.unresolved + more ≤ 4294967295 }
         ensures { recorded result ≡ turned_down (with_open self (self.unresolved + more)) (answer_of answer) }
@@ -231,6 +216,7 @@ impl CodeBuffer {
     }
 
     // A call that is turned down: numbers from 6 on are recorded.
+    #[tactic(auto, using(seqs::proofs::Picking::picks), unfolding(crate::specs::State::refusing))]
     pub(crate) fn turn_down(mut self, why: Refusal) -> Recorded
         ensures { recorded result ≡ turned_down self (number_of why) }
     {

@@ -26,6 +26,7 @@ fn arch_of_kind(kind: u32) -> u8
     ARCHS.get(kind as usize).copied().unwrap_or(3)
 }
 
+#[tactic(auto, using(seqs::proofs::Picking::picks), unfolding(crate::specs::Refusals::foreign_reloc))]
 pub fn is_foreign_kind(kind: u32, arch: u32) -> bool
     ensures { result ≡ foreign_reloc kind arch }
 {

@@ -1,13 +1,13 @@
 -- Pieces of code in order: of those that start before an offset the last decides.
 use mathlib.Core.Path.{◌≡◌, refl, sym, subst}
 use mathlib.Core.Logic.{⊎_elim}
-use mathlib.Core.Bool.{Bool, true, ◌||◌, or-true, or_comm}
+use mathlib.Core.Bool.{Bool, true, false, ◌||◌, or-true, or_comm}
 use mathlib.Core.List.{List}
 use Prim.Native.Nat.{ℕ, zero, suc, ◌+◌, ◌-◌, ◌≤◌, ◌<◌}
 use native.Mathlib.Nat.{not-suc-le-zero}
 use native.Mathlib.Omega.{arith}
-use borrow.Author.Tests.{le-leb, lt-leb}
-use lib.Dec.{leb}
+use borrow.Author.Tests.{le-leb, lt-leb, ltb-true, ltb-false}
+use lib.Dec.{leb, ltb}
 use Rattle.seqs.proofs.Numbers.{lt_or_ge, eq_or_ne}
 use Rattle.recording.specs.Sound.{start_at, end_at}
 use Rattle.words.specs.Words.{word_at}
@@ -15,7 +15,7 @@ use Rattle.pool.specs.steps.Pool.{size_at, label_at, pool_start, pool_offset}
 use Rattle.seqs.specs.Every.{all}
 use Rattle.checks.specs.Entries.{outside}
 use Rattle.checks.specs.steps.Fields.{clear_of_events, clear_of_pool}
-use Rattle.lookup.specs.steps.Index.{Rises, Around}
+use Rattle.lookup.specs.steps.Index.{Rises, Around, Parted}
 use Rattle.checks.specs.steps.Search.{Ordered, Before, Halved, Placed}
 use Rattle.seqs.proofs.Every.{all_of, all_fails, all_same}
 
@@ -38,10 +38,6 @@ halved_around a =
       above = λ j h k. omega (arith, a.above j h k);
     }
 
-pub halved_last : {start : ℕ → ℕ} {n to low high : ℕ} → Halved start n to low high → high ≤ low → Before start n to low
-halved_last h e =
-    record { few = omega (arith, h.most, h.rise); below = h.below; above = λ j k l. h.above j (omega (arith, h.rise)) l }
-
 module _ (start end : ℕ → ℕ) where
   starts_rise : (n i j : ℕ) → Ordered start end n → i ≤ j → j < n → start i ≤ start j
   starts_rise n i j o h l =
@@ -53,22 +49,27 @@ module _ (start end : ℕ → ℕ) where
   pub starts_rises : (n : ℕ) → Ordered start end n → Rises start n
   starts_rises n o = record { rises = λ i j h l. starts_rise n i j o h l }
 
-  pub halved_low : (n to low high mid : ℕ) → Ordered start end n → Halved start n to low high → mid < high → start mid < to → low ≤ mid → Halved start n to (mid + 1) high
-  halved_low n to low high mid o h m l q =
+  -- where a search by halving stops that asks of each piece whether it starts before an offset
+  pub parted_before : {answered : ℕ → Bool → Type 0} {n to low high r : ℕ} → Ordered start end n → Halved start n to low high → Parted answered low high r
+      → ((j : ℕ) (b : Bool) → answered j b → b ≡ ltb (start j) to) → Before start n to r
+  parted_before {n = n} {to} {low} {high} {r} o h p asked =
       record {
-        most = h.most;
-        rise = omega arith;
-        below = λ j k. omega (arith, starts_rise n j mid o (omega arith) (omega (arith, h.most)));
-        above = h.above;
-      }
-
-  pub halved_high : (n to low high mid : ℕ) → Ordered start end n → Halved start n to low high → mid < high → to ≤ start mid → low ≤ mid → Halved start n to low mid
-  halved_high n to low high mid o h m l q =
-      record {
-        most = omega (arith, h.most);
-        rise = q;
-        below = h.below;
-        above = λ j k r. omega (arith, starts_rise n mid j o k r);
+        few = omega (arith, p.last, h.most);
+        below = λ j l.
+            ⊎_elim
+            (λ (early : j < low). h.below j early)
+            (λ late.
+            omega (
+              arith,
+              starts_rise n j (r - 1) o (omega arith) (omega (arith, p.last, h.most)),
+              ltb-true (start (r - 1)) to (sym (asked (r - 1) true (p.before (omega arith)))),
+            ))
+            (lt_or_ge j low);
+        above = λ j k l.
+            ⊎_elim
+            (λ (early : j < high). omega (arith, starts_rise n r j o k l, ltb-false (start r) to (sym (asked r false (p.after (omega arith))))))
+            (λ late. h.above j late l)
+            (lt_or_ge j high);
       }
 
   -- piece j lies before `from` or after `to`

@@ -1,7 +1,7 @@
 pub mod CountsWithinLimits
 pub mod Clear
-pub mod Forms
 pub mod Marking
+pub mod Moving
 pub mod Reaching
 pub mod SoundEvents
 pub mod SoundTables

@@ -1,5 +1,6 @@
 // Numbers 17 and 19 to 22: refs that overlap an event, and uses that can't reach.
 ghost use Rattle.std.specs.Prelude.{◌≡◌, ◌+◌, ◌*◌, ◌≤◌, length};
+ghost use Rattle.refusals.specs.Answers.{answer_of};
 ghost use Rattle.fields.specs.Kinds.{decoded};
 ghost use Rattle.relax.specs.Events.{event_at, event_size};
 ghost use Rattle.buffer.specs.Tables.{label_size, use_size, ref_size};
@@ -13,15 +14,15 @@ ghost use Rattle.checks.specs.steps.Fields.{ref_clear, refs_clear, why_unreached
 ghost use Rattle.checks.specs.steps.Search.{Ordered, Placed};
 ghost use Rattle.checks.specs.steps.Handed.{use_label, Named};
 
+use refusals::Refusal;
 use relax::LayoutEvent;
 
 fn is_moving(event: LayoutEvent) -> bool
     ensures { result ≡ is_moving event }
 {
     match event {
-        LayoutEvent::Jump(_) => true,
+        LayoutEvent::Jump(_) | LayoutEvent::Far(_) => true,
         LayoutEvent::Align(_) => false,
-        LayoutEvent::Far(_) => true,
     }
 }
 
@@ -30,14 +31,7 @@ pub fn moves(events: &[u8], n: usize) -> bool
     requires { n * event_size ≤ length events.now }
     ensures { result ≡ moves (entries (event_at events.now) n) }
 {
-    let mut i: usize = 0;
-    while i < n {
-        if is_moving(relax::event_at(events, i)) {
-            return true;
-        }
-        i += 1;
-    }
-    false
+    (0..n).any(|i| is_moving(relax::event_at(events, i)))
 }
 
 // The size of the field that a code stands for.
@@ -50,16 +44,17 @@ fn size_of(code: u32) -> u64
     }
 }
 
-fn reach_of(code: u32, offset: u32, label: u32) -> u32
-    ensures { result ≡ reach_of (decoded code) offset label }
+fn reach_of(code: u32, offset: u32, label: u32) -> Result<(), Refusal>
+    ensures { answer_of result ≡ reach_of (decoded code) offset label }
 {
     match fields::LabelUse::try_from(code) {
-        Ok(kind) => refusals::answer_of(kind.reach_refusal(offset, label)),
-        Err(_) => 0,
+        Ok(kind) => kind.reach_refusal(offset, label),
+        Err(_) => Ok(()),
     }
 }
 
 // Whether the field of ref `i` lies within `len` bytes of code, and clear of the events and of the pool's alignments.
+#[tactic(auto, unfolding(crate::specs::steps::Fields::ref_clear))]
 fn ref_clear(
     refs: &[u8],
     events: &[u8],
@@ -81,13 +76,9 @@ fn ref_clear(
     let kind = words::word_at(refs, i * buffer::REF_WORDS + 2);
     let from = offset as u64;
     let to = from + size_of(kind);
-    if (len as u64) < to {
-        return false;
-    }
-    if !crate::search::clear_of_events(events, n, from, to) {
-        return false;
-    }
-    crate::search::clear_of_pool(labels, constants, asked, code, m, from, to)
+    to <= len as u64
+        && crate::search::clear_of_events(events, n, from, to)
+        && crate::search::clear_of_pool(labels, constants, asked, code, m, from, to)
 }
 
 pub fn refs_clear(
@@ -107,44 +98,32 @@ pub fn refs_clear(
     requires placed { Placed labels.now constants.now asked.now code m }
     ensures { result ≡ refs_clear refs.now count events.now n code constants.now asked.now m }
 {
-    let mut i: usize = 0;
-    while i < count {
-        if !ref_clear(refs, events, n, labels, constants, asked, m, code, len, i) {
-            return false;
-        }
-        i += 1;
-    }
-    true
+    (0..count).all(|i| ref_clear(refs, events, n, labels, constants, asked, m, code, len, i))
 }
 
 // 19: the field of use `i` passes the end of the code, of which there are `len` bytes; 20 to 22: it can't reach its label.
-fn why_unreached(uses: &[u8], labels: &[u8], len: u32, i: usize) -> u32
+fn why_unreached(uses: &[u8], labels: &[u8], len: u32, i: usize) -> Result<(), Refusal>
     requires { (i * use_size + use_size ≤ length uses.now) × (use_label uses.now i * label_size + label_size ≤ length labels.now) }
-    ensures { result ≡ why_unreached uses.now labels.now len i }
+    ensures { answer_of result ≡ why_unreached uses.now labels.now len i }
 {
     let offset = words::word_at(uses, i * buffer::USE_WORDS);
     let label = words::word_at(uses, i * buffer::USE_WORDS + 1);
     let kind = words::word_at(uses, i * buffer::USE_WORDS + 2);
     let target = words::word_at(labels, label as usize);
     if (len as u64) < offset as u64 + size_of(kind) {
-        return refusals::USE_PAST_END;
+        return Err(Refusal::UsePastEnd);
     }
     reach_of(kind, offset, target)
 }
 
-// The refusal of the first use that has one, or 0.
-pub fn why_uses(uses: &[u8], n: usize, labels: &[u8], len: u32) -> u32
+// The refusal of the first use that has one.
+pub fn why_uses(uses: &[u8], n: usize, labels: &[u8], len: u32) -> Result<(), Refusal>
     requires uses_within { n * use_size ≤ length uses.now }
     requires named { Named (use_label uses.now) n labels.now }
-    ensures { result ≡ why_uses uses.now labels.now len n }
+    ensures { answer_of result ≡ why_uses uses.now labels.now len n }
 {
-    let mut i: usize = 0;
-    while i < n {
-        let why = why_unreached(uses, labels, len, i);
-        if why != 0 {
-            return why;
-        }
-        i += 1;
+    for i in 0..n {
+        why_unreached(uses, labels, len, i)?;
     }
-    0
+    Ok(())
 }

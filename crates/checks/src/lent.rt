@@ -1,17 +1,13 @@
 // What a call that is lent a whole recording, finish or a sheet, looks at first: counts and limits.
 ghost use Rattle.std.specs.Prelude.{◌≡◌, ◌&&◌, ◌/◌, leb};
+ghost use Rattle.refusals.specs.Answers.{answer_of};
 ghost use Rattle.buffer.specs.Refusals.{standing};
 ghost use Rattle.buffer.specs.Tables.{most_entries, most_code, label_size, use_size, ref_size, constant_size, asked_size, reloc_size};
 ghost use Rattle.checks.specs.Lent.{recording_of, counts_fit, within_limits};
 ghost use Rattle.relax.specs.Events.{event_size};
 
 use buffer::CodeBuffer;
-
-fn fits(count: u32, room: usize) -> bool
-    ensures { result ≡ leb count room }
-{
-    count as usize <= room
-}
+use refusals::Refusal;
 
 // Whether no count passes what is lent; the arguments are the lengths of what is lent, in bytes.
 fn counts_fit(
@@ -27,28 +23,14 @@ fn counts_fit(
 ) -> bool
     ensures { result ≡ (leb b.code code && (leb b.labels (labels / label_size) && (leb b.events (events / event_size) && (leb b.uses (uses / use_size) && (leb b.refs (refs / ref_size) && (leb b.constants (constants / constant_size) && (leb b.asked (asked / asked_size) && leb b.relocs (relocs / reloc_size)))))))) }
 {
-    buffer::both(
-        fits(b.code, code),
-        buffer::both(
-            fits(b.labels, labels / buffer::LABEL_SIZE),
-            buffer::both(
-                fits(b.events, events / relax::EVENT_SIZE),
-                buffer::both(
-                    fits(b.uses, uses / buffer::USE_SIZE),
-                    buffer::both(
-                        fits(b.refs, refs / buffer::REF_SIZE),
-                        buffer::both(
-                            fits(b.constants, constants / buffer::CONSTANT_SIZE),
-                            buffer::both(
-                                fits(b.asked, asked / buffer::ASKED_SIZE),
-                                fits(b.relocs, relocs / buffer::RELOC_SIZE),
-                            ),
-                        ),
-                    ),
-                ),
-            ),
-        ),
-    )
+    b.code as usize <= code
+        && b.labels as usize <= labels / buffer::LABEL_SIZE
+        && b.events as usize <= events / relax::EVENT_SIZE
+        && b.uses as usize <= uses / buffer::USE_SIZE
+        && b.refs as usize <= refs / buffer::REF_SIZE
+        && b.constants as usize <= constants / buffer::CONSTANT_SIZE
+        && b.asked as usize <= asked / buffer::ASKED_SIZE
+        && b.relocs as usize <= relocs / buffer::RELOC_SIZE
 }
 
 // Whether no more is lent than the limits allow; the arguments are the lengths of what is lent, in bytes, and rows of segments.
@@ -66,37 +48,20 @@ fn within_limits(
 ) -> bool
     ensures { result ≡ (leb code most_code && (leb (labels / label_size) most_entries && (leb (events / event_size) most_entries && (leb (uses / use_size) most_entries && (leb (refs / ref_size) most_entries && (leb (constants / constant_size) most_entries && (leb (asked / asked_size) most_entries && (leb (relocs / reloc_size) most_entries && (leb segments most_entries && leb output most_code))))))))) }
 {
-    buffer::both(
-        code <= buffer::MOST_CODE,
-        buffer::both(
-            labels / buffer::LABEL_SIZE <= buffer::MOST_ENTRIES,
-            buffer::both(
-                events / relax::EVENT_SIZE <= buffer::MOST_ENTRIES,
-                buffer::both(
-                    uses / buffer::USE_SIZE <= buffer::MOST_ENTRIES,
-                    buffer::both(
-                        refs / buffer::REF_SIZE <= buffer::MOST_ENTRIES,
-                        buffer::both(
-                            constants / buffer::CONSTANT_SIZE <= buffer::MOST_ENTRIES,
-                            buffer::both(
-                                asked / buffer::ASKED_SIZE <= buffer::MOST_ENTRIES,
-                                buffer::both(
-                                    relocs / buffer::RELOC_SIZE <= buffer::MOST_ENTRIES,
-                                    buffer::both(
-                                        segments <= buffer::MOST_ENTRIES,
-                                        output <= buffer::MOST_CODE,
-                                    ),
-                                ),
-                            ),
-                        ),
-                    ),
-                ),
-            ),
-        ),
-    )
+    code <= buffer::MOST_CODE
+        && labels / buffer::LABEL_SIZE <= buffer::MOST_ENTRIES
+        && events / relax::EVENT_SIZE <= buffer::MOST_ENTRIES
+        && uses / buffer::USE_SIZE <= buffer::MOST_ENTRIES
+        && refs / buffer::REF_SIZE <= buffer::MOST_ENTRIES
+        && constants / buffer::CONSTANT_SIZE <= buffer::MOST_ENTRIES
+        && asked / buffer::ASKED_SIZE <= buffer::MOST_ENTRIES
+        && relocs / buffer::RELOC_SIZE <= buffer::MOST_ENTRIES
+        && segments <= buffer::MOST_ENTRIES
+        && output <= buffer::MOST_CODE
 }
 
 // What every call that is lent a whole recording looks at first: 0, 1, the recorded refusal, 3 or 4.
+#[tactic(auto, unfolding(crate::specs::Lent::counts_fit, crate::specs::Lent::within_limits))]
 pub fn why_not_standing(
     b: CodeBuffer,
     code: &[u8],
@@ -109,8 +74,8 @@ pub fn why_not_standing(
     relocs: &[u8],
     segments: usize,
     output: usize,
-) -> u32
-    ensures { result ≡ standing b (counts_fit (recording_of b code.now labels.now events.now uses.now refs.now constants.now asked.now relocs.now)) (within_limits (recording_of b code.now labels.now events.now uses.now refs.now constants.now asked.now relocs.now) segments output) }
+) -> Result<(), Refusal>
+    ensures { answer_of result ≡ standing b (counts_fit (recording_of b code.now labels.now events.now uses.now refs.now constants.now asked.now relocs.now)) (within_limits (recording_of b code.now labels.now events.now uses.now refs.now constants.now asked.now relocs.now) segments output) }
 {
     let fit = counts_fit(
         b,
@@ -135,5 +100,5 @@ pub fn why_not_standing(
         segments,
         output,
     );
-    refusals::answer_of(b.standing(fit, within))
+    b.standing(fit, within)
 }

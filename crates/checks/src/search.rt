@@ -34,18 +34,7 @@ fn events_before(events: &[u8], n: usize, to: u64, first: usize, last: usize) ->
     requires halved { Halved (start_at events.now) n to first last }
     ensures { Before (start_at events.now) n to result }
 {
-    let mut low = first;
-    let mut high = last;
-    while low < high {
-        let mid = low + (high - low) / 2;
-        let start = start_at(events, mid);
-        if start < to {
-            low = mid + 1;
-        } else {
-            high = mid;
-        }
-    }
-    low
+    lookup::partition_point(first, last, |j| start_at(events, j) < to)
 }
 
 // Whether none of the first `n` events overlaps what lies between two offsets. Of the events `first` at least start before the second, and `last` at most.
@@ -56,10 +45,7 @@ fn clear_among(events: &[u8], n: usize, from: u64, to: u64, first: usize, last: 
     ensures { result ≡ clear_of_events events.now n from to }
 {
     let k = events_before(events, n, to, first, last);
-    if k == 0 {
-        return true;
-    }
-    end_at(events, k - 1) <= from
+    k == 0 || end_at(events, k - 1) <= from
 }
 
 // The same, by a search among all the events.
@@ -78,11 +64,9 @@ pub fn index_events(index: &mut [u32], shift: u32, events: &[u8], n: usize)
     ensures { Indexed index.new (start_at events.now) n shift }
 {
     let mut next: usize = 0;
-    let mut i: usize = 0;
-    while i < n {
+    for i in 0..n {
         let start = words::word_at(events, i * relax::EVENT_WORDS + 1);
         next = lookup::mark(index, shift, next, i, start);
-        i += 1;
     }
     lookup::close(index, next, n);
 }
@@ -134,18 +118,9 @@ fn alignments_before(
     requires { Placed labels.now constants.now asked.now code n }
     ensures { Before (pool_start code constants.now asked.now) n to result }
 {
-    let mut low: usize = 0;
-    let mut high = n;
-    while low < high {
-        let mid = low + (high - low) / 2;
-        let start = alignment_at(labels, constants, asked, code, mid);
-        if start < to {
-            low = mid + 1;
-        } else {
-            high = mid;
-        }
-    }
-    low
+    lookup::partition_point(0, n, |j| {
+        alignment_at(labels, constants, asked, code, j) < to
+    })
 }
 
 // Whether none of the alignments of the first `n` constants overlaps what lies between two offsets.
@@ -162,8 +137,5 @@ pub fn clear_of_pool(
     ensures { result ≡ clear_of_pool code constants.now asked.now n from to }
 {
     let k = alignments_before(labels, constants, asked, code, n, to);
-    if k == 0 {
-        return true;
-    }
-    offset_at(labels, constants, asked, k - 1) as u64 <= from
+    k == 0 || offset_at(labels, constants, asked, k - 1) as u64 <= from
 }

@@ -27,11 +27,9 @@ use Rattle.fresh.proofs.Fill.{length_in_place}
 use Rattle.fresh.specs.Forms.{moves}
 use Rattle.finish.proofs.SoundRecording.{pooled_ends}
 use Rattle.finish.proofs.FitOrRefused.{limits, sound, asked_few, passed_unfit}
-use Rattle.finish.specs.declared.Finished.{Finished}
-use Rattle.finish.specs.declared.Outcome.{Outcome}
 use Rattle.seqs.specs.Every.{every}
 use Rattle.finish.specs.Refusals.{all_bound, ref_clear, ref_reaches, why_not_laid, why_not_written, uses_refusal, why_not_in_place, why_unfit}
-use Rattle.finish.specs.Finish.{Left, relaxed, unrelaxed, finished_with, with_finished, placed_by, finish}
+use Rattle.finish.specs.Finish.{Finished, Outcome, Left, relaxed, unrelaxed, finished_with, with_finished, placed_by, finish}
 use Rattle.demands.specs.Demand2.{finished_code}
 
 -- a recording that is fit: its entries are those that recordings write, and the pooled code, the output and the tables are small

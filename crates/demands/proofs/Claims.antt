@@ -29,8 +29,7 @@ use Rattle.fresh.specs.Fresh.{Choice, walk, starts, moved, target}
 use Rattle.fresh.specs.Rounds.{all_short, jumps, Rounds, settled}
 use Rattle.fresh.specs.Fill.{part, assembled}
 use Rattle.fresh.specs.Demand.{Fits, Branches, NoAlign, Includes, Demand3}
-use Rattle.finish.specs.declared.Finished.{Finished}
-use Rattle.finish.specs.Finish.{Left}
+use Rattle.finish.specs.Finish.{Finished, Left}
 use Rattle.wargnifla.specs.Boundary.{record_size, record_of, Lent, recording_in}
 use Rattle.demands.specs.Reading.{Reads}
 use Rattle.demands.specs.Demand1.{zeros, Unchanged, LentUnchanged}

@@ -13,9 +13,8 @@ use Rattle.relax.specs.declared.Segment.{Segment}
 use Rattle.recording.specs.Calls.{Recording}
 use Rattle.recording.specs.View.{view}
 use Rattle.fresh.specs.Pooled.{pooled}
-use Rattle.finish.specs.declared.Finished.{Finished}
 use Rattle.finish.specs.Refusals.{all_bound, why_unfit}
-use Rattle.finish.specs.Finish.{Left, placed_by, finish}
+use Rattle.finish.specs.Finish.{Finished, Left, placed_by, finish}
 use Rattle.finish.proofs.WholeFinish.{LeftAlone, stages_refused}
 use Rattle.demands.specs.Demand1.{Unchanged}
 

@@ -30,10 +30,8 @@ use Rattle.fresh.specs.Pooled.{Pooled, pooled}
 use Rattle.fresh.specs.Rounds.{settled}
 use Rattle.fresh.specs.Fill.{assembled}
 use Rattle.fresh.specs.Forms.{moves}
-use Rattle.finish.specs.declared.Finished.{Finished}
-use Rattle.finish.specs.declared.Outcome.{Outcome}
 use Rattle.finish.specs.Refusals.{pool_bound_before, all_bound, ref_clear, ref_reaches, why_not_laid, why_not_written, use_refusal, uses_refusal, why_not_in_place, why_unfit}
-use Rattle.finish.specs.Finish.{Left, relaxed, unrelaxed, with_finished, placed_by}
+use Rattle.finish.specs.Finish.{Finished, Outcome, Left, relaxed, unrelaxed, with_finished, placed_by}
 use Rattle.finish.specs.Finish as finishing
 use Rattle.finish.proofs.RemainsOpen.{remains_open}
 use Rattle.wargnifla.specs.Boundary.{counts_size, record_size, Lent, recording_in, finish}

@@ -27,10 +27,8 @@ use Rattle.fresh.specs.Pooled.{Pooled, pooled}
 use Rattle.fresh.specs.Forms.{moves}
 use Rattle.fresh.proofs.Tests.{split}
 use Rattle.finish.specs.Refusals.{is_bound, jump_bound, reloc_bound, all_bound}
-use Rattle.finish.specs.declared.Finished.{Finished}
-use Rattle.finish.specs.declared.Outcome.{Outcome}
 use Rattle.finish.specs.Finish as finishing
-use Rattle.finish.specs.Finish.{relocated}
+use Rattle.finish.specs.Finish.{Finished, Outcome, relocated}
 use Rattle.elf.specs.Elf as elf
 use Rattle.elf.proofs.Answers.{OfEntries, fit_of_entries}
 use Rattle.wargnifla.specs.Boundary.{record_size, Lent, record_of, record_at, recording_in, finish, write_relas}

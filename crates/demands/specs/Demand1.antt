@@ -4,8 +4,7 @@ use Rattle.std.specs.Prelude.{◌≡◌, List, ℕ, ◌≤◌, length}
 use Rattle.words.specs.Words.{over_words}
 use Rattle.recording.specs.Calls.{Recording}
 use Rattle.finish.specs.declared.CodeBufferFinalized.{CodeBufferFinalized}
-use Rattle.finish.specs.declared.Finished.{Finished}
-use Rattle.finish.specs.Finish.{Left}
+use Rattle.finish.specs.Finish.{Finished, Left}
 use Rattle.wargnifla.specs.Boundary.{record_size, record_of, Lent}
 
 abbrev pub zeros : CodeBufferFinalized

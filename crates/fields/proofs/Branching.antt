@@ -1,5 +1,5 @@
 -- A branch whose displacement is written is read as one to its label, short or long: demand 2 of a branch.
-use Rattle.std.proofs.Common.{◌≡◌, ℕ, ◌+◌, ◌-◌, ◌/◌, ◌%◌, ◌^◌, ◌<◌, Bool, true, false, cond, not, eqb, ◌++◌, length, sym, refl, ap, ◌∙◌, subst, arith, eq-eqb, ne_eqb, eqb-true}
+use Rattle.std.proofs.Common.{rules, ◌≡◌, ℕ, ◌+◌, ◌-◌, ◌/◌, ◌%◌, ◌^◌, ◌<◌, Bool, true, false, cond, not, eqb, ◌++◌, length, sym, refl, ap, ◌∙◌, subst, arith, eq-eqb, ne_eqb, eqb-true}
 use Rattle.seqs.specs.Pick.{pick}
 use Rattle.seqs.proofs.Booleans.{both_true}
 use Rattle.words.specs.Words.{word_at, bytes_of}
@@ -119,11 +119,7 @@ word_read k offset target w four small fits =
     patched_field k offset target (bytes_of w) size ∙ rw (four, word_at_bytes_of w small)
 
 kind_four : (code : ℕ) → patch_size (field_kind code) ≡ 4
-kind_four code = by (eqb code 9)
-  where
-    by : (t : Bool) → patch_size (cond t A64Branch14 A64Branch19) ≡ 4
-    by true = refl
-    by false = refl
+kind_four code = search rules
 
 field_lt : (code offset target w : ℕ) → w < 4294967296 → patched_word (field_kind code) w offset target < 4294967296
 field_lt code offset target w h = by (eqb code 9)
@@ -134,11 +130,7 @@ field_lt code offset target w h = by (eqb code 9)
 
 field_is : (code offset target w : ℕ)
     → patched_word (field_kind code) w offset target ≡ cond (eqb code 9) (insert_bits 5 14 w (minus target offset / 4)) (insert_bits 5 19 w (minus target offset / 4))
-field_is code offset target w = by (eqb code 9)
-  where
-    by : (t : Bool) → patched_word (cond t A64Branch14 A64Branch19) w offset target ≡ cond t (insert_bits 5 14 w (minus target offset / 4)) (insert_bits 5 19 w (minus target offset / 4))
-    by true = refl
-    by false = refl
+field_is code offset target w = search rules
 
 module _ (base start label code w : ℕ) (is : is_branch code w ≡ true) (small : w < 4294967296) (start_fits : start + 4 < modulus) (label_fits_lem : label < modulus) where
   -- A short branch that reaches is read as the recorded condition, to the label.
@@ -182,8 +174,7 @@ module _ (base start label code w : ℕ) (is : is_branch code w ≡ true) (small
 
   pick_not : (t : Bool) (x y : ℕ) → pick (not t) x y ≡ pick t y x
   unfolding pick
-  pick_not true x y = refl
-  pick_not false x y = refl
+  pick_not t x y = search rules
 
   -- A long branch whose B reaches is read as: where the condition holds, on to B and to the label; else over it.
   pub long_reads : can_reach A64Branch26 (start + 4) label ≡ true

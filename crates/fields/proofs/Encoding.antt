@@ -1,5 +1,5 @@
 -- What can be reached is exactly what the manuals can encode.
-use Rattle.std.proofs.Common.{◌≡◌, ℕ, ◌+◌, ◌-◌, ◌*◌, ◌%◌, ◌^◌, ◌<◌, ◌≤◌, true, ◌&&◌, eqb, ◌≢◌, ◌↔◌, refl, ◌∙◌, subst, ⊎_elim, mod-lt, arith, pow-add, eq-eqb}
+use Rattle.std.proofs.Common.{rules, ◌≡◌, ℕ, ◌+◌, ◌-◌, ◌*◌, ◌%◌, ◌^◌, ◌<◌, ◌≤◌, true, ◌&&◌, eqb, ◌≢◌, ◌↔◌, refl, ◌∙◌, subst, ⊎_elim, mod-lt, arith, pow-add, eq-eqb}
 use lib.Pow.{mod-pow-add}
 use Rattle.seqs.proofs.Numbers.{lt_or_ge}
 use Rattle.fields.specs.declared.LabelUse.{LabelUse}
@@ -67,15 +67,7 @@ module _ (offset target : ℕ) (offset-fits : offset < modulus) where
 module _ (offset target : ℕ) (offset-fits : offset < modulus) (target_fits : target < modulus) where
   -- an instruction whose other bits are 0 serves as well as any
   loaded_at_0 : (k : LabelUse) → k ≢ A64AddAbsLo12 → (0 % load_multiple k ≡ 0) × Clear k 0
-  loaded_at_0 X86JmpRel32 other = (refl, tt)
-  loaded_at_0 X86BranchRel8 other = (refl, tt)
-  loaded_at_0 A64Branch14 other = (refl, tt)
-  loaded_at_0 A64Branch19 other = (refl, tt)
-  loaded_at_0 A64Branch26 other = (refl, tt)
-  loaded_at_0 A64Ldr19 other = (refl, tt)
-  loaded_at_0 A64Adr21 other = (refl, tt)
-  loaded_at_0 A64Adrp21 other = (refl, tt)
-  loaded_at_0 A64AddAbsLo12 other = absurd (other refl)
+  loaded_at_0 k other = search rules
 
   reach_encodes : (k : LabelUse) → k ≢ A64AddAbsLo12 → can_reach k offset target ≡ true → Encodable k offset target
   reach_encodes k other r =

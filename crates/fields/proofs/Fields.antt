@@ -1,20 +1,10 @@
 -- The theorems of this crate over a field's own bytes, as `patch_with_addend` and `patch` leave them.
-use Rattle.std.proofs.Common.{◌≡◌, ℕ, ◌+◌, ◌*◌, ◌/◌, ◌%◌, ◌^◌, ◌<◌, true, false, ◌⊎◌, List, length, get_or, take, sym, refl, ap, ◌∙◌, subst, inl, inr, ⊎_elim, mod-lt, mod-eq_of_lt, arith}
+use Rattle.std.proofs.Common.{rules, ◌≡◌, ℕ, ◌+◌, ◌*◌, ◌/◌, ◌%◌, ◌^◌, ◌<◌, true, false, ◌⊎◌, List, length, get_or, take, sym, refl, ap, ◌∙◌, subst, inl, inr, ⊎_elim, mod-lt, mod-eq_of_lt, arith}
 use Rattle.seqs.proofs.Numbers.{lt_or_ge, eq_or_ne}
 use Rattle.words.specs.Words.{word_at, bytes_of}
 use Rattle.words.proofs.Laws.{word_at_bytes_of, word_at_small}
 use Rattle.fields.specs.declared.LabelUse.{LabelUse}
-use Rattle.fields.specs.declared.LabelUse.TheVariants.{
-  X86JmpRel32,
-  X86BranchRel8,
-  A64Branch14,
-  A64Branch19,
-  A64Branch26,
-  A64Ldr19,
-  A64Adr21,
-  A64Adrp21,
-  A64AddAbsLo12,
-}
+use Rattle.fields.specs.declared.LabelUse.TheVariants.{X86JmpRel32}
 use Rattle.fields.specs.Words64.{modulus, plus, minus, sign_extend}
 use Rattle.fields.specs.Bits.{bits, insert_bits}
 use Rattle.fields.specs.Kinds.{patch_size}
@@ -32,15 +22,7 @@ adr_lt w v h = insert_lt 5 19 (insert_bits 29 2 w v) (v / 4) 32 (omega arith) (i
 
 -- a patched number fits its field
 patched_lt : (k : LabelUse) (offset target word : ℕ) → word < 4294967296 → patched_word k word offset target < 2 ^ (8 * patch_size k)
-patched_lt X86JmpRel32 offset target word h = mod-lt _ (omega arith)
-patched_lt X86BranchRel8 offset target word h = mod-lt _ (omega arith)
-patched_lt A64Branch14 offset target word h = insert_lt 5 14 word (minus target offset / 4) 32 (omega arith) h
-patched_lt A64Branch19 offset target word h = insert_lt 5 19 word (minus target offset / 4) 32 (omega arith) h
-patched_lt A64Branch26 offset target word h = insert_lt 0 26 word (minus target offset / 4) 32 (omega arith) h
-patched_lt A64Ldr19 offset target word h = insert_lt 5 19 word (minus target offset / 4) 32 (omega arith) h
-patched_lt A64Adr21 offset target word h = adr_lt word (minus target offset) h
-patched_lt A64Adrp21 offset target word h = adr_lt word (minus (target / 4096) (offset / 4096)) h
-patched_lt A64AddAbsLo12 offset target word h = insert_lt 10 12 word target 32 (omega arith) h
+patched_lt k offset target word h = search (rules, mod-lt, insert_lt, adr_lt)
 
 -- a number of one byte or of four, written and read
 number_read : (size v : ℕ) → (size ≡ 1) ⊎ (size ≡ 4) → v < 2 ^ (8 * size) → word_at (take size (bytes_of v)) 0 ≡ v

@@ -1,5 +1,5 @@
 -- The inverse branch is one of the same kind, and is taken exactly if the branch is not.
-use Rattle.std.proofs.Common.{◌≡◌, ℕ, ◌+◌, ◌-◌, ◌*◌, ◌/◌, ◌%◌, ◌^◌, ◌<◌, Bool, true, false, not, ◌&&◌, ◌||◌, eqb, ltb, ◌⊎◌, get_or, sym, refl, ap, ◌∙◌, inl, inr, ⊎_elim, arith, ltb-true, eq-eqb, ne_eqb, eqb-true}
+use Rattle.std.proofs.Common.{rules, ◌≡◌, ℕ, ◌+◌, ◌-◌, ◌*◌, ◌/◌, ◌%◌, ◌^◌, ◌<◌, Bool, true, not, ◌&&◌, ◌||◌, eqb, ltb, ◌⊎◌, get_or, ◌∙◌, ⊎_elim, arith, ltb-true, eq-eqb, ne_eqb, eqb-true}
 use Rattle.seqs.specs.Pick.{pick}
 use Rattle.seqs.proofs.Picking.{yes_eq, no_eq}
 use Rattle.seqs.proofs.Booleans.{both_true}
@@ -31,16 +31,10 @@ above_0 w = omega arith
 
 -- of two bits, one is the other's inverse where it is not the other
 other_bit : (x b : ℕ) → x < 2 → b < 2 → eqb x (1 - b) ≡ not (eqb x b)
-other_bit x b h l =
-    ⊎_elim
-    (λ (e : x ≡ b). ne_eqb x (1 - b) (λ f. omega arith) ∙ sym (ap not (eq-eqb x b e)))
-    (λ ne. eq-eqb x (1 - b) (⊎_elim (λ (z : x ≡ 0). ⊎_elim (λ (y : b ≡ 0). absurd (ne (omega arith))) (λ y. omega arith) (eq_or_ne b 0)) (λ z. ⊎_elim (λ (y : b ≡ 1). absurd (ne (omega arith))) (λ y. omega arith) (eq_or_ne b 1)) (eq_or_ne x 0)) ∙ sym (ap not (ne_eqb x b ne)))
-    (eq_or_ne x b)
+other_bit x b h l = grind (arith, eq-eqb, ne_eqb)
 
 same_not : (a b : Bool) → same a (not b) ≡ not (same a b)
-same_not true b = refl
-same_not false true = refl
-same_not false false = refl
+same_not a b = search rules
 
 bit_small : (at r : ℕ) → bits at at r < 2
 bit_small at r = let e : at + 1 - at ≡ 1 = omega arith in rw e (omega arith)
@@ -67,11 +61,7 @@ module _ (w : ℕ) where
       rw (b5, b40, rt, turned_24 w) (other_bit (bits at at r) (bits 24 24 w) (bit_small at r) (omega arith))
 
   op_inverts : eqb (1 - bits 24 24 w) 0 ≡ not (eqb (bits 24 24 w) 0)
-  op_inverts =
-      ⊎_elim
-      (λ (e : bits 24 24 w ≡ 0). ne_eqb (1 - bits 24 24 w) 0 (λ f. omega arith) ∙ sym (ap not (eq-eqb (bits 24 24 w) 0 e)))
-      (λ ne. eq-eqb (1 - bits 24 24 w) 0 (omega arith) ∙ sym (ap not (ne_eqb (bits 24 24 w) 0 ne)))
-      (eq_or_ne (bits 24 24 w) 0)
+  op_inverts = grind (arith, eq-eqb, ne_eqb)
 
   pub compare_inverts : (s : State) → compare_holds s (turned 24 w) ≡ not (compare_holds s w)
   unfolding compare_holds
@@ -97,23 +87,10 @@ module _ (w : ℕ) where
 
 low_turns : (b : ℕ) (base : Bool) → b < 2 → pick (eqb (1 - b) 1) (not base) base ≡ not (pick (eqb b 1) (not base) base)
 unfolding pick
-low_turns b base h =
-    ⊎_elim
-    (λ (e : b ≡ 0). rw (e) (by_base base))
-    (λ ne. let e : b ≡ 1 = omega arith in rw (e) (twice base))
-    (eq_or_ne b 0)
-  where
-    by_base : (t : Bool) → pick (eqb 1 1) (not t) t ≡ not (pick (eqb 0 1) (not t) t)
-    by_base true = refl
-    by_base false = refl
-
-    twice : (t : Bool) → pick (eqb 0 1) (not t) t ≡ not (pick (eqb 1 1) (not t) t)
-    twice true = refl
-    twice false = refl
+low_turns b base h = search rules
 
 and-true : (t : Bool) → (t && true) ≡ t
-and-true true = refl
-and-true false = refl
+and-true t = search rules
 
 -- the eight pairs of conditions, of which AL is none that a branch records
 holds_below : (s : State) (cond : ℕ) → cond < 14
@@ -133,8 +110,7 @@ pub data Kind (code w : ℕ) : Type 0 where
   flags : code ≡ 10 → is_on_flags w ≡ true → bits 3 0 w < 14 → Kind code w
 
 either_of : (a b : Bool) → (a || b) ≡ true → (a ≡ true) ⊎ (b ≡ true)
-either_of true b h = inl refl
-either_of false b h = inr h
+either_of a b h = search rules
 
 pub kind_of : (code w : ℕ) → is_branch code w ≡ true → Kind code w
 unfolding is_branch

@@ -1,20 +1,8 @@
 -- Patching changes no bit outside the field.
-use Rattle.std.proofs.Common.{◌≡◌, ℕ, ◌+◌, ◌-◌, ◌*◌, ◌/◌, ◌%◌, ◌^◌, ◌<◌, ◌≤◌, true, false, ◌||◌, ◌⊎◌, sym, ap, ◌∙◌, inl, inr, ⊎_elim, arith, lt-ltb, le-leb}
+use Rattle.std.proofs.Common.{rules, ◌≡◌, ℕ, ◌+◌, ◌-◌, ◌*◌, ◌/◌, ◌%◌, ◌^◌, ◌<◌, ◌≤◌, true, false, ◌||◌, ◌⊎◌, sym, ap, ◌∙◌, inl, inr, ⊎_elim, arith, lt-ltb, le-leb}
 use Rattle.seqs.proofs.Booleans.{true_is_not_false, both_false}
 use Rattle.seqs.proofs.Numbers.{lt_or_ge}
 use Rattle.fields.specs.declared.LabelUse.{LabelUse}
-use Rattle.fields.specs.declared.LabelUse.TheVariants.{
-  X86JmpRel32,
-  X86BranchRel8,
-  A64Branch14,
-  A64Branch19,
-  A64Branch26,
-  A64Ldr19,
-  A64Adr21,
-  A64Adrp21,
-  A64AddAbsLo12,
-}
-use Rattle.fields.specs.Words64.{minus}
 use Rattle.fields.specs.Bits.{bits, insert_bits}
 use Rattle.fields.specs.Kinds.{patch_size}
 use Rattle.fields.specs.Patch.{patched_word, insert_adr}
@@ -59,12 +47,4 @@ inside size i l h = ⊎_elim (λ below. omega arith) (λ above. omega arith) (ou
 -- Of the bits of a field's bytes, those that are not the field's own stay.
 pub outside_stays : (k : LabelUse) (word offset target i : ℕ) → i < 8 * patch_size k → in_field k i ≡ false
     → bits i i (patched_word k word offset target) ≡ bits i i word
-outside_stays X86JmpRel32 word offset target i l h = absurd (inside 32 i l h)
-outside_stays X86BranchRel8 word offset target i l h = absurd (inside 8 i l h)
-outside_stays A64Branch14 word offset target i l h = insert_outside 5 14 word (minus target offset / 4) i h
-outside_stays A64Branch19 word offset target i l h = insert_outside 5 19 word (minus target offset / 4) i h
-outside_stays A64Branch26 word offset target i l h = insert_outside 0 26 word (minus target offset / 4) i h
-outside_stays A64Ldr19 word offset target i l h = insert_outside 5 19 word (minus target offset / 4) i h
-outside_stays A64Adr21 word offset target i l h = adr_outside word (minus target offset) i h
-outside_stays A64Adrp21 word offset target i l h = adr_outside word (minus (target / 4096) (offset / 4096)) i h
-outside_stays A64AddAbsLo12 word offset target i l h = insert_outside 10 12 word target i h
+outside_stays k word offset target i l h = search (rules, insert_outside, adr_outside, inside)

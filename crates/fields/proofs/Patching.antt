@@ -1,45 +1,18 @@
 -- What `patch_with_addend` does, branch by branch.
-use Rattle.std.proofs.Common.{◌≡◌, ℕ, ◌%◌, ◌≢◌, List, length, take, set, refl, ◌∙◌, arith, eq-eqb, ne_eqb}
+use Rattle.std.proofs.Common.{rules, ◌≡◌, ℕ, ◌%◌, ◌≢◌, List, length, take, set, ◌∙◌, arith, eq-eqb, ne_eqb}
 use Rattle.seqs.proofs.Overwrites.{set_over, over_all}
 use Rattle.words.specs.Words.{word_at, set_word, bytes_of}
 use Rattle.fields.specs.declared.LabelUse.{LabelUse}
-use Rattle.fields.specs.declared.LabelUse.TheVariants.{
-  X86JmpRel32,
-  X86BranchRel8,
-  A64Branch14,
-  A64Branch19,
-  A64Branch26,
-  A64Ldr19,
-  A64Adr21,
-  A64Adrp21,
-  A64AddAbsLo12,
-}
 use Rattle.fields.specs.Kinds.{patch_size}
 use Rattle.fields.specs.Patch.{patched_word, patched}
 
 -- a field has one byte or four
 pub four_unless_one : (k : LabelUse) → patch_size k ≢ 1 → patch_size k ≡ 4
-four_unless_one X86JmpRel32 h = refl
-four_unless_one X86BranchRel8 h = absurd (h refl)
-four_unless_one A64Branch14 h = refl
-four_unless_one A64Branch19 h = refl
-four_unless_one A64Branch26 h = refl
-four_unless_one A64Ldr19 h = refl
-four_unless_one A64Adr21 h = refl
-four_unless_one A64Adrp21 h = refl
-four_unless_one A64AddAbsLo12 h = refl
+four_unless_one k h = search rules
 
 -- what a one-byte field holds does not matter
 one_ignores_held : (k : LabelUse) (word offset target : ℕ) → patch_size k ≡ 1 → patched_word k 0 offset target ≡ patched_word k word offset target
-one_ignores_held X86JmpRel32 word offset target h = let z : ⊥ = omega arith in absurd z
-one_ignores_held X86BranchRel8 word offset target h = refl
-one_ignores_held A64Branch14 word offset target h = let z : ⊥ = omega arith in absurd z
-one_ignores_held A64Branch19 word offset target h = let z : ⊥ = omega arith in absurd z
-one_ignores_held A64Branch26 word offset target h = let z : ⊥ = omega arith in absurd z
-one_ignores_held A64Ldr19 word offset target h = let z : ⊥ = omega arith in absurd z
-one_ignores_held A64Adr21 word offset target h = let z : ⊥ = omega arith in absurd z
-one_ignores_held A64Adrp21 word offset target h = let z : ⊥ = omega arith in absurd z
-one_ignores_held A64AddAbsLo12 word offset target h = let z : ⊥ = omega arith in absurd z
+one_ignores_held k word offset target h = search rules
 
 module _ (k : LabelUse) (offset target : ℕ) (bytes : List ℕ) where
   pub patched_other : length bytes ≢ patch_size k → patched k offset target bytes ≡ bytes

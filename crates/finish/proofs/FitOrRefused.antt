@@ -8,7 +8,9 @@ use borrow.Author.Tests.{not-false, eqb-true, ltb-false}
 use lib.Dec.{eqb, ltb}
 use lib.ListN.{length}
 use Rattle.refusals.specs.Numbers as refusals
-use Rattle.seqs.proofs.Picking.{pick_yes, pick_no, yes_eq, no_eq, yes_ne, no_ne, yes_not, no_not, yes_lt, no_lt, passed, neither}
+use Rattle.refusals.proofs.Chains.{past_first}
+use Rattle.seqs.specs.Pick.{pick}
+use Rattle.seqs.proofs.Picking.{pick_yes, pick_no, yes_ne, no_ne, yes_not, no_not, yes_lt, no_lt, passed, neither}
 use Rattle.buffer.specs.Refusals.{standing}
 use Rattle.buffer.proofs.Standing.{stands}
 use Rattle.buffer.specs.Tables.{most_entries, most_code}
@@ -19,7 +21,7 @@ use Rattle.recording.specs.View.{view}
 use Rattle.recording.specs.Open.{open_of}
 use Rattle.recording.proofs.Naming.{open_count_lem}
 use Rattle.fresh.specs.Pooled.{pooled}
-use Rattle.pool.specs.steps.Pool.{pool_start, is_any_bound}
+use Rattle.pool.specs.steps.Pool.{pool_start, is_any_bound, PoolFits, PoolLabels}
 use Rattle.checks.specs.Entries.{entries_fit}
 use Rattle.checks.specs.steps.Handed.{CountsFit, tables}
 use Rattle.checks.proofs.Sound.{fits_sound, code_unread}
@@ -27,7 +29,7 @@ use Rattle.checks.specs.Lent.{counts_fit, within_limits}
 use Rattle.finish.specs.Refusals.{pool_bound_before, why_unfit}
 use Rattle.checks.proofs.CountsWithinLimits.{Counted, counted, counted_namers}
 use Rattle.finish.proofs.PooledTables.{Tied}
-use Rattle.finish.proofs.SoundRecording.{tied, pooled_ends}
+use Rattle.finish.proofs.SoundRecording.{tied, pool_fits, pool_labels, pooled_ends}
 use Rattle.finish.proofs.ScansAgree.{pool_bound_lem}
 
 module _ (r : Recording) (segments output : ℕ) (stood : standing r.buffer (counts_fit r) (within_limits r segments output) ≡ 0) where
@@ -76,51 +78,73 @@ pub entries_read : (r : Recording) (x t : Bool) → x ≡ entries_fit (tables r.
     → entries_fit r ≡ t
 entries_read r x t e f = sym (code_unread r) ∙ sym e ∙ f
 
--- The answers of what finish asks first.
-module _ (r : Recording) (segments output : ℕ) where
-  pub unfit_standing : (why : ℕ) → why ≡ standing r.buffer (counts_fit r) (within_limits r segments output) → why ≢ 0 → why ≡ why_unfit r segments output
-  unfolding why_unfit
-  unfit_standing why e ne = rw (← e) (sym (no_eq why 0 _ _ ne))
+-- The answers of what finish asks first, question by question; `stood`: 1 to 4 are past.
+module _ (r : Recording) (segments output : ℕ) (stood : 0 ≡ standing r.buffer (counts_fit r) (within_limits r segments output)) where
+  pub stood_counts : CountsFit r.buffer r.labels r.events r.uses r.refs r.constants r.asked r.relocs
+  stood_counts = counts r segments output (sym stood)
 
-  module _ (stood : standing r.buffer (counts_fit r) (within_limits r segments output) ≡ 0) where
-    pub unfit_entries : entries_fit r ≡ false → refusals.malformed ≡ why_unfit r segments output
+  pub stood_namers : NamersFit r.buffer r.events r.uses r.refs r.relocs
+  stood_namers = namers r segments output (sym stood)
+
+  module _ {fits : Bool} (fits·answer : fits ≡ entries_fit (tables r.buffer r.labels r.events r.uses r.refs r.constants r.asked r.relocs)) where
+    pub unfit_entries : fits ≡ false → refusals.malformed ≡ why_unfit r segments output
     unfolding why_unfit
-    unfit_entries e = sym (yes_eq _ 0 _ _ stood ∙ yes_not (entries_fit r) 1 _ e)
+    unfit_entries e = past_first stood (sym (yes_not (entries_fit r) 1 _ (entries_read r fits false fits·answer e)))
 
-    module _ (fit : entries_fit r ≡ true) where
-      -- a number of open entries that is not the count over the tables
-      pub unfit_open : open_count r.buffer r.labels r.events r.uses r.refs r.relocs ≢ r.buffer.unresolved → refusals.malformed ≡ why_unfit r segments output
-      unfolding why_unfit
-      unfit_open ne =
-          sym (yes_eq _ 0 _ _ stood ∙ no_not (entries_fit r) 1 _ fit ∙ yes_ne r.buffer.unresolved (open_of (view r)) 1 _ (λ e. ne (sym (open_count_lem r) ∙ sym e)))
+    module _ (holds : fits ≡ true) where
+      fit : entries_fit r ≡ true
+      fit = entries_read r fits true fits·answer holds
 
-      module _ (right : r.buffer.unresolved ≡ open_of (view r)) where
-        pub unfit_bound : is_any_bound r.labels r.constants r.asked r.buffer.asked ≡ true → refusals.pool_label_bound ≡ why_unfit r segments output
+      pub stood_pool : PoolFits r.constants r.asked r.buffer.asked
+      stood_pool = pool_fits r (sound r segments output (sym stood) fit) (asked_few r segments output (sym stood))
+
+      pub stood_labels : PoolLabels r.labels r.constants r.asked r.buffer.asked
+      stood_labels = pool_labels r (sound r segments output (sym stood) fit) (asked_few r segments output (sym stood))
+
+      pub stood_code : r.buffer.code ≤ most_code
+      stood_code = (code_fits r segments output (sym stood)).limit
+
+      module _ {number : ℕ} (open·answer : number ≡ open_count r.buffer r.labels r.events r.uses r.refs r.relocs) where
+        -- a number of open entries that is not the count over the tables
+        pub unfit_open : number ≢ r.buffer.unresolved → refusals.malformed ≡ why_unfit r segments output
         unfolding why_unfit
-        unfit_bound e =
-            sym (yes_eq _ 0 _ _ stood
-            ∙ no_not (entries_fit r) 1 _ fit
-            ∙ no_ne r.buffer.unresolved (open_of (view r)) 1 _ right
-            ∙ pick_yes (pool_bound_before (view r)) 13 _ (bound_before r segments output stood fit ∙ e))
+        unfit_open ne =
+            past_first stood
+            (sym (no_not (entries_fit r) 1 _ fit
+            ∙ yes_ne r.buffer.unresolved (open_of (view r)) 1 _ (λ e. ne (open·answer ∙ sym (open_count_lem r) ∙ sym e))))
 
-        module _ (free : is_any_bound r.labels r.constants r.asked r.buffer.asked ≡ false) where
-          pub unfit_long : most_code < pool_start r.buffer.code r.constants r.asked r.buffer.asked → refusals.pool_too_large ≡ why_unfit r segments output
-          unfolding why_unfit
-          unfit_long h =
-              sym (yes_eq _ 0 _ _ stood
-              ∙ no_not (entries_fit r) 1 _ fit
-              ∙ no_ne r.buffer.unresolved (open_of (view r)) 1 _ right
-              ∙ pick_no (pool_bound_before (view r)) 13 _ (bound_before r segments output stood fit ∙ free)
-              ∙ yes_lt most_code (length (pooled r.buffer.arch (view r)).code) refusals.pool_too_large 0 (omega (arith, h, pooled_ends r (sound r segments output stood fit) (asked_few r segments output stood))))
+        module _ (right : number ≡ r.buffer.unresolved) {bound : Bool} (bound·answer : bound ≡ is_any_bound r.labels r.constants r.asked r.buffer.asked) where
+          opened : r.buffer.unresolved ≡ open_of (view r)
+          opened = sym right ∙ open·answer ∙ sym (open_count_lem r)
 
-          pub unfit_none : pool_start r.buffer.code r.constants r.asked r.buffer.asked ≤ most_code → 0 ≡ why_unfit r segments output
+          before : pool_bound_before (view r) ≡ bound
+          before = bound_before r segments output (sym stood) fit ∙ sym bound·answer
+
+          pub unfit_bound : bound ≡ true → refusals.pool_label_bound ≡ why_unfit r segments output
           unfolding why_unfit
-          unfit_none h =
-              sym (yes_eq _ 0 _ _ stood
-              ∙ no_not (entries_fit r) 1 _ fit
-              ∙ no_ne r.buffer.unresolved (open_of (view r)) 1 _ right
-              ∙ pick_no (pool_bound_before (view r)) 13 _ (bound_before r segments output stood fit ∙ free)
-              ∙ no_lt most_code (length (pooled r.buffer.arch (view r)).code) refusals.pool_too_large 0 (omega (arith, h, pooled_ends r (sound r segments output stood fit) (asked_few r segments output stood))))
+          unfit_bound e =
+              past_first stood
+              (sym (no_not (entries_fit r) 1 _ fit
+              ∙ no_ne r.buffer.unresolved (open_of (view r)) 1 _ opened
+              ∙ pick_yes (pool_bound_before (view r)) 13 _ (before ∙ e)))
+
+          module _ (free : bound ≡ false) {end : ℕ} (end·answer : end ≡ pool_start r.buffer.code r.constants r.asked r.buffer.asked) where
+            ends : end ≡ length (pooled r.buffer.arch (view r)).code
+            ends = end·answer ∙ sym (pooled_ends r (sound r segments output (sym stood) fit) (asked_few r segments output (sym stood)))
+
+            past : {k : ℕ} → k ≡ pick (ltb most_code (length (pooled r.buffer.arch (view r)).code)) refusals.pool_too_large 0 → k ≡ why_unfit r segments output
+            unfolding why_unfit
+            past e =
+                past_first stood
+                (e ∙ sym (no_not (entries_fit r) 1 _ fit
+                ∙ no_ne r.buffer.unresolved (open_of (view r)) 1 _ opened
+                ∙ pick_no (pool_bound_before (view r)) 13 _ (before ∙ free)))
+
+            pub unfit_long : most_code < end → refusals.pool_too_large ≡ why_unfit r segments output
+            unfit_long h = past (sym (yes_lt most_code _ refusals.pool_too_large 0 (omega (arith, h, ends))))
+
+            pub unfit_none : end ≤ most_code → 0 ≡ why_unfit r segments output
+            unfit_none h = past (sym (no_lt most_code _ refusals.pool_too_large 0 (omega (arith, h, ends))))
 
 -- What a recording that passes knows.
 pub record Passed (r : Recording) (segments output : ℕ) : Type 0 where
@@ -146,3 +170,13 @@ passed_unfit r segments output h =
       free = sym (bound_before r segments output a.0 fit) ∙ d.0;
       short = omega (arith, ltb-false most_code (length (pooled r.buffer.arch (view r)).code) e.0, pooled_ends r (sound r segments output a.0 fit) (asked_few r segments output a.0));
     }
+
+module _ (r : Recording) (segments output : ℕ) (pass : Passed r segments output) where
+  pub passed_pool : PoolFits r.constants r.asked r.buffer.asked
+  passed_pool = pool_fits r (sound r segments output pass.stood pass.fit) (asked_few r segments output pass.stood)
+
+  pub passed_labels : PoolLabels r.labels r.constants r.asked r.buffer.asked
+  passed_labels = pool_labels r (sound r segments output pass.stood pass.fit) (asked_few r segments output pass.stood)
+
+  pub passed_code : r.buffer.code ≤ most_code
+  passed_code = (code_fits r segments output pass.stood).limit

@@ -8,7 +8,10 @@ use native.Mathlib.Omega.{arith}
 use borrow.Author.Tests.{ltb-false, not-false}
 use lib.Dec.{ltb}
 use lib.ListN.{length, take, drop, replicate}
+use Rattle.std.specs.Prelude.{Result, Err}
 use Rattle.refusals.specs.Numbers as refusals
+use Rattle.refusals.specs.declared.Refusal.{Refusal}
+use Rattle.refusals.specs.Answers.{number_of}
 use Rattle.seqs.specs.Over.{over}
 use Rattle.seqs.specs.Pick.{first, or_else}
 use Rattle.seqs.proofs.Numbers.{eq_or_ne}
@@ -41,13 +44,13 @@ use Rattle.fields.specs.Kinds.{size_of}
 use Rattle.checks.specs.steps.Fields.{refs_clear, why_unreached, why_uses}
 use Rattle.emit.specs.steps.Emit as emit
 use Rattle.emit.specs.steps.Emit.{mapped_words}
+use Rattle.layout.specs.declared.Summary.{Summary}
 use Rattle.layout.specs.steps.Layout.{all_events, finished_length, relaxed_by, Relaxed, Rising}
 use Rattle.layout.proofs.Pooling.{length_all}
 use Rattle.layout.proofs.Settled.{relaxed_entries, relaxed_settled, finished_placed, all_short_lem}
-use Rattle.finish.specs.declared.Outcome.{Outcome}
 use Rattle.seqs.specs.Every.{every}
 use Rattle.finish.specs.Refusals.{reaches_by, ref_reaches, why_not_laid, why_not_written, why_not_in_place}
-use Rattle.finish.specs.Finish.{refused_with, relocated, settled_segments, relaxed}
+use Rattle.finish.specs.Finish.{Outcome, outcome_of, refused_with, relocated, settled_segments, relaxed}
 use Rattle.finish.specs.steps.Tables.{tables_pooled, laid_pooled}
 use Rattle.finish.specs.steps.Ready.{Relaxable, Layable, code_written, end_of_runs, Writing, code_copied, Copying, Keepable, kept}
 use Rattle.finish.proofs.ScansAgree.{refs_clear_lem, uses_refused}
@@ -55,6 +58,10 @@ use Rattle.finish.proofs.RelaxedRequires.{rising_all, within_size, ref_beside, c
 use Rattle.finish.proofs.MappedTables.{word_over, labels_mapped, relocs_mapped, map_entries}
 use Rattle.finish.proofs.PooledInOrder.{pooled_length, jump_label}
 use Rattle.finish.proofs.FinishedCode.{code_written_lem, kept_length, code_kept}
+
+-- a stage that hands a refusal on
+pub handed_on : {placed : Result Summary Refusal} (why : Refusal) → placed ≡ Err why → outcome_of placed ≡ refused_with (number_of why)
+handed_on why e = ap outcome_of e
 
 -- 18 and 23, where what was found of the refs is said otherwise
 pub why_by : (len output : ℕ) {reach said : Bool} {why : ℕ} → reach ≡ said

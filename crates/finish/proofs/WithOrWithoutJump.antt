@@ -7,6 +7,7 @@ use Prim.Native.Nat.{ℕ, ◌+◌}
 use native.Mathlib.Omega.{arith}
 use lib.Dec.{eqb, ltb}
 use lib.ListN.{length, take}
+use Rattle.std.specs.Prelude.{Option, Some, None}
 use Rattle.refusals.specs.Numbers as refusals
 use Rattle.seqs.specs.Pick.{pick, first}
 use Rattle.seqs.proofs.Booleans.{true_is_not_false}
@@ -26,13 +27,19 @@ use Rattle.pool.specs.steps.Pool.{pool_event}
 use Rattle.emit.specs.steps.Emit.{WordsFit}
 use Rattle.checks.specs.Lent.{recording_of}
 use Rattle.checks.specs.steps.Fields.{refs_clear}
-use Rattle.finish.specs.declared.Outcome.{Outcome}
 use Rattle.finish.specs.Refusals.{all_bound, why_not_in_place}
-use Rattle.finish.specs.Finish.{Left, refused_with, relaxed, unrelaxed}
+use Rattle.finish.specs.Finish.{Outcome, Left, refused_with, relaxed, unrelaxed}
 use Rattle.finish.specs.steps.Tables.{tables_pooled, laid_pooled}
 use Rattle.finish.specs.steps.Ready.{Relaxable, Keepable, kept, Placeable, pooled_of, placed_as, Starts}
 use Rattle.finish.proofs.ScansAgree.{none_open, moves_is}
 use Rattle.finish.proofs.StageAnswers.{refused_early}
+
+abbrev or_given : {A : Type 0} → A → Option A → A
+or_given x None = x
+or_given x (Some y) = y
+
+pub given : {A : Type 0} {x y : A} → Some x ≡ Some y → x ≡ y
+given {x = x} e = ap (or_given x) e
 
 no_entries : {A : Type 0} (f : ℕ → A) (t : Bool) (n : ℕ) → cond t (tables.entries f n) [] ≡ tables.entries f (cond t n 0)
 no_entries f true n = refl

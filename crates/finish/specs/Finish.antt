@@ -1,7 +1,9 @@
 -- What finish answers and leaves in everything that it is lent, for every input: document 01, "finish"; document 02, Request One, "The finished record
 -- gives ..".
-use Rattle.std.specs.Prelude.{List, map, ℕ, zero, suc, ◌*◌, eqb, length}
+use Rattle.std.specs.Prelude.{List, map, ℕ, zero, suc, ◌*◌, eqb, length, Result, Ok, Err}
 use Rattle.refusals.specs.Numbers as refusals
+use Rattle.refusals.specs.declared.Refusal.{Refusal}
+use Rattle.refusals.specs.Answers.{number_of}
 use Rattle.seqs.specs.Over.{over}
 use Rattle.seqs.specs.Pick.{pick}
 use Rattle.words.specs.Words.{word_at, set_word, over_words}
@@ -10,15 +12,28 @@ use Rattle.buffer.specs.declared.CodeBuffer.{CodeBuffer}
 use Rattle.buffer.specs.Tables.{reloc_words}
 use Rattle.recording.specs.Calls.{Recording}
 use Rattle.recording.specs.View.{view}
+use Rattle.layout.specs.declared.Summary.{Summary}
 use Rattle.fresh.specs.Pooled.{Pooled, pooled, code_alignment}
 use Rattle.fresh.specs.Fresh.{moved}
 use Rattle.fresh.specs.Rounds.{settled}
 use Rattle.fresh.specs.Fill.{assembled, in_place}
 use Rattle.fresh.specs.Segments.{map_offset, segments_of}
 use Rattle.fresh.specs.Forms.{moves}
-use Rattle.finish.specs.declared.Finished.{Finished}
-use Rattle.finish.specs.declared.Outcome.{Outcome}
+use Rattle.finish.specs.declared.CodeBufferFinalized.{CodeBufferFinalized}
+use Rattle.finish.specs.declared.Finished as program
 use Rattle.finish.specs.Refusals.{all_bound, why_not_laid, why_not_written, why_not_in_place, why_unfit}
+
+-- the recording after a finish, 0 or the refusal's number, and the record; it has zeros where finish refuses
+pub record Finished : Type 0 where
+  pub buffer : CodeBuffer
+  pub refusal : ℕ
+  pub code : CodeBufferFinalized
+
+-- what becomes of a pooled recording: 0 or the refusal's number, bytes of finished code, rounds
+pub record Outcome : Type 0 where
+  pub refusal : ℕ
+  pub len : ℕ
+  pub layouts : ℕ
 
 -- the table of relocations, whose entries are six words, with each of the first n offsets mapped
 unfoldable pub relocated : (ℕ → ℕ) → List ℕ → ℕ → List ℕ
@@ -35,6 +50,11 @@ Left = List ℕ × (List ℕ × (List Segment × List ℕ))
 
 abbrev pub refused_with : ℕ → Outcome
 refused_with why = record { refusal = why; len = 0; layouts = 0 }
+
+-- what the program answers, in these words
+abbrev pub outcome_of : Result Summary Refusal → Outcome
+outcome_of (Ok laid) = record { refusal = 0; len = laid.len; layouts = laid.layouts }
+outcome_of (Err why) = refused_with (number_of why)
 
 -- With a jump: "Then labels, relocations and pool offsets are mapped, refs patched in order, then jumps". 18 and 23 leave the settled segments, 16 and 17
 -- leave the table untouched.
@@ -86,6 +106,14 @@ finished_with b alignment placed =
 abbrev pub unfinished : CodeBuffer → ℕ → Finished
 unfinished b why =
     record { buffer = b; refusal = why; code = record { arch = 0; len = 0; alignment = 0; layouts = 0; labels = 0; relocs = 0 } }
+
+-- what the program answers, in these words
+abbrev pub finished_by : CodeBuffer → Result CodeBufferFinalized Refusal → Finished
+finished_by b (Ok code) = record { buffer = b; refusal = 0; code = code }
+finished_by b (Err why) = unfinished b (number_of why)
+
+abbrev pub finished_as : program.Finished → Finished
+finished_as f = finished_by f.buffer f.answer
 
 -- once the recording is fit: 15, then with or without a jump
 unfoldable pub placed_by : Pooled → Recording → List Segment → List ℕ → Outcome × Left

@@ -2,15 +2,19 @@
 // the output before the last of them is past, and a table that was written to for a while is as before where finish is refused.
 #![tactic(auto)]
 
-ghost use Rattle.std.specs.Prelude.{◌≡◌, true, false, List, length};
+ghost use Rattle.std.specs.Prelude.{◌≡◌, List, length, Some, None, Ok};
+ghost use Rattle.refusals.specs.Answers.{answer_of};
 ghost use Rattle.relax.specs.declared.Segment.{Segment};
 ghost use Rattle.pool.specs.steps.Pool.{PoolFits, PoolLabels};
 ghost use Rattle.checks.specs.Lent.{recording_of};
 ghost use Rattle.finish.specs.Refusals.{why_unfit};
-ghost use Rattle.finish.specs.Finish.{unfinished, finished_with, finish};
+ghost use Rattle.finish.specs.declared.Finished as program;
+ghost use Rattle.finish.specs.Finish.{finished_with, outcome_of, finished_as, finish};
 ghost use Rattle.finish.specs.steps.Ready.{concluded, Begins};
 
 use buffer::CodeBuffer;
+use layout::Summary;
+use refusals::Refusal;
 use relax::Segment;
 
 mod pooled;
@@ -30,34 +34,11 @@ pub struct CodeBufferFinalized {
     pub relocs: u32,
 }
 
-// The recording after a finish, 0 or the refusal's number, and the record.
+// The recording after a finish, and the record or the refusal.
 #[derive(Clone, Copy)]
 pub struct Finished {
     pub buffer: CodeBuffer,
-    pub refusal: u32,
-    pub code: CodeBufferFinalized,
-}
-
-// What becomes of a pooled recording: 0 or the refusal's number, bytes of finished code, rounds.
-#[derive(Clone, Copy)]
-pub struct Outcome {
-    pub refusal: u32,
-    pub len: u32,
-    pub layouts: u32,
-}
-
-// What becomes of it before a layout: whether one is to be made, and if none is, the outcome.
-#[derive(Clone, Copy)]
-pub struct Started {
-    pub relax: bool,
-    pub outcome: Outcome,
-}
-
-// What finish comes to before a layout: whether one is to be made, and if none is, what it answers.
-#[derive(Clone, Copy)]
-struct Begun {
-    relax: bool,
-    finished: Finished,
+    pub answer: Result<CodeBufferFinalized, Refusal>,
 }
 
 // 1 to 4 as every call, 1 for an entry that no recording writes and for a wrong number of open ones, 13 and 14.
@@ -73,65 +54,43 @@ fn why_unfit(
     relocs: &[u8],
     segments: usize,
     output: usize,
-) -> u32
-    ensures { result ≡ why_unfit (recording_of b code.now labels.now events.now uses.now refs.now constants.now asked.now relocs.now) segments output }
+) -> Result<(), Refusal>
+    ensures { answer_of result ≡ why_unfit (recording_of b code.now labels.now events.now uses.now refs.now constants.now asked.now relocs.now) segments output }
 {
-    let why = checks::lent::why_not_standing(
+    checks::lent::why_not_standing(
         b, code, labels, events, uses, refs, constants, asked, relocs, segments, output,
-    );
-    if why != 0 {
-        return why;
-    }
+    )?;
     if !checks::entries::entries_fit(b, labels, events, uses, refs, constants, asked, relocs) {
-        return refusals::MALFORMED;
+        return Err(Refusal::Malformed);
     }
     if b.count_open(labels, events, uses, refs, relocs) != b.unresolved {
-        return refusals::MALFORMED;
+        return Err(Refusal::Malformed);
     }
     let m = b.asked as usize;
     if pool::is_any_bound(labels, constants, asked, m) {
-        return refusals::POOL_LABEL_BOUND;
+        return Err(Refusal::PoolLabelBound);
     }
     if buffer::MOST_CODE < pool::pool_end(b.code, constants, asked, m) as usize {
-        return refusals::POOL_TOO_LARGE;
+        return Err(Refusal::PoolTooLarge);
     }
-    0
+    Ok(())
 }
 
-// A refused finish leaves the recording as it is.
-fn unfinished(b: CodeBuffer, why: u32) -> Finished
-    ensures { result ≡ unfinished b why }
-{
-    Finished {
-        buffer: b,
-        refusal: why,
-        code: CodeBufferFinalized {
-            arch: 0,
-            len: 0,
-            alignment: 0,
-            layouts: 0,
-            labels: 0,
-            relocs: 0,
-        },
-    }
-}
-
-fn finished_with(mut b: CodeBuffer, alignment: u32, placed: Outcome) -> Finished
-    ensures { result ≡ finished_with b alignment placed }
+fn finished_with(mut b: CodeBuffer, alignment: u32, laid: Summary) -> Finished
+    ensures { finished_as result ≡ finished_with b alignment (outcome_of (Ok laid)) }
 {
     b.finished = 1;
     b.unresolved = 0;
     Finished {
         buffer: b,
-        refusal: 0,
-        code: CodeBufferFinalized {
+        answer: Ok(CodeBufferFinalized {
             arch: b.arch,
-            len: placed.len,
+            len: laid.len,
             alignment,
-            layouts: placed.layouts,
+            layouts: laid.layouts,
             labels: b.labels,
             relocs: b.relocs,
-        },
+        }),
     }
 }
 
@@ -141,21 +100,28 @@ fn conclude(
     labels: &mut [u8],
     constants: &[u8],
     asked: &[u8],
-    placed: Outcome,
+    placed: Result<Summary, Refusal>,
 ) -> Finished
     requires pool_fits { PoolFits constants.now asked.now b.asked }
     requires pool_labels { PoolLabels labels.old constants.now asked.now b.asked }
-    ensures { (result, labels.new) ≡ concluded b constants.now asked.now placed labels.old }
+    ensures { (finished_as result, labels.new) ≡ concluded b constants.now asked.now (outcome_of placed) labels.old }
 {
-    if placed.refusal != 0 {
-        pool::unbind(labels, constants, asked, b.asked as usize);
-        return unfinished(b, placed.refusal);
+    match placed {
+        Ok(laid) => {
+            let alignment = pool::code_alignment(constants, asked, b.asked as usize);
+            finished_with(b, alignment, laid)
+        }
+        Err(why) => {
+            pool::unbind(labels, constants, asked, b.asked as usize);
+            Finished {
+                buffer: b,
+                answer: Err(why),
+            }
+        }
     }
-    let alignment = pool::code_alignment(constants, asked, b.asked as usize);
-    finished_with(b, alignment, placed)
 }
 
-// Finish up to a layout: 1 to 17, and without a jump all of it. `segments` is how many there is room for.
+// Finish up to a layout: 1 to 17, and without a jump all of it; none where a layout is to be made. `segments` is how many there is room for.
 fn begin(
     b: CodeBuffer,
     code: &[u8],
@@ -168,11 +134,11 @@ fn begin(
     relocs: &[u8],
     segments: usize,
     output: &mut [u8],
-) -> Begun
-    ensures output_after { result.relax ≡ false → (ss : List Segment) → length ss ≡ segments → (result.finished, (labels.new, (relocs.now, (ss, output.new)))) ≡ finish (recording_of b code.now labels.old events.now uses.now refs.now constants.now asked.now relocs.now) ss output.old }
-    ensures begins { result.relax ≡ true → Begins (recording_of b code.now labels.old events.now uses.now refs.now constants.now asked.now relocs.now) labels.new output.old output.new segments }
+) -> Option<Finished>
+    ensures output_after { (f : program.Finished) → result ≡ Some f → (ss : List Segment) → length ss ≡ segments → (finished_as f, (labels.new, (relocs.now, (ss, output.new)))) ≡ finish (recording_of b code.now labels.old events.now uses.now refs.now constants.now asked.now relocs.now) ss output.old }
+    ensures begins { result ≡ None → Begins (recording_of b code.now labels.old events.now uses.now refs.now constants.now asked.now relocs.now) labels.new output.old output.new segments }
 {
-    let why = why_unfit(
+    if let Err(why) = why_unfit(
         b,
         code,
         labels,
@@ -184,28 +150,17 @@ fn begin(
         relocs,
         segments,
         output.len(),
-    );
-    if why != 0 {
-        return Begun {
-            relax: false,
-            finished: unfinished(b, why),
-        };
+    ) {
+        return Some(Finished {
+            buffer: b,
+            answer: Err(why),
+        });
     }
     pool::bind(b.code, labels, constants, asked, b.asked as usize);
-    let started = pooled::start(
+    let placed = pooled::start(
         b, code, labels, events, uses, refs, constants, asked, relocs, segments, output,
-    );
-    if started.relax {
-        return Begun {
-            relax: true,
-            finished: unfinished(b, 0),
-        };
-    }
-    let outcome = started.outcome;
-    Begun {
-        relax: false,
-        finished: conclude(b, labels, constants, asked, outcome),
-    }
+    )?;
+    Some(conclude(b, labels, constants, asked, placed))
 }
 
 // Finishes a recording: pools its constants, relaxes its jumps and writes its code to `output`. On success `labels` and `relocs` hold final offsets. The
@@ -223,9 +178,9 @@ pub fn finish(
     segments: &mut [Segment],
     output: &mut [u8],
 ) -> Finished
-    ensures { (result, (labels.new, (relocs.new, (segments.new, output.new)))) ≡ finish (recording_of b code.now labels.old events.now uses.now refs.now constants.now asked.now relocs.old) segments.old output.old }
+    ensures { (finished_as result, (labels.new, (relocs.new, (segments.new, output.new)))) ≡ finish (recording_of b code.now labels.old events.now uses.now refs.now constants.now asked.now relocs.old) segments.old output.old }
 {
-    let begun = begin(
+    if let Some(finished) = begin(
         b,
         code,
         labels,
@@ -237,9 +192,8 @@ pub fn finish(
         relocs,
         segments.len(),
         output,
-    );
-    if !begun.relax {
-        return begun.finished;
+    ) {
+        return finished;
     }
     let placed = pooled::relaxed(
         b, code, labels, events, refs, constants, asked, relocs, segments, output,

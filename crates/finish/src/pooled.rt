@@ -1,6 +1,8 @@
 // What becomes of a recording once its entries are checked and the pool's labels are bound: with a jump it is laid out anew, without one it stays as it is.
-ghost use Rattle.std.specs.Prelude.{◌≡◌, true, false, not, List, [], ◌∷◌, ◌+◌, ◌*◌, ◌≤◌, ◌<◌, eqb, ltb, length, take, replicate};
+ghost use Rattle.std.specs.Prelude.{◌≡◌, false, not, Result, Some, None, List, [], ◌∷◌, ◌+◌, ◌*◌, ◌≤◌, ◌<◌, eqb, ltb, length, take, replicate};
 ghost use Rattle.refusals.specs.Numbers as refusals;
+ghost use Rattle.refusals.specs.declared.Refusal.{Refusal};
+ghost use Rattle.refusals.specs.Answers.{answer_of};
 ghost use Rattle.seqs.specs.Pick.{first, or_else};
 ghost use Rattle.words.specs.Words.{word_at};
 ghost use Rattle.lookup.specs.steps.Index.{index_size, large_size, Indexed};
@@ -9,27 +11,19 @@ ghost use Rattle.relax.specs.declared.Segment.{Segment};
 ghost use Rattle.relax.specs.Events.{event_at};
 ghost use Rattle.buffer.specs.Tables.{most_entries, label_size, use_size};
 ghost use Rattle.recording.specs.View as tables;
+ghost use Rattle.layout.specs.declared.Summary.{Summary};
 ghost use Rattle.layout.specs.steps.Layout.{start_at};
 ghost use Rattle.buffer.specs.steps.Count.{NamersFit, open_count};
 ghost use Rattle.checks.specs.steps.Fields.{refs_clear, why_uses};
 ghost use Rattle.checks.specs.steps.Handed.{few_marks, use_label, Named};
-ghost use Rattle.finish.specs.Finish.{relaxed};
+ghost use Rattle.finish.specs.Finish.{relaxed, outcome_of};
 ghost use Rattle.finish.specs.steps.Tables.{tables_pooled, laid_pooled};
 ghost use Rattle.finish.specs.steps.Ready.{Clearing, end_of_runs, code_written, Writing, Layable, code_copied, Copying, Keepable, kept, Placeable, pooled_of, placed_as, Starts};
 
-use crate::{Outcome, Started};
 use buffer::CodeBuffer;
+use layout::Summary;
+use refusals::Refusal;
 use relax::Segment;
-
-fn refused(why: u32) -> Outcome
-    ensures { result ≡ record { refusal = why; len = 0; layouts = 0 } }
-{
-    Outcome {
-        refusal: why,
-        len: 0,
-        layouts: 0,
-    }
-}
 
 // 15: whether every label that is named is bound. Where nothing was open before the constants were pooled, no table is looked at.
 fn all_bound(
@@ -45,13 +39,11 @@ fn all_bound(
     requires none_open { (b.unresolved ≡ 0 → open_count b labels.now events.now uses.now refs.now relocs.now ≡ 0) }
     ensures { result ≡ eqb (open_count b labels.now events.now uses.now refs.now relocs.now) 0 }
 {
-    if b.unresolved == 0 {
-        return true;
-    }
-    b.count_open(labels, events, uses, refs, relocs) == 0
+    b.unresolved == 0 || b.count_open(labels, events, uses, refs, relocs) == 0
 }
 
 // 16: the table of segments is short; 17: a ref's field is not clear of the events.
+#[tactic(auto, using(seqs::proofs::Picking::picks))]
 fn why_not_laid(
     b: CodeBuffer,
     labels: &[u8],
@@ -61,14 +53,14 @@ fn why_not_laid(
     asked: &[u8],
     segments: usize,
     end: u32,
-) -> u32
+) -> Result<(), Refusal>
     requires { Clearing refs.now events.now labels.now constants.now asked.now b.refs b.events b.asked b.code end }
-    ensures { result ≡ first ((ltb segments (b.events + b.asked), refusals.too_few_segments) ∷ (not (refs_clear refs.now b.refs events.now b.events b.code constants.now asked.now b.asked), refusals.ref_overlaps) ∷ []) }
+    ensures { answer_of result ≡ first ((ltb segments (b.events + b.asked), refusals.too_few_segments) ∷ (not (refs_clear refs.now b.refs events.now b.events b.code constants.now asked.now b.asked), refusals.ref_overlaps) ∷ []) }
 {
     let recorded = b.events as usize;
     let pooled = b.asked as usize;
     if segments < recorded + pooled {
-        return refusals::TOO_FEW_SEGMENTS;
+        return Err(Refusal::TooFewSegments);
     }
     if !checks::fields_fit::refs_clear(
         refs,
@@ -82,22 +74,23 @@ fn why_not_laid(
         b.code,
         end,
     ) {
-        return refusals::REF_OVERLAPS;
+        return Err(Refusal::RefOverlaps);
     }
-    0
+    Ok(())
 }
 
 // 18: a ref can't reach; 23: the finished code exceeds the output.
-fn why_not_written(reach: bool, len: u32, output: usize) -> u32
-    ensures { result ≡ first ((not reach, refusals.ref_out_of_reach) ∷ (ltb output len, refusals.output_too_small) ∷ []) }
+#[tactic(auto, using(seqs::proofs::Picking::picks))]
+fn why_not_written(reach: bool, len: u32, output: usize) -> Result<(), Refusal>
+    ensures { answer_of result ≡ first ((not reach, refusals.ref_out_of_reach) ∷ (ltb output len, refusals.output_too_small) ∷ []) }
 {
     if !reach {
-        return refusals::REF_OUT_OF_REACH;
+        return Err(Refusal::RefOutOfReach);
     }
     if output < len as usize {
-        return refusals::OUTPUT_TOO_SMALL;
+        return Err(Refusal::OutputTooSmall);
     }
-    0
+    Ok(())
 }
 
 // Writes the finished code: the events and the runs between them, the pool, the refs, the jumps, and the constants last.
@@ -163,10 +156,10 @@ pub(crate) fn relax_and_write(
     output: &mut [u8],
     long: &mut [bool],
     index: &mut [u32],
-) -> Outcome
+) -> Result<Summary, Refusal>
     requires layable { Layable code.now labels.old events.now refs.now constants.now asked.now relocs.old output.old (length segments.old) b.arch b.code b.labels b.events b.asked b.refs b.relocs }
     requires none_long { long.old ≡ replicate (b.events + b.asked) false }
-    ensures { (us : List tables.Use) → (result, (labels.new, (relocs.new, (segments.new, output.new)))) ≡ relaxed (laid_pooled b.arch b.code (take b.code code.now) (tables.entries (word_at labels.old) b.labels) (tables.entries (event_at events.now) b.events) us (tables.entries (tables.ref_at refs.now) b.refs) constants.now asked.now b.asked) b.relocs labels.old relocs.old segments.old output.old }
+    ensures { (us : List tables.Use) → (outcome_of result, (labels.new, (relocs.new, (segments.new, output.new)))) ≡ relaxed (laid_pooled b.arch b.code (take b.code code.now) (tables.entries (word_at labels.old) b.labels) (tables.entries (event_at events.now) b.events) us (tables.entries (tables.ref_at refs.now) b.refs) constants.now asked.now b.asked) b.relocs labels.old relocs.old segments.old output.old }
 {
     let recorded = b.events as usize;
     let pooled = b.asked as usize;
@@ -177,10 +170,7 @@ pub(crate) fn relax_and_write(
         segments, events, labels, constants, asked, long, index, shift, recorded, pooled, b.code,
     );
     let reach = emit::refs_reach(refs, labels, segments, index, shift, b.refs as usize, all);
-    let why = why_not_written(reach, laid.len, output.len());
-    if why != 0 {
-        return refused(why);
-    }
+    why_not_written(reach, laid.len, output.len())?;
     emit::map_words(labels, segments, index, shift, 1, b.labels as usize, all);
     emit::map_words(
         relocs,
@@ -194,11 +184,7 @@ pub(crate) fn relax_and_write(
     write_relaxed(
         b, output, code, labels, events, refs, constants, asked, long, segments, index, shift,
     );
-    Outcome {
-        refusal: 0,
-        len: laid.len,
-        layouts: laid.layouts,
-    }
+    Ok(laid)
 }
 
 // How long an index of so many starts is: none where it does not pay.
@@ -226,11 +212,11 @@ fn relaxed_with<const MARKS: usize, const INDEX: usize>(
     segments: &mut [Segment],
     output: &mut [u8],
     size: usize,
-) -> Outcome
+) -> Result<Summary, Refusal>
     requires layable { Layable code.now labels.old events.now refs.now constants.now asked.now relocs.old output.old (length segments.old) b.arch b.code b.labels b.events b.asked b.refs b.relocs }
     requires marked { (b.events + b.asked ≤ MARKS) × (MARKS ≤ most_entries) }
     requires indexed { (size ≤ INDEX) × (INDEX ≤ large_size) }
-    ensures { (us : List tables.Use) → (result, (labels.new, (relocs.new, (segments.new, output.new)))) ≡ relaxed (laid_pooled b.arch b.code (take b.code code.now) (tables.entries (word_at labels.old) b.labels) (tables.entries (event_at events.now) b.events) us (tables.entries (tables.ref_at refs.now) b.refs) constants.now asked.now b.asked) b.relocs labels.old relocs.old segments.old output.old }
+    ensures { (us : List tables.Use) → (outcome_of result, (labels.new, (relocs.new, (segments.new, output.new)))) ≡ relaxed (laid_pooled b.arch b.code (take b.code code.now) (tables.entries (word_at labels.old) b.labels) (tables.entries (event_at events.now) b.events) us (tables.entries (tables.ref_at refs.now) b.refs) constants.now asked.now b.asked) b.relocs labels.old relocs.old segments.old output.old }
 {
     let all = b.events as usize + b.asked as usize;
     let mut marks = [false; MARKS];
@@ -265,9 +251,9 @@ pub(crate) fn relaxed(
     relocs: &mut [u8],
     segments: &mut [Segment],
     output: &mut [u8],
-) -> Outcome
+) -> Result<Summary, Refusal>
     requires { Layable code.now labels.old events.now refs.now constants.now asked.now relocs.old output.old (length segments.old) b.arch b.code b.labels b.events b.asked b.refs b.relocs }
-    ensures { (us : List tables.Use) → (result, (labels.new, (relocs.new, (segments.new, output.new)))) ≡ relaxed (laid_pooled b.arch b.code (take b.code code.now) (tables.entries (word_at labels.old) b.labels) (tables.entries (event_at events.now) b.events) us (tables.entries (tables.ref_at refs.now) b.refs) constants.now asked.now b.asked) b.relocs labels.old relocs.old segments.old output.old }
+    ensures { (us : List tables.Use) → (outcome_of result, (labels.new, (relocs.new, (segments.new, output.new)))) ≡ relaxed (laid_pooled b.arch b.code (take b.code code.now) (tables.entries (word_at labels.old) b.labels) (tables.entries (event_at events.now) b.events) us (tables.entries (tables.ref_at refs.now) b.refs) constants.now asked.now b.asked) b.relocs labels.old relocs.old segments.old output.old }
 {
     let all = b.events as usize + b.asked as usize;
     if all < lookup::FEW {
@@ -277,30 +263,52 @@ pub(crate) fn relaxed(
     }
     if all <= checks::entries::FEW_MARKS {
         return relaxed_with::<{ checks::entries::FEW_MARKS }, { lookup::SIZE }>(
-            b, code, labels, events, refs, constants, asked, relocs, segments, output,
+            b,
+            code,
+            labels,
+            events,
+            refs,
+            constants,
+            asked,
+            relocs,
+            segments,
+            output,
             index_size(all),
         );
     }
     relaxed_with::<{ buffer::MOST_ENTRIES }, { lookup::LARGE_SIZE }>(
-        b, code, labels, events, refs, constants, asked, relocs, segments, output,
+        b,
+        code,
+        labels,
+        events,
+        refs,
+        constants,
+        asked,
+        relocs,
+        segments,
+        output,
         lookup::size_for(all),
     )
 }
 
 // 19 to 22: a use's field passes the code's end, or it can't reach; 23: the code exceeds the output.
-fn why_not_in_place(b: CodeBuffer, labels: &[u8], uses: &[u8], end: u32, output: usize) -> u32
+#[tactic(auto, using(refusals::proofs::Chains::chains, seqs::proofs::Picking::picks))]
+fn why_not_in_place(
+    b: CodeBuffer,
+    labels: &[u8],
+    uses: &[u8],
+    end: u32,
+    output: usize,
+) -> Result<(), Refusal>
     requires uses_within { b.uses * use_size ≤ length uses.now }
     requires named { Named (use_label uses.now) b.uses labels.now }
-    ensures { result ≡ or_else (why_uses uses.now labels.now end b.uses) (first ((ltb output end, refusals.output_too_small) ∷ [])) }
+    ensures { answer_of result ≡ or_else (why_uses uses.now labels.now end b.uses) (first ((ltb output end, refusals.output_too_small) ∷ [])) }
 {
-    let why = checks::fields_fit::why_uses(uses, b.uses as usize, labels, end);
-    if why != 0 {
-        return why;
-    }
+    checks::fields_fit::why_uses(uses, b.uses as usize, labels, end)?;
     if output < end as usize {
-        return refusals::OUTPUT_TOO_SMALL;
+        return Err(Refusal::OutputTooSmall);
     }
-    0
+    Ok(())
 }
 
 // Writes the code as it is: the bytes, the pool, the uses, and the constants last.
@@ -332,24 +340,20 @@ fn unrelaxed(
     constants: &[u8],
     asked: &[u8],
     output: &mut [u8],
-) -> Outcome
+) -> Result<Summary, Refusal>
     requires { Keepable code.now labels.now uses.now constants.now asked.now b.code b.labels b.uses b.asked }
-    ensures { (es : List LayoutEvent) (rs : List tables.Ref) → (result, output.new) ≡ kept (tables_pooled b.arch b.code (take b.code code.now) (tables.entries (word_at labels.now) b.labels) es (tables.entries (tables.use_at uses.now) b.uses) rs constants.now asked.now b.asked) output.old }
+    ensures { (es : List LayoutEvent) (rs : List tables.Ref) → (outcome_of result, output.new) ≡ kept (tables_pooled b.arch b.code (take b.code code.now) (tables.entries (word_at labels.now) b.labels) es (tables.entries (tables.use_at uses.now) b.uses) rs constants.now asked.now b.asked) output.old }
 {
     let end = pool::pool_end(b.code, constants, asked, b.asked as usize);
-    let why = why_not_in_place(b, labels, uses, end, output.len());
-    if why != 0 {
-        return refused(why);
-    }
+    why_not_in_place(b, labels, uses, end, output.len())?;
     write_in_place(b, output, code, labels, uses, constants, asked);
-    Outcome {
-        refusal: 0,
-        len: end,
+    Ok(Summary {
         layouts: 0,
-    }
+        len: end,
+    })
 }
 
-// Once the entries are checked and the pool's labels are bound: 15, then 16 and 17 with a jump, and all without one.
+// Once the entries are checked and the pool's labels are bound: 15, then 16 and 17 with a jump, and all without one; none where a layout is to be made.
 pub(crate) fn start(
     b: CodeBuffer,
     code: &[u8],
@@ -362,28 +366,20 @@ pub(crate) fn start(
     relocs: &[u8],
     segments: usize,
     output: &mut [u8],
-) -> Started
+) -> Option<Result<Summary, Refusal>>
     requires { Placeable b code.now labels.now events.now uses.now refs.now constants.now asked.now relocs.now output.old segments }
-    ensures output_after { result.relax ≡ false → (ss : List Segment) → length ss ≡ segments → (result.outcome, (labels.now, (relocs.now, (ss, output.new)))) ≡ placed_as (pooled_of b code.now labels.now events.now uses.now refs.now constants.now asked.now) b labels.now relocs.now ss output.old }
-    ensures starts { result.relax ≡ true → Starts b code.now labels.now events.now uses.now refs.now constants.now asked.now relocs.now output.old output.new segments }
+    ensures output_after { (placed : Result Summary Refusal) → result ≡ Some placed → (ss : List Segment) → length ss ≡ segments → (outcome_of placed, (labels.now, (relocs.now, (ss, output.new)))) ≡ placed_as (pooled_of b code.now labels.now events.now uses.now refs.now constants.now asked.now) b labels.now relocs.now ss output.old }
+    ensures starts { result ≡ None → Starts b code.now labels.now events.now uses.now refs.now constants.now asked.now relocs.now output.old output.new segments }
 {
     if !all_bound(b, labels, events, uses, refs, relocs) {
-        return Started {
-            relax: false,
-            outcome: refused(refusals::UNBOUND_LABEL),
-        };
+        return Some(Err(Refusal::UnboundLabel));
     }
     if checks::fields_fit::moves(events, b.events as usize) {
         let end = pool::pool_end(b.code, constants, asked, b.asked as usize);
-        let why = why_not_laid(b, labels, events, refs, constants, asked, segments, end);
-        return Started {
-            relax: why == 0,
-            outcome: refused(why),
+        return match why_not_laid(b, labels, events, refs, constants, asked, segments, end) {
+            Ok(()) => None,
+            Err(why) => Some(Err(why)),
         };
     }
-    let outcome = unrelaxed(b, code, labels, uses, constants, asked, output);
-    Started {
-        relax: false,
-        outcome,
-    }
+    Some(unrelaxed(b, code, labels, uses, constants, asked, output))
 }

@@ -12,7 +12,7 @@ pub struct Tally {
     pub agreeing: u64,
     pub passed_over: u64,
     pub disagreeing: u64,
-    // The input ended before its last case.
+    // The input ended before its last case; no Option, since what was counted up to there is printed.
     pub cut_short: bool,
 }
 
@@ -139,7 +139,7 @@ pub fn halves_agree(pair: &[u8]) -> bool {
     made == stored
 }
 
-// The same of two windows, where `patch` makes the first of a field, or NOP, from its byte 2 up to `end`.
+// The same of two windows, before and after: `patch` is given the field, or NOP, of the first, its bytes from 2 up to `end`.
 pub fn windows_agree<F: FnOnce(&mut [u8])>(pair: &mut [u8], end: usize, patch: F) -> bool
     requires calls { F.IsAlwaysCallable patch }
     requires within { (2 ≤ end) × (end ≤ length pair.old) }

@@ -1,15 +1,16 @@
 -- `conclude` meets its contract, by whether the recording was placed.
-use mathlib.Core.Path.{sym}
+use mathlib.Core.Path.{refl, sym}
+use Rattle.refusals.proofs.Variants.{number_not_0}
 use Rattle.seqs.proofs.Picking.{yes_eq, no_eq}
 use Rattle.finish.specs.steps.Ready.{concluded}
 use Rattle.finish.proofs.conclude.Goals as goal
 
-pub returns-then-placed-ne0 : goal.returns-then-placed-ne0
+pub returns-in-Ok : goal.returns-in-Ok
 unfolding concluded
-returns-then-placed-ne0 c =
-    rw (c.unfinished.ensures, c.unbind.ensures) (sym (no_eq _ 0 _ _ c.if-placed-ne0.true))
+returns-in-Ok c =
+    rw (c.finished_with.ensures, c.code_alignment-alignment.ensures, c.in-Ok.is) (sym (yes_eq 0 0 _ _ refl))
 
-pub returns : goal.returns
+pub returns-in-Err : goal.returns-in-Err
 unfolding concluded
-returns c =
-    rw (c.finished_with.ensures, c.code_alignment-alignment.ensures) (sym (yes_eq _ 0 _ _ c.if-placed-ne0.false))
+returns-in-Err c =
+    rw (c.unbind.ensures, c.in-Err.is) (sym (no_eq _ 0 _ _ (number_not_0 c.in-Err.why)))

@@ -22,10 +22,8 @@ use Rattle.layout.specs.steps.Layout.{Rising}
 use Rattle.emit.specs.steps.Emit.{uses_filled, refs_filled, jumps_filled, Emits, UsesFit, RefsFit, JumpsFit, WordsFit}
 use Rattle.checks.specs.steps.Fields.{refs_clear}
 use Rattle.checks.specs.steps.Search as search
-use Rattle.finish.specs.declared.Finished.{Finished}
-use Rattle.finish.specs.declared.Outcome.{Outcome}
 use Rattle.finish.specs.Refusals.{all_bound, why_not_in_place}
-use Rattle.finish.specs.Finish.{Left, refused_with, relaxed, unrelaxed, finished_with, unfinished, finish}
+use Rattle.finish.specs.Finish.{Finished, Outcome, Left, refused_with, relaxed, unrelaxed, finished_with, unfinished, finish}
 use Rattle.finish.specs.steps.Tables.{tables_pooled, laid_pooled}
 
 -- a label as recordings leave it, or one of the pool

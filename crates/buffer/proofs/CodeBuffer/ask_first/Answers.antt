@@ -7,11 +7,6 @@ use Rattle.buffer.specs.Calls.{asked_first}
 use Rattle.buffer.proofs.Accepted.{constant_label_accepted}
 use Rattle.buffer.proofs.CodeBuffer.ask_first.Goals as goal
 
-pub returns-then-labels-label : goal.returns-then-labels-label
-unfolding asked_first
-returns-then-labels-label c =
-    search (rules, picks, tests)
-
 pub put_word-requires : goal.put_word-requires
 put_word-requires c =
     omega (arith, constant_label_accepted c.requires)
@@ -23,8 +18,3 @@ overflow_add-self c =
 pub overflow_add-self-2 : goal.overflow_add-self-2
 overflow_add-self-2 c =
     omega (arith, constant_label_accepted c.requires)
-
-pub returns : goal.returns
-unfolding asked_first
-returns c =
-    search (rules, picks, tests)

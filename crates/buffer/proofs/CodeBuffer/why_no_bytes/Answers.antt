@@ -7,18 +7,6 @@ use Rattle.std.proofs.Common.{sym, arith}
 use Rattle.buffer.proofs.Standing.{count_fits}
 use Rattle.buffer.proofs.CodeBuffer.why_no_bytes.Goals as goal
 
-pub returns-in_err-standing : goal.returns-in_err-standing
-unfolding why_bytes
-returns-in_err-standing c = search (rules, chains, picks)
-
-pub returns-then-lent-at : goal.returns-then-lent-at
-unfolding why_bytes
-returns-then-lent-at c = search (rules, chains, picks)
-
-pub returns : goal.returns
-unfolding why_bytes
-returns c = search (rules, chains, picks)
-
 pub overflow_sub-lent : goal.overflow_sub-lent
 overflow_sub-lent c =
     let a = c.args in omega (arith, count_fits a.self a.self.code a.lent _ (sym c.in_ok-standing.ensures))

@@ -15,24 +15,6 @@ use Rattle.buffer.specs.Tables.{most_entries, label_size}
 use Rattle.buffer.proofs.Standing.{stands}
 use Rattle.buffer.proofs.CodeBuffer.why_not_bind.Goals as goal
 
-pub returns-in_err-standing : goal.returns-in_err-standing
-unfolding why_bind
-returns-in_err-standing c =
-    let told : c.from_residual.result ≡ Err c.in_err-standing.field-0.0 = search rules in
-    refused_first _ _ told (search rules)
-
-pub returns-then-self-label : goal.returns-then-self-label
-unfolding why_bind
-returns-then-self-label c = search (rules, chains, picks)
-
-pub returns-then-word_at : goal.returns-then-word_at
-unfolding why_bind
-returns-then-word_at c = search (rules, chains, picks)
-
-pub returns : goal.returns
-unfolding why_bind
-returns c = search (rules, chains, picks)
-
 pub word_at-requires : goal.word_at-requires
 word_at-requires c =
     let a = c.args in

@@ -1,11 +1,7 @@
 -- `why_uses` meets its contract: all the uses passed reach.
-use Prim.Native.Nat.{◌-◌}
 use Rattle.checks.specs.steps.Fields.{why_unreached}
 use Rattle.seqs.proofs.Scans.{NoneRefused}
 use Rattle.checks.proofs.fields_fit.why_uses.Given as goal
 
 abbrev pub invariant-loop-i : goal.invariant-loop-i
 invariant-loop-i l = NoneRefused (why_unreached l.uses l.labels l.len) l.n l.i
-
-abbrev pub decreases-loop-i : goal.decreases-loop-i
-decreases-loop-i l = l.n - l.i

@@ -4,7 +4,9 @@ use mathlib.Core.List.{[]}
 use native.Mathlib.Omega.{arith}
 use lib.ListN.{length, length-replicate}
 use Rattle.finish.proofs.RelaxedRequires.{recorded, labelled, labels_fit_lem, refs_known}
-use Rattle.finish.proofs.StageAnswers.{room, few, clear, segments_rise, why_by, refused_late, writing_is, done}
+use Rattle.refusals.proofs.Variants.{number_not_0}
+use borrow.Author.Rules.{rules}
+use Rattle.finish.proofs.StageAnswers.{handed_on, room, few, clear, segments_rise, why_by, refused_late, writing_is, done}
 use Rattle.finish.proofs.pooled.relax_and_write.Goals as goal
 
 pub relax_jumps-laid-requires : goal.relax_jumps-laid-requires
@@ -26,11 +28,11 @@ refs_reach-reach-requires c =
     let x = c.requires.layable in
     record { rising = segments_rise x c.relax_jumps-laid.ensures.relaxed; indexed = c.relax_jumps-laid.ensures.indexed; refs_known = refs_known x.relaxable.ready x.relaxable.referred (clear x) }
 
-pub returns-then-why-ne0 : goal.returns-then-why-ne0
-returns-then-why-ne0 c = λ us.
+pub returns-in_err-why_not_written : goal.returns-in_err-why_not_written
+returns-in_err-why_not_written c = λ us.
     let x = c.requires.layable in
-    let late = why_by c.relax_jumps-laid.result.len (length c.args.output.now) c.refs_reach-reach.ensures c.why_not_written-why.ensures in
-    refused_late _ x.relaxable us x.unrefused refl c.requires.none_long c.relax_jumps-laid.ensures.relaxed late c.if-why-ne0.true c.refused.ensures
+    let late = why_by c.relax_jumps-laid.result.len (length c.args.output.now) c.refs_reach-reach.ensures c.in_err-why_not_written.ensures in
+    refused_late _ x.relaxable us x.unrefused refl c.requires.none_long c.relax_jumps-laid.ensures.relaxed late (number_not_0 c.in_err-why_not_written.field-0.0) (handed_on c.in_err-why_not_written.field-0.0 (search rules))
 
 pub map_words-requires : goal.map_words-requires
 map_words-requires c =
@@ -46,15 +48,15 @@ pub write_relaxed-requires : goal.write_relaxed-requires
 write_relaxed-requires c =
     let pre = c.requires in
     let marks = simp length-replicate at (ap length pre.none_long) in
-    let late = why_by c.relax_jumps-laid.result.len (length c.args.output.now) c.refs_reach-reach.ensures c.why_not_written-why.ensures in
-    record { indexed = c.relax_jumps-laid.ensures.indexed; writing = writing_is _ pre.layable.relaxable [] pre.layable.unrefused refl pre.none_long c.relax_jumps-laid.ensures.relaxed late c.if-why-ne0.false (omega (arith, marks, c.relax_jumps-laid.auto)) c.map_words.ensures }
+    let late = why_by c.relax_jumps-laid.result.len (length c.args.output.now) c.refs_reach-reach.ensures c.in_ok-why_not_written.ensures in
+    record { indexed = c.relax_jumps-laid.ensures.indexed; writing = writing_is _ pre.layable.relaxable [] pre.layable.unrefused refl pre.none_long c.relax_jumps-laid.ensures.relaxed late refl (omega (arith, marks, c.relax_jumps-laid.auto)) c.map_words.ensures }
 
 pub returns : goal.returns
 returns c = λ us.
     let pre = c.requires in
     let marks = simp length-replicate at (ap length pre.none_long) in
-    let late = why_by c.relax_jumps-laid.result.len (length c.args.output.now) c.refs_reach-reach.ensures c.why_not_written-why.ensures in
-    done _ pre.layable.relaxable us pre.layable.unrefused refl pre.none_long c.relax_jumps-laid.ensures.relaxed late c.if-why-ne0.false (omega (arith, marks, c.relax_jumps-laid.auto)) c.map_words.ensures refl c.map_words-2.ensures c.write_relaxed.ensures
+    let late = why_by c.relax_jumps-laid.result.len (length c.args.output.now) c.refs_reach-reach.ensures c.in_ok-why_not_written.ensures in
+    done _ pre.layable.relaxable us pre.layable.unrefused refl pre.none_long c.relax_jumps-laid.ensures.relaxed late refl (omega (arith, marks, c.relax_jumps-laid.auto)) c.map_words.ensures refl c.map_words-2.ensures c.write_relaxed.ensures
 
 pub shape_of-segments : goal.shape_of-segments
 shape_of-segments c =

@@ -3,21 +3,11 @@ use Rattle.std.proofs.Common.{sym, arith}
 use Rattle.seqs.proofs.Scans.{pass_none, pass_one, pass_fails, pass_all}
 use Rattle.join.proofs.Cursors.{cursor_none}
 use Rattle.join.specs.Join.{all_labels_move}
-use Rattle.join.proofs.Turns.{Turn, next_cursor, turn_placed, turn_labelled}
+use Rattle.join.proofs.Turns.{next_cursor}
 use Rattle.join.proofs.labels.all_labels_move.Goals as goal
 
 pub loop-k-init : goal.loop-k-init
 loop-k-init c = (pass_none _ _, sym (cursor_none _))
-
-pub piece_at-piece-requires : goal.piece_at-piece-requires
-piece_at-piece-requires c =
-    omega (arith, c.requires.standing.room)
-
-pub labels_move-requires : goal.labels_move-requires
-labels_move-requires c =
-    let turn : Turn c.args.pieces.now c.loop-k.k c.piece_at-piece.result c.loop-k.cursor =
-    record { piece = c.piece_at-piece.ensures; cursor = c.loop-k.invariant.1 } in
-    record { placed = turn_placed turn c.loop-k-test.true c.requires.standing; labelled = turn_labelled turn c.loop-k-test.true c.requires }
 
 pub returns-then-not-labels_move : goal.returns-then-not-labels_move
 unfolding all_labels_move
@@ -25,13 +15,6 @@ returns-then-not-labels_move c =
     pass_fails c.loop-k.invariant.0 c.loop-k-test.true
     (rw (c.piece_at-piece.ensures, c.loop-k.invariant.1) at c.labels_move.ensures)
     (rw c.if-not-labels_move.true)
-
-pub after-cursor-requires : goal.after-cursor-requires
-after-cursor-requires c =
-    let turn : Turn c.args.pieces.now c.loop-k.k c.piece_at-piece.result c.loop-k.cursor =
-    record { piece = c.piece_at-piece.ensures; cursor = c.loop-k.invariant.1 } in
-    let placed = turn_placed turn c.loop-k-test.true c.requires.standing in
-    record { piece_fits = placed.fits; near = placed.near }
 
 pub loop-k-preserved : goal.loop-k-preserved
 loop-k-preserved c =

@@ -1,7 +1,7 @@
 -- `put_labels` meets its contract: the labels passed stand there, moved.
-use Rattle.std.proofs.Common.{◌≡◌, ℕ, ◌+◌, length, sym, ap, ◌∙◌, arith}
+use Rattle.std.proofs.Common.{ℕ, ◌+◌, sym, arith}
 use Rattle.seqs.proofs.Every.{all_at}
-use Rattle.seqs.proofs.Overwrites.{length_over, over_nil}
+use Rattle.seqs.proofs.Overwrites.{over_nil}
 use Rattle.words.specs.Words.{word_at}
 use Rattle.join.specs.Pieces.{base_of}
 use Rattle.join.specs.Join.{label_moves, labels_move}
@@ -18,20 +18,7 @@ moved-requires c =
     rw (c.word_at.ensures, c.base-base.ensures.0)
     (all_at (λ (i : ℕ). label_moves (base_of a.piece a.cursor) (word_at a.labels.now (a.cursor.labels + i))) a.piece.labels c.loop-j.j c.requires.labels_move c.loop-j-test.true)
 
-pub put_word-requires : goal.put_word-requires
-put_word-requires c =
-    omega (arith, ap length c.loop-j.invariant.1 ∙ length_over _ _ _)
-
 pub loop-j-preserved : goal.loop-j-preserved
 loop-j-preserved c =
     let l = c.loop-j in
     (omega arith, rw (c.put_word.ensures, c.moved.ensures, c.word_at.ensures, l.invariant.1) (one_label_more _ _ _ l.j))
-
-pub shape_of-joined : goal.shape_of-joined
-shape_of-joined c =
-    ap length c.loop-j.invariant.1 ∙ length_over _ _ _
-
-pub returns : goal.returns
-returns c =
-    let all : c.loop-j.j ≡ c.args.piece.labels = omega arith in
-    rw (all, c.base-base.ensures.0) at c.loop-j.invariant.1

@@ -1,5 +1,5 @@
 -- `sum` meets its contract: the cursor behind the pieces passed, which is near.
-use Rattle.std.proofs.Common.{◌≡◌, ℕ, sym, arith}
+use Rattle.std.proofs.Common.{ℕ, sym, arith}
 use Rattle.seqs.proofs.Every.{all_at}
 use Rattle.join.specs.Pieces.{piece_at, piece_fits, pieces_fit}
 use Rattle.join.proofs.Cursors.{near_most, cursor_none, cursor_next}
@@ -7,9 +7,6 @@ use Rattle.join.proofs.pieces.sum.Goals as goal
 
 pub loop-k-init : goal.loop-k-init
 loop-k-init c = (omega arith, sym (cursor_none _), record { code = omega arith; labels = omega arith; relocs = omega arith; definitions = omega arith; end = omega arith })
-
-pub piece_at-requires : goal.piece_at-requires
-piece_at-requires c = omega arith
 
 pub after-cursor-requires : goal.after-cursor-requires
 unfolding pieces_fit
@@ -24,9 +21,3 @@ loop-k-preserved c =
       rw (c.after-cursor.ensures.0, c.piece_at.ensures, l.invariant.1) (cursor_next c.args.pieces.now l.k),
       c.after-cursor.ensures.1 l.k l.invariant.2,
     )
-
-pub returns : goal.returns
-returns c =
-    let l = c.loop-k in
-    let all : l.k ≡ c.args.n = omega arith in
-    (rw all at l.invariant.1, near_most l.k l.cursor (omega arith) l.invariant.2)

@@ -3,22 +3,11 @@ use Rattle.std.proofs.Common.{sym, arith}
 use Rattle.seqs.proofs.Scans.{pass_none, pass_one, pass_fails, pass_all}
 use Rattle.join.proofs.Cursors.{cursor_none}
 use Rattle.join.specs.Join.{all_hold}
-use Rattle.join.proofs.Turns.{Turn, next_cursor, turn_placed, turn_relocating}
+use Rattle.join.proofs.Turns.{next_cursor}
 use Rattle.join.proofs.relocs.all_hold.Goals as goal
 
 pub loop-k-init : goal.loop-k-init
 loop-k-init g c = (λ asked known asks. pass_none _ _, sym (cursor_none _))
-
-pub piece_at-piece-requires : goal.piece_at-piece-requires
-piece_at-piece-requires g c =
-    omega (arith, c.requires.relocations.standing.room)
-
-pub relocs_hold-requires : goal.relocs_hold-requires
-relocs_hold-requires g c =
-    let turn : Turn c.args.pieces.now c.loop-k.k c.piece_at-piece.result c.loop-k.cursor =
-    record { piece = c.piece_at-piece.ensures; cursor = c.loop-k.invariant.1 } in
-    let within = c.loop-k-test.true in
-    record { callable = c.requires.callable; placed = turn_placed turn within c.requires.relocations.standing; relocs_in = turn_relocating turn within c.requires.relocations }
 
 pub returns-then-not-relocs_hold : goal.returns-then-not-relocs_hold
 unfolding all_hold
@@ -27,13 +16,6 @@ returns-then-not-relocs_hold g c =
     pass_fails (c.loop-k.invariant.0 asked known asks) c.loop-k-test.true
     (rw (c.piece_at-piece.ensures, c.loop-k.invariant.1) at (c.relocs_hold.ensures asked known asks))
     (rw c.if-not-relocs_hold.true)
-
-pub after-cursor-requires : goal.after-cursor-requires
-after-cursor-requires g c =
-    let turn : Turn c.args.pieces.now c.loop-k.k c.piece_at-piece.result c.loop-k.cursor =
-    record { piece = c.piece_at-piece.ensures; cursor = c.loop-k.invariant.1 } in
-    let placed = turn_placed turn c.loop-k-test.true c.requires.relocations.standing in
-    record { piece_fits = placed.fits; near = placed.near }
 
 pub loop-k-preserved : goal.loop-k-preserved
 loop-k-preserved g c =

@@ -1,26 +1,15 @@
 -- `count_remaining` meets its contract: how many of the pieces passed remain.
-use Rattle.std.proofs.Common.{◌≡◌, sym, refl, ap, add-one, arith}
+use Rattle.std.proofs.Common.{sym, refl, ap, add-one, arith}
 use Rattle.join.specs.declared.Cursor.{Cursor}
 use Rattle.join.specs.Join.{count_remaining}
 use Rattle.join.proofs.Cursors.{cursor_none}
-use Rattle.join.proofs.Turns.{Turn, next_cursor, turn_placed, turn_relocating}
+use Rattle.join.proofs.Turns.{Turn, next_cursor, turn_relocating}
 use Rattle.join.proofs.Writing.{count_le}
 use Rattle.join.proofs.relocs.count_remaining.Goals as goal
 
 pub loop-k-init : goal.loop-k-init
 unfolding count_remaining
 loop-k-init c = (omega arith, refl, sym (cursor_none _), omega arith)
-
-pub piece_at-piece-requires : goal.piece_at-piece-requires
-piece_at-piece-requires c =
-    omega (arith, c.requires.standing.room)
-
-pub count_remaining_in-count-requires : goal.count_remaining_in-count-requires
-count_remaining_in-count-requires c =
-    let turn : Turn c.args.pieces.now c.loop-k.k c.piece_at-piece.result c.loop-k.cursor =
-    record { piece = c.piece_at-piece.ensures; cursor = c.loop-k.invariant.2 } in
-    let within = c.loop-k-test.true in
-    record { placed = turn_placed turn within c.requires.standing; relocs_in = turn_relocating turn within c.requires }
 
 pub overflow_add-count : goal.overflow_add-count
 overflow_add-count c =
@@ -29,13 +18,6 @@ overflow_add-count c =
     let lent = turn_relocating turn c.loop-k-test.true c.requires in
     let few = count_le c.args.relocs.now c.piece_at-piece.result c.loop-k.cursor c.piece_at-piece.result.relocs in
     omega (arith, c.count_remaining_in-count.ensures, few, c.loop-k.invariant.3, lent)
-
-pub after-cursor-requires : goal.after-cursor-requires
-after-cursor-requires c =
-    let turn : Turn c.args.pieces.now c.loop-k.k c.piece_at-piece.result c.loop-k.cursor =
-    record { piece = c.piece_at-piece.ensures; cursor = c.loop-k.invariant.2 } in
-    let placed = turn_placed turn c.loop-k-test.true c.requires.standing in
-    record { piece_fits = placed.fits; near = placed.near }
 
 pub loop-k-preserved : goal.loop-k-preserved
 unfolding count_remaining
@@ -47,7 +29,3 @@ loop-k-preserved c =
       next_cursor _ l.k c.piece_at-piece.ensures l.invariant.2 c.after-cursor.ensures.0,
       omega (arith, c.count_remaining_in-count.ensures, few, l.invariant.3, ap (λ (d : Cursor). d.relocs) c.after-cursor.ensures.0),
     )
-
-pub returns : goal.returns
-returns c =
-    let all : c.loop-k.k ≡ c.args.n = omega arith in rw all at c.loop-k.invariant.1

@@ -1,5 +1,5 @@
 -- `count_remaining_in` meets its contract: how many of those passed remain.
-use Rattle.std.proofs.Common.{◌≡◌, ℕ, not, sym, ◌∙◌, arith}
+use Rattle.std.proofs.Common.{ℕ, not, sym, ◌∙◌, arith}
 use Rattle.seqs.proofs.Picking.{yes_not, no_not}
 use Rattle.seqs.proofs.Counting.{none_counted, one_counted}
 use Rattle.join.specs.Join.{is_filled, piece_reloc, count_remaining_in}
@@ -9,12 +9,6 @@ use Rattle.join.proofs.relocs.count_remaining_in.Goals as goal
 pub loop-j-init : goal.loop-j-init
 unfolding count_remaining_in
 loop-j-init c = (omega arith, sym (none_counted _), omega arith)
-
-pub reloc_at-requires : goal.reloc_at-requires
-reloc_at-requires c = omega arith
-
-pub overflow_add-count : goal.overflow_add-count
-overflow_add-count c = omega arith
 
 pub loop-j-preserved : goal.loop-j-preserved
 unfolding count_remaining_in
@@ -30,7 +24,3 @@ loop-j-preserved c =
           let none = no_not {A = ℕ} _ 1 0 (sym asked ∙ w.if-not-is_filled.false) in
           (omega arith, omega (arith, c.loop-j.invariant.1, w.count-is, more, none), omega (arith, w.count-is))
     ]
-
-pub returns : goal.returns
-returns c =
-    let all : c.loop-j.j ≡ c.args.piece.relocs = omega arith in rw all at c.loop-j.invariant.1

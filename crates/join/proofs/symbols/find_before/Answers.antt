@@ -4,10 +4,6 @@ use Rattle.seqs.proofs.Picking.{yes_eq, no_eq}
 use Rattle.join.specs.Symbols.{find_before}
 use Rattle.join.proofs.symbols.find_before.Goals as goal
 
-pub returns-then-symbol-table : goal.returns-then-symbol-table
-returns-then-symbol-table c =
-    c.requires.begun.entry _ c.if-symbol-table.true
-
 pub returns-then-found-ne-UNDEFINED : goal.returns-then-found-ne-UNDEFINED
 unfolding find_before
 returns-then-found-ne-UNDEFINED c =

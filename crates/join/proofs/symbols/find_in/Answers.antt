@@ -1,15 +1,10 @@
 -- `find_in` meets its contract: none of the definitions passed is the symbol's.
-use Rattle.std.proofs.Common.{arith}
 use Rattle.seqs.proofs.Scans.{refusing}
 use Rattle.join.specs.Symbols.{find_in}
 use Rattle.join.proofs.symbols.find_in.Goals as goal
 
 pub loop-j-init : goal.loop-j-init
 loop-j-init c = search refusing
-
-pub defined_as-found-requires : goal.defined_as-found-requires
-defined_as-found-requires c =
-    record { placed = c.requires.placed; labelled = c.requires.labelled; definitions_within = omega arith }
 
 pub returns-then-found-ne-UNDEFINED : goal.returns-then-found-ne-UNDEFINED
 unfolding find_in

@@ -5,27 +5,12 @@ use Rattle.seqs.proofs.Scans.{pass_none, pass_one, pass_fails, pass_all}
 use Rattle.join.specs.Symbols.{defined_once}
 use Rattle.join.proofs.Cursors.{cursor_none}
 use Rattle.join.proofs.Tables.{begun_all}
-use Rattle.join.proofs.Turns.{Turn, next_cursor, fewer_symbols, turn_placed, turn_labelled, turn_defining}
+use Rattle.join.proofs.Turns.{next_cursor}
 use Rattle.join.proofs.symbols.settle.Goals as goal
 
 pub loop-k-init : goal.loop-k-init
 loop-k-init c =
     (pass_none _ _, sym (cursor_none _), c.requires.settled, refl)
-
-pub piece_at-piece-requires : goal.piece_at-piece-requires
-piece_at-piece-requires c =
-    omega (arith, c.requires.symbols.labelled.standing.room)
-
-pub settle_piece-requires : goal.settle_piece-requires
-settle_piece-requires c =
-    let turn : Turn c.args.pieces.now c.loop-k.k c.piece_at-piece.result c.loop-k.cursor =
-    record { piece = c.piece_at-piece.ensures; cursor = c.loop-k.invariant.1 } in
-    let within = c.loop-k-test.true in
-    let symbols = c.requires.symbols in record { symbols = fewer_symbols c.loop-k.k (omega arith) symbols; placed = turn_placed turn within symbols.labelled.standing; labelled = turn_labelled turn within symbols.labelled; definitions_in = turn_defining turn within symbols; settled = c.loop-k.invariant.2 }
-
-pub shape_of-table-then-not-settle_piece : goal.shape_of-table-then-not-settle_piece
-shape_of-table-then-not-settle_piece c =
-    c.settle_piece.ensures.2 ∙ c.loop-k.invariant.3
 
 pub returns-then-not-settle_piece : goal.returns-then-not-settle_piece
 unfolding defined_once
@@ -35,13 +20,6 @@ returns-then-not-settle_piece c = (
       (rw c.if-not-settle_piece.true),
   λ e. absurd (true_is_not_false (sym e)),
 )
-
-pub after-cursor-requires : goal.after-cursor-requires
-after-cursor-requires c =
-    let turn : Turn c.args.pieces.now c.loop-k.k c.piece_at-piece.result c.loop-k.cursor =
-    record { piece = c.piece_at-piece.ensures; cursor = c.loop-k.invariant.1 } in
-    let placed = turn_placed turn c.loop-k-test.true c.requires.symbols.labelled.standing in
-    record { piece_fits = placed.fits; near = placed.near }
 
 pub loop-k-preserved : goal.loop-k-preserved
 loop-k-preserved c =
@@ -53,10 +31,6 @@ loop-k-preserved c =
       begun_all (record { piece = c.piece_at-piece.ensures; cursor = l.invariant.1 }) (c.settle_piece.ensures.1 (c.if-not-settle_piece.false)),
       c.settle_piece.ensures.2 ∙ l.invariant.3,
     )
-
-pub shape_of-table : goal.shape_of-table
-shape_of-table c =
-    c.loop-k.invariant.3
 
 pub returns : goal.returns
 unfolding defined_once

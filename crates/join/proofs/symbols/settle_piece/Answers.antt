@@ -10,17 +10,6 @@ pub loop-j-init : goal.loop-j-init
 loop-j-init c =
     (pass_none _ _, begun_none _ _ c.requires.settled, refl)
 
-pub symbol_at-symbol-requires : goal.symbol_at-symbol-requires
-symbol_at-symbol-requires c = omega arith
-
-pub find_before-found-requires : goal.find_before-found-requires
-find_before-found-requires c =
-    record { symbols = c.requires.symbols; placed = c.requires.placed; labelled = c.requires.labelled; definitions_within = omega arith; begun = c.loop-j.invariant.1 }
-
-pub shape_of-table-then-found-ne-UNDEFINED : goal.shape_of-table-then-found-ne-UNDEFINED
-shape_of-table-then-found-ne-UNDEFINED c =
-    c.loop-j.invariant.2
-
 pub returns-then-found-ne-UNDEFINED : goal.returns-then-found-ne-UNDEFINED
 unfolding new_in
 returns-then-found-ne-UNDEFINED c =
@@ -30,10 +19,6 @@ returns-then-found-ne-UNDEFINED c =
       c.loop-j.invariant.2,
     )
 
-pub defined-known-requires : goal.defined-known-requires
-defined-known-requires c =
-    record { placed = c.requires.placed; labelled = c.requires.labelled; definitions_within = omega arith }
-
 pub loop-j-preserved : goal.loop-j-preserved
 loop-j-preserved c =
     let l = c.loop-j in
@@ -42,10 +27,6 @@ loop-j-preserved c =
       rw c.note.ensures (begun_next l.invariant.1 c.symbol_at-symbol.ensures none c.defined-known.ensures),
       rw c.note.ensures (length-set l.table _ _ ∙ l.invariant.2),
     )
-
-pub shape_of-table : goal.shape_of-table
-shape_of-table c =
-    c.loop-j.invariant.2
 
 pub returns : goal.returns
 unfolding new_in

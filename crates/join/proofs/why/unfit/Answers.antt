@@ -1,9 +1,7 @@
 -- `unfit` meets its contract: 1, 3 and 27.
-use Rattle.std.proofs.Common.{rules, sym, ◌∙◌}
+use Rattle.std.proofs.Common.{rules}
 use Rattle.seqs.proofs.Picking.{picks}
-use Rattle.join.specs.Pieces.{lent_of}
 use Rattle.join.specs.Join.{why_unfit}
-use Rattle.join.proofs.Fits.{fits_some}
 use Rattle.join.proofs.why.unfit.Goals as goal
 
 pub returns-then-not-lent_fits : goal.returns-then-not-lent_fits
@@ -13,11 +11,6 @@ returns-then-not-lent_fits c = search (rules, picks)
 pub returns-then-not-within_limits : goal.returns-then-not-within_limits
 unfolding why_unfit
 returns-then-not-within_limits c = search (rules, picks)
-
-pub same_arch-requires-clause-in_range : goal.same_arch-requires-clause-in_range
-same_arch-requires-clause-in_range c =
-    let a = c.args in
-    fits_some (lent_of a.pieces.now a.code.now a.labels.now a.relocs.now a.definitions.now) (sym c.lent_fits.ensures ∙ c.if-not-lent_fits.false)
 
 pub returns-then-not-same_arch : goal.returns-then-not-same_arch
 unfolding why_unfit

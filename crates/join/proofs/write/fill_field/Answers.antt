@@ -3,10 +3,6 @@ use Rattle.std.proofs.Common.{sym, ◌∙◌}
 use Rattle.seqs.proofs.Picking.{pick_yes, pick_no}
 use Rattle.join.proofs.write.fill_field.Goals as goal
 
-pub put_field-requires : goal.put_field-requires
-put_field-requires c =
-    c.requires.part_within (sym c.is_filled.ensures ∙ c.if-is_filled.true)
-
 pub returns-then-is_filled : goal.returns-then-is_filled
 returns-then-is_filled c =
     c.put_field.ensures

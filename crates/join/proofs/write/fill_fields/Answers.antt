@@ -1,5 +1,5 @@
 -- `fill_fields` meets its contract: the fields passed are filled.
-use Rattle.std.proofs.Common.{◌≡◌, ℕ, ◌+◌, ◌≤◌, length, sym, refl, ap, ◌∙◌, add-one, arith, leb-true}
+use Rattle.std.proofs.Common.{ℕ, ◌+◌, ◌≤◌, length, sym, refl, ap, ◌∙◌, add-one, arith, leb-true}
 use Rattle.seqs.proofs.Every.{all_at}
 use Rattle.seqs.proofs.Picking.{pick_yes}
 use Rattle.join.specs.Symbols.{find}
@@ -10,9 +10,6 @@ use Rattle.join.proofs.write.fill_fields.Goals as goal
 pub loop-j-init : goal.loop-j-init
 unfolding filled_with
 loop-j-init c = (omega arith, refl)
-
-pub reloc_at-reloc-requires : goal.reloc_at-reloc-requires
-reloc_at-reloc-requires c = omega arith
 
 pub fill_field-requires : goal.fill_field-requires
 unfolding relocs_hold holds
@@ -34,11 +31,3 @@ unfolding filled_with
 loop-j-preserved c =
     let l = c.loop-j in
     (omega arith, rw (add-one l.j, c.fill_field.ensures, c.reloc_at-reloc.ensures, l.invariant.1) refl)
-
-pub shape_of-part : goal.shape_of-part
-shape_of-part c =
-    ap length c.loop-j.invariant.1 ∙ length_filled _ _ _ _ _ _
-
-pub returns : goal.returns
-returns c =
-    let all : c.loop-j.j ≡ c.args.piece.relocs = omega arith in rw all at c.loop-j.invariant.1

@@ -1,10 +1,10 @@
 -- `put_pieces` meets its contract: the pieces passed stand in the outputs.
-use Rattle.std.proofs.Common.{◌≡◌, sym, refl, arith}
+use Rattle.std.proofs.Common.{sym, refl, arith}
 use Rattle.seqs.proofs.Overwrites.{over_nil}
 use Rattle.join.specs.Join.{labels_joined, remaining, count_remaining, image}
 use Rattle.join.proofs.Cursors.{cursor_none}
 use Rattle.join.proofs.Turns.{next_cursor}
-use Rattle.join.proofs.Putting.{output_length, labels_length, relocs_length, next_placed, next_puts, next_count, next_stands}
+use Rattle.join.proofs.Putting.{output_length, labels_length, relocs_length, next_puts, next_count, next_stands}
 use Rattle.join.proofs.write.put_pieces.Goals as goal
 
 pub loop-k-init : goal.loop-k-init
@@ -16,10 +16,6 @@ loop-k-init c = (
   record { coded = sym (over_nil _ 0); labelled = sym (over_nil _ 0); listed = sym (over_nil _ 0) },
   c.requires.joins,
 )
-
-pub piece_at-piece-requires : goal.piece_at-piece-requires
-piece_at-piece-requires c =
-    omega (arith, c.requires.joins.labels.standing.room)
 
 pub put_filled-requires : goal.put_filled-requires
 put_filled-requires c =
@@ -55,12 +51,6 @@ put_relocs-at-requires c =
       relocs_move = p.relocs_move;
     }
 
-pub after-cursor-requires : goal.after-cursor-requires
-after-cursor-requires c =
-    let v = c.loop-k in
-    let placed = next_placed v.invariant.4 (record { piece = c.piece_at-piece.ensures; cursor = v.invariant.1 }) c.loop-k-test.true in
-    record { piece_fits = placed.fits; near = placed.near }
-
 pub loop-k-preserved : goal.loop-k-preserved
 loop-k-preserved c =
     let v = c.loop-k in
@@ -74,25 +64,3 @@ loop-k-preserved c =
       next_stands joins (record { piece = piece; cursor = v.invariant.1 }) within v.invariant.3 v.invariant.2 c.put_filled.ensures c.put_labels.ensures put.1,
       joins,
     )
-
-pub shape_of-output : goal.shape_of-output
-shape_of-output c =
-    output_length c.loop-k.invariant.3
-
-pub shape_of-joined_labels : goal.shape_of-joined_labels
-shape_of-joined_labels c =
-    labels_length c.loop-k.invariant.3
-
-pub shape_of-joined_relocs : goal.shape_of-joined_relocs
-shape_of-joined_relocs c =
-    relocs_length c.loop-k.invariant.3
-
-pub returns : goal.returns
-returns c =
-    let v = c.loop-k in
-    let all : v.k ≡ c.args.n = omega arith in
-    record {
-      output_after = rw all at v.invariant.3.coded;
-      joined_labels_after = rw all at v.invariant.3.labelled;
-      joined_relocs_after = rw all at v.invariant.3.listed;
-    }

@@ -1,5 +1,5 @@
 -- `put_relocs` meets its contract: those passed that remain stand there, moved.
-use Rattle.std.proofs.Common.{◌≡◌, ℕ, ◌+◌, ◌*◌, not, length, sym, ap, ◌∙◌, arith}
+use Rattle.std.proofs.Common.{ℕ, ◌+◌, ◌*◌, not, length, sym, ap, ◌∙◌, arith}
 use Rattle.seqs.proofs.Counting.{none_counted, one_counted}
 use Rattle.seqs.proofs.Overwrites.{length_over, over_nil}
 use Rattle.words.specs.Words.{bytes_of_all}
@@ -13,9 +13,6 @@ unfolding count_remaining_in remaining_in
 loop-j-init c =
     let a = c.args in
     (omega arith, omega (arith, none_counted (λ (i : ℕ). not (is_filled a.piece.arch (piece_reloc a.relocs.now a.cursor i)))), sym (over_nil _ _))
-
-pub reloc_at-reloc-requires : goal.reloc_at-reloc-requires
-reloc_at-reloc-requires c = omega arith
 
 pub put_remaining-i-requires : goal.put_remaining-i-requires
 unfolding count_remaining_in
@@ -38,12 +35,3 @@ loop-j-preserved c =
       rw (c.put_remaining-i.ensures.1, c.reloc_at-reloc.ensures, l.invariant.2, l.invariant.1)
           (one_reloc_more a.joined.now a.relocs.now a.piece a.cursor a.at l.j),
     )
-
-pub shape_of-joined : goal.shape_of-joined
-shape_of-joined c =
-    ap length c.loop-j.invariant.2 ∙ length_over _ _ _
-
-pub returns : goal.returns
-returns c =
-    let all : c.loop-j.j ≡ c.args.piece.relocs = omega arith in
-    (rw all at c.loop-j.invariant.1, rw all at c.loop-j.invariant.2)

@@ -10,15 +10,6 @@ returns-then-is_filled c =
     let filled = sym c.is_filled.ensures ∙ c.if-is_filled.true in
     (omega (arith, no_not {A = ℕ} _ 1 0 filled), filled_left a.joined.now a.i a.piece a.cursor a.reloc filled)
 
-pub overflow_cast-offset-2 : goal.overflow_cast-offset-2
-overflow_cast-offset-2 c =
-    let remains = sym c.is_filled.ensures ∙ c.if-is_filled.false in
-    omega (arith, c.base.ensures.0, c.requires.reloc_moves.offset remains)
-
-pub moved_target-target-requires : goal.moved_target-target-requires
-moved_target-target-requires c =
-    c.requires.reloc_moves.target (sym c.is_filled.ensures ∙ c.if-is_filled.false)
-
 pub put_reloc-requires : goal.put_reloc-requires
 put_reloc-requires c =
     let remains = sym c.is_filled.ensures ∙ c.if-is_filled.false in
