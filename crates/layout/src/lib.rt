@@ -1,4 +1,4 @@
-// `layout` and `map`: where each event of a recording and each byte between events comes to stand, and the rounds by which jumps become long. After
+// `layout` and `OffsetMap`: where each event of a recording and each byte between events comes to stand, and the rounds by which jumps become long. After
 // asmkit's core/relax.rs (see NOTICE). The table is a lent slice of `Segment`; only `segment_at` and `put_segment` reach into it.
 #![tactic(auto)]
 
@@ -94,19 +94,30 @@ fn place(segment: Segment, offset: u32) -> u32
     }
 }
 
-// The new offset of what was recorded at an offset.
-pub fn map(segments: &[Segment], n: usize, index: &[u32], shift: u32, offset: u32) -> u32
-    requires rising { Rising segments.now n }
-    requires indexed { Indexed index.now (start_at segments.now) n shift }
-    requires in_range { (offset ≢ none → offset ≤ offset_bound) }
-    ensures { result ≡ map_offset (take n segments.now) offset }
-{
-    if offset == buffer::NONE {
-        return offset;
-    }
-    match find(segments, n, index, shift, offset) {
-        0 => offset,
-        found => place(segment_at(segments, found - 1), offset),
+// The first `count` segments of a laid out table, and the index of their recorded starts if there is one: by it a recorded offset becomes a new one.
+#[derive(Clone, Copy)]
+pub struct OffsetMap<'a> {
+    pub segments: &'a [Segment],
+    pub count: usize,
+    pub index: &'a [u32],
+    pub shift: u32,
+    ghost rising: { Rising segments.now count },
+    ghost indexed: { Indexed index.now (start_at segments.now) count shift },
+}
+
+impl<'a> OffsetMap<'a> {
+    // The new offset of what was recorded at an offset.
+    pub fn map(&self, offset: u32) -> u32
+        requires { offset ≢ none → offset ≤ offset_bound }
+        ensures { result ≡ map_offset (take self.now.count self.now.segments.now) offset }
+    {
+        if offset == buffer::NONE {
+            return offset;
+        }
+        match find(self.segments, self.count, self.index, self.shift, offset) {
+            0 => offset,
+            found => place(segment_at(self.segments, found - 1), offset),
+        }
     }
 }
 
