@@ -14,6 +14,7 @@ ghost use Rattle.checks.specs.steps.Fields.{ref_clear, refs_clear, why_unreached
 ghost use Rattle.checks.specs.steps.Search.{Ordered, Placed};
 ghost use Rattle.checks.specs.steps.Handed.{use_label, Named};
 
+use pool::Pool;
 use refusals::Refusal;
 use relax::LayoutEvent;
 
@@ -60,17 +61,15 @@ fn ref_clear(
     events: &[u8],
     n: usize,
     labels: &[u8],
-    constants: &[u8],
-    asked: &[u8],
-    m: usize,
+    pool: &Pool,
     code: u32,
     len: u32,
     i: usize,
 ) -> bool
-    requires within { (i * ref_size + ref_size ≤ length refs.now) × (n * event_size ≤ length events.now) × (len ≡ pool_start code constants.now asked.now m) }
+    requires within { (i * ref_size + ref_size ≤ length refs.now) × (n * event_size ≤ length events.now) × (len ≡ pool_start code pool.now.constants.now pool.now.asked.now pool.now.count) }
     requires ordered { Ordered (start_at events.now) (end_at events.now) n }
-    requires placed { Placed labels.now constants.now asked.now code m }
-    ensures { result ≡ ref_clear refs.now events.now n code constants.now asked.now m i }
+    requires placed { Placed labels.now pool.now.constants.now pool.now.asked.now code pool.now.count }
+    ensures { result ≡ ref_clear refs.now events.now n code pool.now.constants.now pool.now.asked.now pool.now.count i }
 {
     let offset = words::word_at(refs, i * buffer::REF_WORDS);
     let kind = words::word_at(refs, i * buffer::REF_WORDS + 2);
@@ -78,7 +77,7 @@ fn ref_clear(
     let to = from + size_of(kind);
     to <= len as u64
         && crate::search::clear_of_events(events, n, from, to)
-        && crate::search::clear_of_pool(labels, constants, asked, code, m, from, to)
+        && crate::search::clear_of_pool(labels, pool, code, from, to)
 }
 
 pub fn refs_clear(
@@ -87,18 +86,16 @@ pub fn refs_clear(
     events: &[u8],
     n: usize,
     labels: &[u8],
-    constants: &[u8],
-    asked: &[u8],
-    m: usize,
+    pool: &Pool,
     code: u32,
     len: u32,
 ) -> bool
-    requires within { (count * ref_size ≤ length refs.now) × (n * event_size ≤ length events.now) × (len ≡ pool_start code constants.now asked.now m) }
+    requires within { (count * ref_size ≤ length refs.now) × (n * event_size ≤ length events.now) × (len ≡ pool_start code pool.now.constants.now pool.now.asked.now pool.now.count) }
     requires ordered { Ordered (start_at events.now) (end_at events.now) n }
-    requires placed { Placed labels.now constants.now asked.now code m }
-    ensures { result ≡ refs_clear refs.now count events.now n code constants.now asked.now m }
+    requires placed { Placed labels.now pool.now.constants.now pool.now.asked.now code pool.now.count }
+    ensures { result ≡ refs_clear refs.now count events.now n code pool.now.constants.now pool.now.asked.now pool.now.count }
 {
-    (0..count).all(|i| ref_clear(refs, events, n, labels, constants, asked, m, code, len, i))
+    (0..count).all(|i| ref_clear(refs, events, n, labels, pool, code, len, i))
 }
 
 // 19: the field of use `i` passes the end of the code, of which there are `len` bytes; 20 to 22: it can't reach its label.

@@ -28,7 +28,7 @@ use Rattle.fresh.proofs.Within.{moved_within}
 use Rattle.fresh.proofs.Apart.{moved_apart}
 use Rattle.fresh.proofs.Fill.{length_fill_refs, length_fill_jumps, length_fill_uses}
 use Rattle.pool.specs.steps.Pool.{size_at, label_at, pool_start, pool_bound}
-use Rattle.pool.proofs.Pool.{pool_start_suc, pool_start_grows}
+use Rattle.pool.proofs.Turns.{pool_start_suc, pool_start_grows}
 use Rattle.finish.specs.Finish.{finish}
 use Rattle.finish.specs.steps.Tables.{pool_placed}
 use Rattle.finish.proofs.SoundRecording.{tied, pooled_is, pooled_ends, ready}

@@ -42,7 +42,7 @@ use Rattle.fresh.proofs.Rounds.{rounds_settle, rounds_last, none_fits}
 use Rattle.fresh.proofs.Fill.{length_assembled}
 use Rattle.fresh.specs.Forms.{Branch, branches, role_of, moves}
 use Rattle.pool.specs.steps.Pool.{size_at, pool_start, pool_offset, pool_event, pool_bound}
-use Rattle.pool.proofs.Pool.{pool_start_suc, pool_start_grows}
+use Rattle.pool.proofs.Turns.{pool_start_suc, pool_start_grows}
 use Rattle.fields.specs.Kinds.{size_of}
 use Rattle.fields.specs.Reach.{reach_of}
 use Rattle.layout.proofs.Pooling.{all_modest}

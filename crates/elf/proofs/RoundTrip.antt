@@ -17,7 +17,7 @@ use Rattle.fields.specs.Words64.{modulus, plus}
 use Rattle.buffer.specs.State.{label_target}
 use Rattle.buffer.specs.Tables.{most_entries, reloc_size}
 use Rattle.recording.specs.View.{Relocation, reloc_at}
-use Rattle.pool.proofs.Pool.{set_word_same}
+use Rattle.pool.proofs.Turns.{set_word_same}
 use Rattle.finish.specs.declared.CodeBufferFinalized.{CodeBufferFinalized}
 use Rattle.elf.specs.declared.Rela.{Rela}
 use Rattle.elf.specs.Elf.{

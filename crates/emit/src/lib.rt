@@ -15,11 +15,10 @@ ghost use Rattle.fresh.specs.Forms.{short_form, long_form, form, width, role_of}
 ghost use Rattle.fresh.specs.Fill.{part, fill_jump};
 ghost use Rattle.fresh.specs.Segments.{map_offset};
 ghost use Rattle.fresh.specs.steps.Runs.{form_at, runs};
-ghost use Rattle.lookup.specs.steps.Index.{Indexed};
-ghost use Rattle.layout.specs.steps.Layout.{start_at, Rising};
 ghost use Rattle.emit.specs.steps.Emit.{jump_form, branch_form, Encodes, Writes, Keeps, Emits, use_filled, uses_filled, UseFits, UsesFit, ref_filled, refs_filled, RefFits, RefsFit, field_reaches, refs_reach, RefsKnown, jumps_filled, displaced, JumpFits, JumpsFit, mapped_words, WordsFit};
 
 use fields::LabelUse;
+use layout::OffsetMap;
 use relax::{Condition, LayoutEvent, Segment};
 
 fn short_opcode(cc: Condition) -> u8
@@ -266,29 +265,12 @@ fn patch_ref(output: &mut [u8], refs: &[u8], labels: &[u8], at: u32, i: usize)
 }
 
 // Fills the refs in order, where the labels have their new offsets.
-pub fn patch_refs(
-    output: &mut [u8],
-    refs: &[u8],
-    labels: &[u8],
-    segments: &[Segment],
-    index: &[u32],
-    shift: u32,
-    count: usize,
-    n: usize,
-)
-    requires rising { Rising segments.now n }
-    requires indexed { Indexed index.now (start_at segments.now) n shift }
-    requires refs_fit { RefsFit (length output.old) refs.now labels.now segments.now n count }
-    ensures { output.new ≡ refs_filled output.old refs.now labels.now segments.now n count }
+pub fn patch_refs(output: &mut [u8], refs: &[u8], labels: &[u8], offsets: &OffsetMap, count: usize)
+    requires { RefsFit (length output.old) refs.now labels.now offsets.now.segments.now offsets.now.count count }
+    ensures { output.new ≡ refs_filled output.old refs.now labels.now offsets.now.segments.now offsets.now.count count }
 {
     for i in 0..count {
-        let at = layout::map(
-            segments,
-            n,
-            index,
-            shift,
-            words::word_at(refs, i * buffer::REF_WORDS),
-        );
+        let at = offsets.map(words::word_at(refs, i * buffer::REF_WORDS));
         patch_ref(output, refs, labels, at, i);
     }
 }
@@ -315,29 +297,14 @@ fn ref_reaches(refs: &[u8], at: u32, label: u32, i: usize) -> bool
 }
 
 // Whether every ref reaches its label, where the labels have their recorded offsets.
-pub fn refs_reach(
-    refs: &[u8],
-    labels: &[u8],
-    segments: &[Segment],
-    index: &[u32],
-    shift: u32,
-    count: usize,
-    n: usize,
-) -> bool
-    requires rising { Rising segments.now n }
-    requires indexed { Indexed index.now (start_at segments.now) n shift }
-    requires refs_known { RefsKnown refs.now labels.now count }
-    ensures { result ≡ refs_reach refs.now labels.now segments.now n count }
+pub fn refs_reach(refs: &[u8], labels: &[u8], offsets: &OffsetMap, count: usize) -> bool
+    requires { RefsKnown refs.now labels.now count }
+    ensures { result ≡ refs_reach refs.now labels.now offsets.now.segments.now offsets.now.count count }
 {
     (0..count).all(|i| {
         let at = words::word_at(refs, i * buffer::REF_WORDS);
         let label = label_of(refs, i * buffer::REF_WORDS, labels);
-        ref_reaches(
-            refs,
-            layout::map(segments, n, index, shift, at),
-            layout::map(segments, n, index, shift, label),
-            i,
-        )
+        ref_reaches(refs, offsets.map(at), offsets.map(label), i)
     })
 }
 
@@ -429,23 +396,13 @@ pub fn patch_jumps(
 }
 
 // Maps the words 0, `stride`, 2 `stride`, .. of a table: labels (stride 1), and relocations' offsets (stride 6).
-pub fn map_words(
-    table: &mut [u8],
-    segments: &[Segment],
-    index: &[u32],
-    shift: u32,
-    stride: usize,
-    count: usize,
-    n: usize,
-)
-    requires rising { Rising segments.now n }
-    requires indexed { Indexed index.now (start_at segments.now) n shift }
-    requires words_fit { WordsFit table.old stride count }
-    ensures { table.new ≡ mapped_words (map_offset (take n segments.now)) table.old stride count }
+pub fn map_words(table: &mut [u8], offsets: &OffsetMap, stride: usize, count: usize)
+    requires { WordsFit table.old stride count }
+    ensures { table.new ≡ mapped_words (map_offset (take offsets.now.count offsets.now.segments.now)) table.old stride count }
 {
     for i in 0..count {
         let k = i * stride;
         let offset = words::word_at(table, k);
-        words::put_word(table, k, layout::map(segments, n, index, shift, offset));
+        words::put_word(table, k, offsets.map(offset));
     }
 }

@@ -27,7 +27,7 @@ use Rattle.fresh.proofs.Fill.{built_assembled, length_built}
 use Rattle.fresh.proofs.Past.{built_past, in_place_past}
 use Rattle.fresh.specs.Forms.{Branch, branches, role_of}
 use Rattle.pool.specs.steps.Pool.{label_at, pool_start, pool_offset, pool_bytes, pool_written}
-use Rattle.pool.proofs.Pool.{pool_start_bound, length_pool_bytes, pool_start_suc, pool_start_grows}
+use Rattle.pool.proofs.Turns.{pool_start_bound, length_pool_bytes, pool_start_suc, pool_start_grows}
 use Rattle.layout.specs.steps.Layout.{zero_segment}
 use Rattle.emit.specs.steps.Emit.{uses_filled, refs_filled, jumps_filled, start_at}
 use Rattle.fields.specs.Kinds.{size_of}

@@ -29,7 +29,7 @@ use Rattle.fresh.specs.steps.Runs.{Small, Modest}
 use Rattle.fresh.proofs.Entries.{clear_of, ordered_of, apart_lies, refs_lie, pool_lies, modest_of}
 use Rattle.fresh.specs.Forms.{Branch, pads, branches, branch_of, role_of}
 use Rattle.pool.specs.steps.Pool.{size_at, bytes_at, pool_start, pool_offset, pool_event, pool_bytes, PoolFits}
-use Rattle.pool.proofs.Pool.{length_pool_bytes, pool_start_grows, from_pool_start, pool_start_suc, pool_offset_bound}
+use Rattle.pool.proofs.Turns.{length_pool_bytes, pool_start_grows, from_pool_start, pool_start_suc, pool_offset_bound}
 use Rattle.fields.specs.Kinds.{decoded}
 use Rattle.buffer.specs.Tables.{constant_size, constant_head}
 use Rattle.emit.specs.steps.Emit.{Encodes, Writes}

@@ -21,7 +21,7 @@ use Rattle.fresh.proofs.Choices.{is_long_get_d, others_get_d}
 use Rattle.fresh.proofs.Events.{ordered_le}
 use Rattle.fresh.proofs.Loops.{length_runs}
 use Rattle.pool.specs.steps.Pool.{size_at, pool_start, pool_padding, pool_event, pool_bytes}
-use Rattle.pool.proofs.Pool.{length_pool_bytes, pool_start_suc}
+use Rattle.pool.proofs.Turns.{length_pool_bytes, pool_start_suc}
 use Rattle.layout.proofs.Pooling.{ordered_snoc}
 use Rattle.layout.proofs.Turns.{after_snoc}
 

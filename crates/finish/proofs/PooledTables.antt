@@ -15,7 +15,7 @@ use Rattle.recording.proofs.Views.{word_set}
 use Rattle.fresh.specs.Pooled.{Pooled, pooled_one, asked_constant, pooled_to, code_alignment}
 use Rattle.fresh.proofs.Constants.{code_alignment_snoc}
 use Rattle.pool.specs.steps.Pool.{size_at, label_at, bytes_at, pool_start, pool_padding, pool_offset, pool_event, pool_bytes, pool_bound, pool_alignment}
-use Rattle.pool.proofs.Pool.{length_pool_bytes, length_pool_bound}
+use Rattle.pool.proofs.Turns.{length_pool_bytes, length_pool_bound}
 use Rattle.finish.specs.steps.Tables.{pool_placed, tables_pooled}
 
 -- what ties the tables to the view: of each of the first n constants asked for, its entry, its size, its label's place, and an offset of 32 bits

@@ -29,7 +29,7 @@ use Rattle.fresh.proofs.Loops.{length_runs}
 use Rattle.fresh.proofs.Within.{mapped_within, field_within}
 use Rattle.fresh.specs.Forms.{role_of}
 use Rattle.pool.specs.steps.Pool.{label_at, bytes_at, pool_start, pool_offset, pool_event, PoolRoom, pooled_bound}
-use Rattle.pool.proofs.Pool.{from_pool_start, pool_start_bound, pool_offset_bound}
+use Rattle.pool.proofs.Turns.{from_pool_start, pool_start_bound, pool_offset_bound}
 use Rattle.layout.specs.steps.Layout.{all_events, finished_length, Recorded, Rising, Labelled}
 use Rattle.layout.proofs.Pooling.{all_ordered, all_modest, length_all}
 use Rattle.layout.proofs.Table.{table_laid, rising_laid}

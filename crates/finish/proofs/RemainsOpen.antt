@@ -26,7 +26,7 @@ use Rattle.recording.proofs.Views.{get_d_entries, every_entries}
 use Rattle.recording.proofs.Naming.{naming_sum, open_at, open_count_lem}
 use Rattle.fresh.specs.Pooled.{pooled}
 use Rattle.pool.specs.steps.Pool.{label_at, pool_bound}
-use Rattle.pool.proofs.Pool.{pool_offset_bound, pool_bound_other}
+use Rattle.pool.proofs.Turns.{pool_offset_bound, pool_bound_other}
 use Rattle.checks.specs.Lent.{recording_of}
 use Rattle.finish.specs.Refusals.{all_bound, why_unfit}
 use Rattle.finish.proofs.SoundRecording.{owner, pool_fits, pooled_is, ready}

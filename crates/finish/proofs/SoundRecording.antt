@@ -16,7 +16,7 @@ use Rattle.recording.specs.View.{entries, constant_at, view}
 use Rattle.recording.proofs.Views.{length_entries, get_d_entries}
 use Rattle.fresh.specs.Pooled.{Pooled, pooled_to, pooled, code_alignment}
 use Rattle.pool.specs.steps.Pool.{size_at, label_at, pool_start, pool_offset, pool_bytes, pool_bound, pool_alignment, PoolFits, PoolLabels}
-use Rattle.pool.proofs.Pool.{Distinct, length_pool_bytes, pool_offset_bound, length_pool_bound, pool_bound_at, pool_bound_other}
+use Rattle.pool.proofs.Turns.{Distinct, length_pool_bytes, pool_offset_bound, length_pool_bound, pool_bound_at, pool_bound_other}
 use Rattle.finish.specs.steps.Tables.{tables_pooled}
 use Rattle.finish.specs.steps.Ready.{Ready, pooled_of}
 use Rattle.finish.proofs.PooledTables.{Tied, pooled_to_tables, alignment_tables}

@@ -39,7 +39,7 @@ use Rattle.fresh.proofs.Fill.{length_assembled, labels_same}
 use Rattle.fresh.proofs.Segments.{placed_runs, moved_map, target_map}
 use Rattle.fresh.proofs.Within.{mapped_le}
 use Rattle.pool.specs.steps.Pool.{pool_start}
-use Rattle.pool.proofs.Pool.{from_pool_start, pool_start_suc, pool_start_grows}
+use Rattle.pool.proofs.Turns.{from_pool_start, pool_start_suc, pool_start_grows}
 use Rattle.fields.specs.Kinds.{size_of}
 use Rattle.checks.specs.steps.Fields.{refs_clear, why_unreached, why_uses}
 use Rattle.emit.specs.steps.Emit as emit

@@ -22,7 +22,7 @@ use Rattle.recording.proofs.Views.{word_set}
 use Rattle.fresh.specs.Pooled.{Pooled, pooled, code_alignment}
 use Rattle.fresh.specs.Forms.{moves}
 use Rattle.pool.specs.steps.Pool.{label_at, pool_offset, pool_bound, pool_unbound, pool_alignment}
-use Rattle.pool.proofs.Pool.{length_pool_bound, pool_unbound_pool_bound, set_word_same}
+use Rattle.pool.proofs.Turns.{length_pool_bound, pool_unbound_pool_bound, set_word_same}
 use Rattle.finish.specs.Refusals.{all_bound, why_not_laid, why_not_written, why_not_in_place, why_unfit}
 use Rattle.finish.specs.Finish.{Finished, Outcome, Left, refused_with, relaxed, unrelaxed, finished_with, unfinished, placed_by, finish}
 use Rattle.finish.specs.steps.Ready.{Ready, Placeable, pooled_of, placed_as, concluded}

@@ -5,7 +5,7 @@
 ghost use Rattle.std.specs.Prelude.{◌≡◌, List, length, Some, None, Ok};
 ghost use Rattle.refusals.specs.Answers.{answer_of};
 ghost use Rattle.relax.specs.declared.Segment.{Segment};
-ghost use Rattle.pool.specs.steps.Pool.{PoolFits, PoolLabels};
+ghost use Rattle.pool.specs.steps.Pool.{PoolLabels};
 ghost use Rattle.checks.specs.Lent.{recording_of};
 ghost use Rattle.finish.specs.Refusals.{why_unfit};
 ghost use Rattle.finish.specs.declared.Finished as program;
@@ -14,6 +14,7 @@ ghost use Rattle.finish.specs.steps.Ready.{concluded, Begins};
 
 use buffer::CodeBuffer;
 use layout::Summary;
+use pool::Pool;
 use refusals::Refusal;
 use relax::Segment;
 
@@ -66,11 +67,15 @@ fn why_unfit(
     if b.count_open(labels, events, uses, refs, relocs) != b.unresolved {
         return Err(Refusal::Malformed);
     }
-    let m = b.asked as usize;
-    if pool::is_any_bound(labels, constants, asked, m) {
+    let pool = Pool {
+        constants,
+        asked,
+        count: b.asked as usize,
+    };
+    if pool.is_any_bound(labels) {
         return Err(Refusal::PoolLabelBound);
     }
-    if buffer::MOST_CODE < pool::pool_end(b.code, constants, asked, m) as usize {
+    if buffer::MOST_CODE < pool.end(b.code) as usize {
         return Err(Refusal::PoolTooLarge);
     }
     Ok(())
@@ -98,21 +103,20 @@ fn finished_with(mut b: CodeBuffer, alignment: u32, laid: Summary) -> Finished
 fn conclude(
     b: CodeBuffer,
     labels: &mut [u8],
-    constants: &[u8],
-    asked: &[u8],
+    pool: &Pool,
     placed: Result<Summary, Refusal>,
 ) -> Finished
-    requires pool_fits { PoolFits constants.now asked.now b.asked }
-    requires pool_labels { PoolLabels labels.old constants.now asked.now b.asked }
-    ensures { (finished_as result, labels.new) ≡ concluded b constants.now asked.now (outcome_of placed) labels.old }
+    requires counted { pool.now.count ≡ b.asked }
+    requires pool_labels { PoolLabels labels.old pool.now.constants.now pool.now.asked.now pool.now.count }
+    ensures { (finished_as result, labels.new) ≡ concluded b pool.now.constants.now pool.now.asked.now (outcome_of placed) labels.old }
 {
     match placed {
         Ok(laid) => {
-            let alignment = pool::code_alignment(constants, asked, b.asked as usize);
+            let alignment = pool.code_alignment();
             finished_with(b, alignment, laid)
         }
         Err(why) => {
-            pool::unbind(labels, constants, asked, b.asked as usize);
+            pool.unbind(labels);
             Finished {
                 buffer: b,
                 answer: Err(why),
@@ -156,11 +160,16 @@ fn begin(
             answer: Err(why),
         });
     }
-    pool::bind(b.code, labels, constants, asked, b.asked as usize);
+    let pool = Pool {
+        constants,
+        asked,
+        count: b.asked as usize,
+    };
+    pool.bind(b.code, labels);
     let placed = pooled::start(
-        b, code, labels, events, uses, refs, constants, asked, relocs, segments, output,
+        b, code, labels, events, uses, refs, &pool, relocs, segments, output,
     )?;
-    Some(conclude(b, labels, constants, asked, placed))
+    Some(conclude(b, labels, &pool, placed))
 }
 
 // Finishes a recording: pools its constants, relaxes its jumps and writes its code to `output`. On success `labels` and `relocs` hold final offsets. The
@@ -195,8 +204,13 @@ pub fn finish(
     ) {
         return finished;
     }
+    let pool = Pool {
+        constants,
+        asked,
+        count: b.asked as usize,
+    };
     let placed = pooled::relaxed(
-        b, code, labels, events, refs, constants, asked, relocs, segments, output,
+        b, code, labels, events, refs, &pool, relocs, segments, output,
     );
-    conclude(b, labels, constants, asked, placed)
+    conclude(b, labels, &pool, placed)
 }

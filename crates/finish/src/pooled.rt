@@ -22,6 +22,7 @@ ghost use Rattle.finish.specs.steps.Ready.{Clearing, end_of_runs, code_written, 
 
 use buffer::CodeBuffer;
 use layout::Summary;
+use pool::Pool;
 use refusals::Refusal;
 use relax::Segment;
 
@@ -49,17 +50,15 @@ fn why_not_laid(
     labels: &[u8],
     events: &[u8],
     refs: &[u8],
-    constants: &[u8],
-    asked: &[u8],
+    pool: &Pool,
     segments: usize,
     end: u32,
 ) -> Result<(), Refusal>
-    requires { Clearing refs.now events.now labels.now constants.now asked.now b.refs b.events b.asked b.code end }
-    ensures { answer_of result ≡ first ((ltb segments (b.events + b.asked), refusals.too_few_segments) ∷ (not (refs_clear refs.now b.refs events.now b.events b.code constants.now asked.now b.asked), refusals.ref_overlaps) ∷ []) }
+    requires { Clearing refs.now events.now labels.now pool.now.constants.now pool.now.asked.now b.refs b.events pool.now.count b.code end }
+    ensures { answer_of result ≡ first ((ltb segments (b.events + pool.now.count), refusals.too_few_segments) ∷ (not (refs_clear refs.now b.refs events.now b.events b.code pool.now.constants.now pool.now.asked.now pool.now.count), refusals.ref_overlaps) ∷ []) }
 {
     let recorded = b.events as usize;
-    let pooled = b.asked as usize;
-    if segments < recorded + pooled {
+    if segments < recorded + pool.count {
         return Err(Refusal::TooFewSegments);
     }
     if !checks::fields_fit::refs_clear(
@@ -68,9 +67,7 @@ fn why_not_laid(
         events,
         recorded,
         labels,
-        constants,
-        asked,
-        pooled,
+        pool,
         b.code,
         end,
     ) {
@@ -101,19 +98,17 @@ pub(crate) fn write_relaxed(
     labels: &[u8],
     events: &[u8],
     refs: &[u8],
-    constants: &[u8],
-    asked: &[u8],
+    pool: &Pool,
     long: &[bool],
     segments: &[Segment],
     index: &[u32],
     shift: u32,
 )
-    requires indexed { Indexed index.now (start_at segments.now) (b.events + b.asked) shift }
-    requires writing { Writing output.old code.now labels.now events.now refs.now constants.now asked.now long.now segments.now b.arch b.code b.events b.asked b.refs (end_of_runs b.arch code.now events.now long.now b.code b.events) }
-    ensures { output.new ≡ code_written b.arch output.old code.now labels.now events.now refs.now constants.now asked.now long.now segments.now b.code b.events b.asked b.refs }
+    requires indexed { Indexed index.now (start_at segments.now) (b.events + pool.now.count) shift }
+    requires writing { Writing output.old code.now labels.now events.now refs.now pool.now.constants.now pool.now.asked.now long.now segments.now b.arch b.code b.events pool.now.count b.refs (end_of_runs b.arch code.now events.now long.now b.code b.events) }
+    ensures { output.new ≡ code_written b.arch output.old code.now labels.now events.now refs.now pool.now.constants.now pool.now.asked.now long.now segments.now b.code b.events pool.now.count b.refs }
 {
     let recorded = b.events as usize;
-    let pooled = b.asked as usize;
     emit::emit_events(
         output,
         code,
@@ -126,7 +121,7 @@ pub(crate) fn write_relaxed(
     );
     // Among the recorded events alone, and so without the index, which is of all.
     let to = layout::map(segments, recorded, &index[0..0], shift, b.code);
-    pool::emit(output, b.arch, to, constants, asked, pooled);
+    pool.emit(output, b.arch, to);
     emit::patch_refs(
         output,
         refs,
@@ -135,10 +130,10 @@ pub(crate) fn write_relaxed(
         index,
         shift,
         b.refs as usize,
-        recorded + pooled,
+        recorded + pool.count,
     );
     emit::patch_jumps(output, events, labels, long, segments, recorded);
-    pool::write(output, labels, constants, asked, pooled);
+    pool.write(output, labels);
 }
 
 // The rounds and what comes after them: 18 and 23, which leave the settled segments in their table, and the writing. `long` has an entry for each event, and
@@ -149,25 +144,23 @@ pub(crate) fn relax_and_write(
     labels: &mut [u8],
     events: &[u8],
     refs: &[u8],
-    constants: &[u8],
-    asked: &[u8],
+    pool: &Pool,
     relocs: &mut [u8],
     segments: &mut [Segment],
     output: &mut [u8],
     long: &mut [bool],
     index: &mut [u32],
 ) -> Result<Summary, Refusal>
-    requires layable { Layable code.now labels.old events.now refs.now constants.now asked.now relocs.old output.old (length segments.old) b.arch b.code b.labels b.events b.asked b.refs b.relocs }
-    requires none_long { long.old ≡ replicate (b.events + b.asked) false }
-    ensures { (us : List tables.Use) → (outcome_of result, (labels.new, (relocs.new, (segments.new, output.new)))) ≡ relaxed (laid_pooled b.arch b.code (take b.code code.now) (tables.entries (word_at labels.old) b.labels) (tables.entries (event_at events.now) b.events) us (tables.entries (tables.ref_at refs.now) b.refs) constants.now asked.now b.asked) b.relocs labels.old relocs.old segments.old output.old }
+    requires layable { Layable code.now labels.old events.now refs.now pool.now.constants.now pool.now.asked.now relocs.old output.old (length segments.old) b.arch b.code b.labels b.events pool.now.count b.refs b.relocs }
+    requires none_long { long.old ≡ replicate (b.events + pool.now.count) false }
+    ensures { (us : List tables.Use) → (outcome_of result, (labels.new, (relocs.new, (segments.new, output.new)))) ≡ relaxed (laid_pooled b.arch b.code (take b.code code.now) (tables.entries (word_at labels.old) b.labels) (tables.entries (event_at events.now) b.events) us (tables.entries (tables.ref_at refs.now) b.refs) pool.now.constants.now pool.now.asked.now pool.now.count) b.relocs labels.old relocs.old segments.old output.old }
 {
     let recorded = b.events as usize;
-    let pooled = b.asked as usize;
-    let all = recorded + pooled;
-    let end = pool::pool_end(b.code, constants, asked, pooled);
+    let all = recorded + pool.count;
+    let end = pool.end(b.code);
     let shift = lookup::shift_for(end, index.len());
     let laid = layout::relax_jumps(
-        segments, events, labels, constants, asked, long, index, shift, recorded, pooled, b.code,
+        segments, events, labels, pool, long, index, shift, recorded, b.code,
     );
     let reach = emit::refs_reach(refs, labels, segments, index, shift, b.refs as usize, all);
     why_not_written(reach, laid.len, output.len())?;
@@ -182,7 +175,7 @@ pub(crate) fn relax_and_write(
         all,
     );
     write_relaxed(
-        b, output, code, labels, events, refs, constants, asked, long, segments, index, shift,
+        b, output, code, labels, events, refs, pool, long, segments, index, shift,
     );
     Ok(laid)
 }
@@ -206,19 +199,18 @@ fn relaxed_with<const MARKS: usize, const INDEX: usize>(
     labels: &mut [u8],
     events: &[u8],
     refs: &[u8],
-    constants: &[u8],
-    asked: &[u8],
+    pool: &Pool,
     relocs: &mut [u8],
     segments: &mut [Segment],
     output: &mut [u8],
     size: usize,
 ) -> Result<Summary, Refusal>
-    requires layable { Layable code.now labels.old events.now refs.now constants.now asked.now relocs.old output.old (length segments.old) b.arch b.code b.labels b.events b.asked b.refs b.relocs }
-    requires marked { (b.events + b.asked ≤ MARKS) × (MARKS ≤ most_entries) }
+    requires layable { Layable code.now labels.old events.now refs.now pool.now.constants.now pool.now.asked.now relocs.old output.old (length segments.old) b.arch b.code b.labels b.events pool.now.count b.refs b.relocs }
+    requires marked { (b.events + pool.now.count ≤ MARKS) × (MARKS ≤ most_entries) }
     requires indexed { (size ≤ INDEX) × (INDEX ≤ large_size) }
-    ensures { (us : List tables.Use) → (outcome_of result, (labels.new, (relocs.new, (segments.new, output.new)))) ≡ relaxed (laid_pooled b.arch b.code (take b.code code.now) (tables.entries (word_at labels.old) b.labels) (tables.entries (event_at events.now) b.events) us (tables.entries (tables.ref_at refs.now) b.refs) constants.now asked.now b.asked) b.relocs labels.old relocs.old segments.old output.old }
+    ensures { (us : List tables.Use) → (outcome_of result, (labels.new, (relocs.new, (segments.new, output.new)))) ≡ relaxed (laid_pooled b.arch b.code (take b.code code.now) (tables.entries (word_at labels.old) b.labels) (tables.entries (event_at events.now) b.events) us (tables.entries (tables.ref_at refs.now) b.refs) pool.now.constants.now pool.now.asked.now pool.now.count) b.relocs labels.old relocs.old segments.old output.old }
 {
-    let all = b.events as usize + b.asked as usize;
+    let all = b.events as usize + pool.count;
     let mut marks = [false; MARKS];
     let mut entries = [0; INDEX];
     let long = &mut marks[..];
@@ -229,8 +221,7 @@ fn relaxed_with<const MARKS: usize, const INDEX: usize>(
         labels,
         events,
         refs,
-        constants,
-        asked,
+        pool,
         relocs,
         segments,
         output,
@@ -246,19 +237,18 @@ pub(crate) fn relaxed(
     labels: &mut [u8],
     events: &[u8],
     refs: &[u8],
-    constants: &[u8],
-    asked: &[u8],
+    pool: &Pool,
     relocs: &mut [u8],
     segments: &mut [Segment],
     output: &mut [u8],
 ) -> Result<Summary, Refusal>
-    requires { Layable code.now labels.old events.now refs.now constants.now asked.now relocs.old output.old (length segments.old) b.arch b.code b.labels b.events b.asked b.refs b.relocs }
-    ensures { (us : List tables.Use) → (outcome_of result, (labels.new, (relocs.new, (segments.new, output.new)))) ≡ relaxed (laid_pooled b.arch b.code (take b.code code.now) (tables.entries (word_at labels.old) b.labels) (tables.entries (event_at events.now) b.events) us (tables.entries (tables.ref_at refs.now) b.refs) constants.now asked.now b.asked) b.relocs labels.old relocs.old segments.old output.old }
+    requires { Layable code.now labels.old events.now refs.now pool.now.constants.now pool.now.asked.now relocs.old output.old (length segments.old) b.arch b.code b.labels b.events pool.now.count b.refs b.relocs }
+    ensures { (us : List tables.Use) → (outcome_of result, (labels.new, (relocs.new, (segments.new, output.new)))) ≡ relaxed (laid_pooled b.arch b.code (take b.code code.now) (tables.entries (word_at labels.old) b.labels) (tables.entries (event_at events.now) b.events) us (tables.entries (tables.ref_at refs.now) b.refs) pool.now.constants.now pool.now.asked.now pool.now.count) b.relocs labels.old relocs.old segments.old output.old }
 {
-    let all = b.events as usize + b.asked as usize;
+    let all = b.events as usize + pool.count;
     if all < lookup::FEW {
         return relaxed_with::<{ lookup::FEW }, 0>(
-            b, code, labels, events, refs, constants, asked, relocs, segments, output, 0,
+            b, code, labels, events, refs, pool, relocs, segments, output, 0,
         );
     }
     if all <= checks::entries::FEW_MARKS {
@@ -268,8 +258,7 @@ pub(crate) fn relaxed(
             labels,
             events,
             refs,
-            constants,
-            asked,
+            pool,
             relocs,
             segments,
             output,
@@ -282,8 +271,7 @@ pub(crate) fn relaxed(
         labels,
         events,
         refs,
-        constants,
-        asked,
+        pool,
         relocs,
         segments,
         output,
@@ -318,17 +306,15 @@ fn write_in_place(
     code: &[u8],
     labels: &[u8],
     uses: &[u8],
-    constants: &[u8],
-    asked: &[u8],
+    pool: &Pool,
 )
-    requires { Copying output.old code.now labels.now uses.now constants.now asked.now b.code b.uses b.asked }
-    ensures { output.new ≡ code_copied output.old code.now labels.now uses.now constants.now asked.now b.arch b.code b.uses b.asked }
+    requires { Copying output.old code.now labels.now uses.now pool.now.constants.now pool.now.asked.now b.code b.uses pool.now.count }
+    ensures { output.new ≡ code_copied output.old code.now labels.now uses.now pool.now.constants.now pool.now.asked.now b.arch b.code b.uses pool.now.count }
 {
-    let pooled = b.asked as usize;
     emit::copy_run(output, code, 0, b.code as usize, 0);
-    pool::emit(output, b.arch, b.code, constants, asked, pooled);
+    pool.emit(output, b.arch, b.code);
     emit::patch_uses(output, uses, labels, b.uses as usize);
-    pool::write(output, labels, constants, asked, pooled);
+    pool.write(output, labels);
 }
 
 // Without a jump.
@@ -337,16 +323,15 @@ fn unrelaxed(
     code: &[u8],
     labels: &[u8],
     uses: &[u8],
-    constants: &[u8],
-    asked: &[u8],
+    pool: &Pool,
     output: &mut [u8],
 ) -> Result<Summary, Refusal>
-    requires { Keepable code.now labels.now uses.now constants.now asked.now b.code b.labels b.uses b.asked }
-    ensures { (es : List LayoutEvent) (rs : List tables.Ref) → (outcome_of result, output.new) ≡ kept (tables_pooled b.arch b.code (take b.code code.now) (tables.entries (word_at labels.now) b.labels) es (tables.entries (tables.use_at uses.now) b.uses) rs constants.now asked.now b.asked) output.old }
+    requires { Keepable code.now labels.now uses.now pool.now.constants.now pool.now.asked.now b.code b.labels b.uses pool.now.count }
+    ensures { (es : List LayoutEvent) (rs : List tables.Ref) → (outcome_of result, output.new) ≡ kept (tables_pooled b.arch b.code (take b.code code.now) (tables.entries (word_at labels.now) b.labels) es (tables.entries (tables.use_at uses.now) b.uses) rs pool.now.constants.now pool.now.asked.now pool.now.count) output.old }
 {
-    let end = pool::pool_end(b.code, constants, asked, b.asked as usize);
+    let end = pool.end(b.code);
     why_not_in_place(b, labels, uses, end, output.len())?;
-    write_in_place(b, output, code, labels, uses, constants, asked);
+    write_in_place(b, output, code, labels, uses, pool);
     Ok(Summary {
         layouts: 0,
         len: end,
@@ -361,25 +346,25 @@ pub(crate) fn start(
     events: &[u8],
     uses: &[u8],
     refs: &[u8],
-    constants: &[u8],
-    asked: &[u8],
+    pool: &Pool,
     relocs: &[u8],
     segments: usize,
     output: &mut [u8],
 ) -> Option<Result<Summary, Refusal>>
-    requires { Placeable b code.now labels.now events.now uses.now refs.now constants.now asked.now relocs.now output.old segments }
-    ensures output_after { (placed : Result Summary Refusal) → result ≡ Some placed → (ss : List Segment) → length ss ≡ segments → (outcome_of placed, (labels.now, (relocs.now, (ss, output.new)))) ≡ placed_as (pooled_of b code.now labels.now events.now uses.now refs.now constants.now asked.now) b labels.now relocs.now ss output.old }
-    ensures starts { result ≡ None → Starts b code.now labels.now events.now uses.now refs.now constants.now asked.now relocs.now output.old output.new segments }
+    requires counted { pool.now.count ≡ b.asked }
+    requires placeable { Placeable b code.now labels.now events.now uses.now refs.now pool.now.constants.now pool.now.asked.now relocs.now output.old segments }
+    ensures output_after { (placed : Result Summary Refusal) → result ≡ Some placed → (ss : List Segment) → length ss ≡ segments → (outcome_of placed, (labels.now, (relocs.now, (ss, output.new)))) ≡ placed_as (pooled_of b code.now labels.now events.now uses.now refs.now pool.now.constants.now pool.now.asked.now) b labels.now relocs.now ss output.old }
+    ensures starts { result ≡ None → Starts b code.now labels.now events.now uses.now refs.now pool.now.constants.now pool.now.asked.now relocs.now output.old output.new segments }
 {
     if !all_bound(b, labels, events, uses, refs, relocs) {
         return Some(Err(Refusal::UnboundLabel));
     }
     if checks::fields_fit::moves(events, b.events as usize) {
-        let end = pool::pool_end(b.code, constants, asked, b.asked as usize);
-        return match why_not_laid(b, labels, events, refs, constants, asked, segments, end) {
+        let end = pool.end(b.code);
+        return match why_not_laid(b, labels, events, refs, pool, segments, end) {
             Ok(()) => None,
             Err(why) => Some(Err(why)),
         };
     }
-    Some(unrelaxed(b, code, labels, uses, constants, asked, output))
+    Some(unrelaxed(b, code, labels, uses, pool, output))
 }

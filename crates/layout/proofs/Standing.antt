@@ -23,7 +23,7 @@ use Rattle.fresh.proofs.Loops.{length_segments}
 use Rattle.fresh.proofs.Choices.{is_long_get_d, others_get_d, length_far_of, length_join, pads_near}
 use Rattle.fresh.proofs.Rounds.{shorts, shorts_lt, shorts_most}
 use Rattle.pool.specs.steps.Pool.{pool_start, pool_event, PoolFits}
-use Rattle.pool.proofs.Pool.{pool_start_bound}
+use Rattle.pool.proofs.Turns.{pool_start_bound}
 use Rattle.recording.proofs.Views.{length_entries}
 use Rattle.layout.specs.steps.Layout.{zero_segment, all_events, finished_length, far_in, far_by, relaxing, relaxed_by, Relaxed, Recorded}
 use Rattle.layout.specs.steps.Targets.{Shown, Aiming, SamePast, Adds, missed, Placed}

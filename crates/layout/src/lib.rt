@@ -1,4 +1,4 @@
-// `layout` and `map`: where each event of a recording and each byte between events comes to stand, and the rounds by which jumps become long. After
+// `layout` and `OffsetMap`: where each event of a recording and each byte between events comes to stand, and the rounds by which jumps become long. After
 // asmkit's core/relax.rs (see NOTICE). The table is a lent slice of `Segment`; only `segment_at` and `put_segment` reach into it.
 #![tactic(auto)]
 
@@ -16,10 +16,11 @@ ghost use Rattle.fresh.specs.Rounds.{any, join};
 ghost use Rattle.fresh.specs.Segments.{segment, image, map_offset};
 ghost use Rattle.fresh.specs.Segments as fresh;
 ghost use Rattle.fresh.specs.steps.Runs.{behind_of, ahead_of};
-ghost use Rattle.pool.specs.steps.Pool.{pool_start, pool_event, PoolFits, offset_bound};
+ghost use Rattle.pool.specs.steps.Pool.{pool_start, pool_event, offset_bound};
 ghost use Rattle.layout.specs.steps.Targets.{in_reach, end_in, old_end_before, Stands, Shown, Finds, Aims, label_of, Aiming, held, SamePast, Placed, with_target, LaidBy, end_before, Adds, is_missed, missed};
 ghost use Rattle.layout.specs.steps.Layout.{zero_segment, start_at, Rising, Sorted, Between, Follows, Recorded, all_events, end_from, finished_length, Known, Labelled, Relaxed};
 
+use pool::Pool;
 use relax::{LayoutEvent, Segment};
 
 // What the rounds settle on: how many layouts were made, and the finished length.
@@ -93,20 +94,31 @@ fn place(segment: Segment, offset: u32) -> u32
     }
 }
 
-// The new offset of what was recorded at an offset.
-pub fn map(segments: &[Segment], n: usize, index: &[u32], shift: u32, offset: u32) -> u32
-    requires rising { Rising segments.now n }
-    requires indexed { Indexed index.now (start_at segments.now) n shift }
-    requires in_range { (offset ≢ none → offset ≤ offset_bound) }
-    ensures { result ≡ map_offset (take n segments.now) offset }
-{
-    // The word of an unbound label in the table that C lends.
-    if offset == buffer::NONE {
-        return offset;
-    }
-    match find(segments, n, index, shift, offset) {
-        0 => offset,
-        found => place(segment_at(segments, found - 1), offset),
+// The first `count` segments of a laid out table, and the index of their recorded starts if there is one: by it a recorded offset becomes a new one.
+#[derive(Clone, Copy)]
+pub struct OffsetMap<'a> {
+    pub segments: &'a [Segment],
+    pub count: usize,
+    pub index: &'a [u32],
+    pub shift: u32,
+    ghost rising: { Rising segments.now count },
+    ghost indexed: { Indexed index.now (start_at segments.now) count shift },
+}
+
+impl<'a> OffsetMap<'a> {
+    // The new offset of what was recorded at an offset.
+    pub fn map(&self, offset: u32) -> u32
+        requires { offset ≢ none → offset ≤ offset_bound }
+        ensures { result ≡ map_offset (take self.now.count self.now.segments.now) offset }
+    {
+        // The word of an unbound label in the table that C lends.
+        if offset == buffer::NONE {
+            return offset;
+        }
+        match find(self.segments, self.count, self.index, self.shift, offset) {
+            0 => offset,
+            found => place(segment_at(self.segments, found - 1), offset),
+        }
     }
 }
 
@@ -150,25 +162,16 @@ pub fn next_segment(event: LayoutEvent, long: bool, old: u32, new: u32) -> Segme
     }
 }
 
-// Fills the segments of the pool's alignments, `m` from segment `n` on: the pool starts at the recorded offset `old` and the new offset `new`. Where it ends.
-fn layout_pool(
-    segments: &mut [Segment],
-    constants: &[u8],
-    asked: &[u8],
-    n: usize,
-    m: usize,
-    old: u32,
-    new: u32,
-) -> u32
-    requires pool_fits { PoolFits constants.now asked.now m }
-    requires within { (n ≤ most_entries) × (n + m ≤ length segments.old) × (old ≤ offset_bound) × (new ≤ offset_bound) }
-    ensures segments_after { segments.new ≡ over segments.old n (fresh.segments old new (entries (pool_event old constants.now asked.now) m) []) }
-    ensures value { result ≡ end_from old new (entries (pool_event old constants.now asked.now) m) [] (pool_start old constants.now asked.now m) }
+// Fills the segments of the pool's alignments, from segment `n` on: the pool starts at the recorded offset `old` and the new offset `new`. Where it ends.
+fn layout_pool(segments: &mut [Segment], pool: &Pool, n: usize, old: u32, new: u32) -> u32
+    requires within { (n ≤ most_entries) × (n + pool.now.count ≤ length segments.old) × (old ≤ offset_bound) × (new ≤ offset_bound) }
+    ensures segments_after { segments.new ≡ over segments.old n (fresh.segments old new (entries (pool_event old pool.now.constants.now pool.now.asked.now) pool.now.count) []) }
+    ensures value { result ≡ end_from old new (entries (pool_event old pool.now.constants.now pool.now.asked.now) pool.now.count) [] (pool_start old pool.now.constants.now pool.now.asked.now pool.now.count) }
 {
     let mut from = old;
     let mut to = new;
-    for j in 0..m {
-        let size = pool::size_at(constants, asked, j);
+    for j in 0..pool.count {
+        let size = pool.size_at(j);
         let multiple = pool::constant_alignment(size);
         let old_end = from + encoder::padding_len(from, multiple);
         let new_end = to + encoder::padding_len(to, multiple);
@@ -188,24 +191,21 @@ fn layout_pool(
     to
 }
 
-// Lays out the `n` events and after them the alignments of the pool's `m` constants, the code being `code` bytes long; the finished length. The row of an
+// Lays out the `n` events and after them the alignments of the pool's constants, the code being `code` bytes long; the finished length. The row of an
 // event comes to hold what `kept` makes of what it held and of the event's segment.
 fn layout_by<F: Fn(Segment, Segment) -> Segment>(
     segments: &mut [Segment],
     events: &[u8],
-    constants: &[u8],
-    asked: &[u8],
+    pool: &Pool,
     long: &[bool],
     n: usize,
-    m: usize,
     code: u32,
     kept: F,
 ) -> u32
     requires recorded { Recorded events.now n code }
-    requires pool_fits { PoolFits constants.now asked.now m }
-    requires within { (n + m ≤ most_entries) × (n + m ≤ length segments.old) × (n ≤ length long.now) }
+    requires within { (n + pool.now.count ≤ most_entries) × (n + pool.now.count ≤ length segments.old) × (n ≤ length long.now) }
     requires callable { F.IsAlwaysCallable kept }
-    ensures { LaidBy (F.post kept) segments.old segments.new events.now n code constants.now asked.now m long.now result }
+    ensures { LaidBy (F.post kept) segments.old segments.new events.now n code pool.now.constants.now pool.now.asked.now pool.now.count long.now result }
 {
     let mut last = Segment {
         old_start: 0,
@@ -219,63 +219,45 @@ fn layout_by<F: Fn(Segment, Segment) -> Segment>(
         put_segment(segments, i, kept(segment_at(segments, i), last));
     }
     let new = last.new_end + (code - last.old_end);
-    layout_pool(segments, constants, asked, n, m, code, new)
+    layout_pool(segments, pool, n, code, new)
 }
 
 // That, every row holding its event's segment.
 pub fn layout(
     segments: &mut [Segment],
     events: &[u8],
-    constants: &[u8],
-    asked: &[u8],
+    pool: &Pool,
     long: &[bool],
     n: usize,
-    m: usize,
     code: u32,
 ) -> u32
     requires recorded { Recorded events.now n code }
-    requires pool_fits { PoolFits constants.now asked.now m }
-    requires within { (n + m ≤ most_entries) × (n + m ≤ length segments.old) × (n ≤ length long.now) }
-    ensures segments_after { segments.new ≡ over segments.old 0 (fresh.segments 0 0 (all_events events.now n code constants.now asked.now m) long.now) }
-    ensures value { result ≡ finished_length (all_events events.now n code constants.now asked.now m) long.now (pool_start code constants.now asked.now m) }
+    requires within { (n + pool.now.count ≤ most_entries) × (n + pool.now.count ≤ length segments.old) × (n ≤ length long.now) }
+    ensures segments_after { segments.new ≡ over segments.old 0 (fresh.segments 0 0 (all_events events.now n code pool.now.constants.now pool.now.asked.now pool.now.count) long.now) }
+    ensures value { result ≡ finished_length (all_events events.now n code pool.now.constants.now pool.now.asked.now pool.now.count) long.now (pool_start code pool.now.constants.now pool.now.asked.now pool.now.count) }
 {
-    layout_by(
-        segments,
-        events,
-        constants,
-        asked,
-        long,
-        n,
-        m,
-        code,
-        |_, made| { made },
-    )
+    layout_by(segments, events, pool, long, n, code, |_, made| { made })
 }
 
 // A round's layout: the new ends of all events under a choice, and of the first `n` rows nothing else.
 fn place_ends(
     segments: &mut [Segment],
     events: &[u8],
-    constants: &[u8],
-    asked: &[u8],
+    pool: &Pool,
     long: &[bool],
     n: usize,
-    m: usize,
     code: u32,
 )
     requires recorded { Recorded events.now n code }
-    requires pool_fits { PoolFits constants.now asked.now m }
-    requires within { (n + m ≤ most_entries) × (n + m ≤ length segments.old) × (n ≤ length long.now) }
-    ensures { Placed segments.old segments.new (all_events events.now n code constants.now asked.now m) n long.now }
+    requires within { (n + pool.now.count ≤ most_entries) × (n + pool.now.count ≤ length segments.old) × (n ≤ length long.now) }
+    ensures { Placed segments.old segments.new (all_events events.now n code pool.now.constants.now pool.now.asked.now pool.now.count) n long.now }
 {
     layout_by(
         segments,
         events,
-        constants,
-        asked,
+        pool,
         long,
         n,
-        m,
         code,
         |row, made| Segment {
             new_end: made.new_end,
@@ -521,32 +503,29 @@ pub fn relax_jumps(
     segments: &mut [Segment],
     events: &[u8],
     labels: &[u8],
-    constants: &[u8],
-    asked: &[u8],
+    pool: &Pool,
     long: &mut [bool],
     index: &mut [u32],
     shift: u32,
     n: usize,
-    m: usize,
     code: u32,
 ) -> Summary
     requires recorded { Recorded events.now n code }
-    requires pool_fits { PoolFits constants.now asked.now m }
     requires labelled { Labelled events.now labels.now n }
-    requires within { (n + m ≤ most_entries) × (n + m ≤ length segments.old) × (length long.old ≡ n + m) × (shift < 32) }
-    ensures relaxed { Relaxed (all_events events.now n code constants.now asked.now m) (word_at labels.now) long.old (pool_start code constants.now asked.now m) segments.old segments.new long.new result.layouts result.len }
-    ensures indexed { Indexed index.new (start_at segments.new) (n + m) shift }
+    requires within { (n + pool.now.count ≤ most_entries) × (n + pool.now.count ≤ length segments.old) × (length long.old ≡ n + pool.now.count) × (shift < 32) }
+    ensures relaxed { Relaxed (all_events events.now n code pool.now.constants.now pool.now.asked.now pool.now.count) (word_at labels.now) long.old (pool_start code pool.now.constants.now pool.now.asked.now pool.now.count) segments.old segments.new long.new result.layouts result.len }
+    ensures indexed { Indexed index.new (start_at segments.new) (n + pool.now.count) shift }
 {
-    layout(segments, events, constants, asked, long, n, m, code);
-    index_segments(index, shift, segments, n + m);
-    find_targets(segments, events, labels, n, n + m, index, shift);
+    layout(segments, events, pool, long, n, code);
+    index_segments(index, shift, segments, n + pool.count);
+    find_targets(segments, events, labels, n, n + pool.count, index, shift);
     let mut layouts: u32 = 0;
     // Document 01 asks for this form: the rounds' loop yields the summary.
     let settled = loop {
-        place_ends(segments, events, constants, asked, long, n, m, code);
+        place_ends(segments, events, pool, long, n, code);
         layouts += 1;
         if !lengthen(segments, events, long, n) {
-            let len = layout(segments, events, constants, asked, long, n, m, code);
+            let len = layout(segments, events, pool, long, n, code);
             break Summary { layouts, len };
         }
     };

@@ -1,1 +1,1 @@
-pub mod Pool
+pub mod Turns

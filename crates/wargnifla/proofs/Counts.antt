@@ -9,7 +9,7 @@ use Rattle.words.proofs.Entries.{words_over, word_read}
 use Rattle.buffer.specs.declared.CodeBuffer.{CodeBuffer}
 use Rattle.recording.specs.Calls.{Recording, with_buffer}
 use Rattle.recording.proofs.Words.{Words}
-use Rattle.pool.proofs.Pool.{set_word_same}
+use Rattle.pool.proofs.Turns.{set_word_same}
 use Rattle.wargnifla.specs.Boundary.{counts_size, counts_at, counts_of, recording_in, lent_with}
 
 -- Counts that are words are read as they were written.

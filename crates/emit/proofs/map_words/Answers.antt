@@ -10,23 +10,23 @@ loop-i-init c = refl
 
 pub overflow_mul-k : goal.overflow_mul-k
 overflow_mul-k c =
-    omega (arith, c.requires.words_fit.entry _ c.loop-i-test.true)
+    omega (arith, c.requires.entry _ c.loop-i-test.true)
 
 pub word_at-offset-requires : goal.word_at-offset-requires
 word_at-offset-requires c =
-    omega (arith, c.requires.words_fit.entry _ c.loop-i-test.true)
+    omega (arith, c.requires.entry _ c.loop-i-test.true)
 
 pub map-requires : goal.map-requires
 map-requires c =
-    record { rising = c.requires.rising; indexed = c.requires.indexed; in_range = rw (c.word_at-offset.ensures, mapped_next (record { some = c.requires.words_fit.some; mapped = c.loop-i.invariant })) (c.requires.words_fit.recorded _ c.loop-i-test.true) }
+    rw (c.word_at-offset.ensures, mapped_next (record { some = c.requires.some; mapped = c.loop-i.invariant })) (c.requires.recorded _ c.loop-i-test.true)
 
 pub put_word-requires : goal.put_word-requires
 put_word-requires c =
-    omega (arith, c.requires.words_fit.entry _ c.loop-i-test.true)
+    omega (arith, c.requires.entry _ c.loop-i-test.true)
 
 pub loop-i-preserved : goal.loop-i-preserved
 loop-i-preserved c =
-    mapped_turn (record { some = c.requires.words_fit.some; mapped = c.loop-i.invariant }) c.word_at-offset.ensures c.map.ensures c.put_word.ensures
+    mapped_turn (record { some = c.requires.some; mapped = c.loop-i.invariant }) c.word_at-offset.ensures c.map.ensures c.put_word.ensures
 
 pub returns : goal.returns
 returns c =

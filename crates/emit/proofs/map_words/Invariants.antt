@@ -5,4 +5,4 @@ use Rattle.emit.specs.steps.Emit.{mapped_words}
 use Rattle.emit.proofs.map_words.Given as goal
 
 abbrev pub invariant-loop-i : goal.invariant-loop-i
-invariant-loop-i l = l.table ≡ mapped_words (map_offset (take l.n l.segments)) l.initial.table l.stride l.i
+invariant-loop-i l = l.table ≡ mapped_words (map_offset (take l.offsets.count l.offsets.segments.now)) l.initial.table l.stride l.i

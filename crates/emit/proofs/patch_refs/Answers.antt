@@ -10,19 +10,19 @@ loop-i-init c = refl
 
 pub word_at-requires : goal.word_at-requires
 word_at-requires c =
-    omega (arith, (c.requires.refs_fit.each _ c.loop-i-test.true).entry)
+    omega (arith, (c.requires.each _ c.loop-i-test.true).entry)
 
 pub overflow_mul-i : goal.overflow_mul-i
 overflow_mul-i c =
-    omega (arith, (c.requires.refs_fit.each _ c.loop-i-test.true).entry)
+    omega (arith, (c.requires.each _ c.loop-i-test.true).entry)
 
 pub map-at-requires : goal.map-at-requires
 map-at-requires c =
-    record { rising = c.requires.rising; indexed = c.requires.indexed; in_range = rw c.word_at.ensures (c.requires.refs_fit.recorded _ c.loop-i-test.true) }
+    rw c.word_at.ensures (c.requires.recorded _ c.loop-i-test.true)
 
 pub patch_ref-requires : goal.patch_ref-requires
 patch_ref-requires c =
-    rw (c.loop-i.auto.output, c.map-at.ensures, c.word_at.ensures) (c.requires.refs_fit.each _ c.loop-i-test.true)
+    rw (c.loop-i.auto.output, c.map-at.ensures, c.word_at.ensures) (c.requires.each _ c.loop-i-test.true)
 
 pub loop-i-preserved : goal.loop-i-preserved
 loop-i-preserved c =

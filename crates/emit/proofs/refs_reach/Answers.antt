@@ -9,4 +9,4 @@ pub returns : goal.returns
 unfolding refs_reach
 returns c =
     let a = c.args in
-    all_of_range (ref_reaches a.refs.now a.labels.now a.segments.now a.n) a.count c.all.ensures.ran (λ x b q k. search (rules, tests))
+    all_of_range (ref_reaches a.refs.now a.labels.now a.offsets.now.segments.now a.offsets.now.count) a.count c.all.ensures.ran (λ x b q k. search (rules, tests))

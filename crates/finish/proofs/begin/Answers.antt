@@ -13,14 +13,18 @@ pub returns-in-Err-clause-output_after : goal.returns-in-Err-clause-output_after
 returns-in-Err-clause-output_after c = λ f e ss l.
     finish_unfit _ ss _ _ (finished_as f) (rw l c.in-Err.ensures) (number_not_0 c.in-Err.why) (sym (ap finished_as (given e)))
 
+pub invariant_of-pool : goal.invariant_of-pool
+invariant_of-pool c =
+    record { fits = passed_pool _ _ _ (passed_unfit _ _ _ (sym c.in_default.ensures)) }
+
 pub bind-requires : goal.bind-requires
 bind-requires c =
     let pass = passed_unfit _ _ _ (sym c.in_default.ensures) in
-    record { pool_fits = passed_pool _ _ _ pass; pool_labels = passed_labels _ _ _ pass; in_bound = omega (arith, passed_code _ _ _ pass) }
+    record { pool_labels = passed_labels _ _ _ pass; in_bound = omega (arith, passed_code _ _ _ pass) }
 
 pub start-requires : goal.start-requires
 start-requires c =
-    rw c.bind.ensures (placeable _ _ _ (passed_unfit _ _ _ (sym c.in_default.ensures)))
+    record { counted = refl; placeable = rw c.bind.ensures (placeable _ _ _ (passed_unfit _ _ _ (sym c.in_default.ensures))) }
 
 pub returns-in_err-placed-clause-begins : goal.returns-in_err-placed-clause-begins
 returns-in_err-placed-clause-begins c = λ none.
@@ -38,7 +42,7 @@ returns-in_err-placed-clause-begins c = λ none.
 pub conclude-requires : goal.conclude-requires
 conclude-requires c =
     let pass = passed_unfit _ _ _ (sym c.in_default.ensures) in
-    record { pool_fits = passed_pool _ _ _ pass; pool_labels = record { known = λ j h. omega (arith, (passed_labels _ _ _ pass).known j h, c.bind.auto.labels) } }
+    record { counted = refl; pool_labels = record { known = λ j h. omega (arith, (passed_labels _ _ _ pass).known j h, c.bind.auto.labels) } }
 
 pub returns-clause-output_after : goal.returns-clause-output_after
 returns-clause-output_after c = λ f e ss l.

@@ -2,6 +2,10 @@
 use mathlib.Core.Path.{refl}
 use Rattle.finish.proofs.finish.Goals as goal
 
+pub invariant_of-pool : goal.invariant_of-pool
+invariant_of-pool c =
+    record { fits = (c.in_default.ensures.begins refl).relaxable.ready.pool }
+
 pub returns : goal.returns
 returns c =
     let begins = c.in_default.ensures.begins refl in

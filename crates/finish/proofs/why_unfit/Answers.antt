@@ -25,27 +25,29 @@ pub returns-then-count_open-b : goal.returns-then-count_open-b
 returns-then-count_open-b c =
     unfit_open _ _ _ c.in_ok-why_not_standing.ensures c.entries_fit.ensures c.if-not-entries_fit.false c.count_open.ensures c.if-count_open-b.true
 
+pub invariant_of-pool : goal.invariant_of-pool
+invariant_of-pool c =
+    record { fits = stood_pool _ _ _ c.in_ok-why_not_standing.ensures c.entries_fit.ensures c.if-not-entries_fit.false }
+
 pub is_any_bound-requires : goal.is_any_bound-requires
 is_any_bound-requires c =
-    let stood = c.in_ok-why_not_standing.ensures in
-    record { pool_fits = stood_pool _ _ _ stood c.entries_fit.ensures c.if-not-entries_fit.false; pool_labels = stood_labels _ _ _ stood c.entries_fit.ensures c.if-not-entries_fit.false }
+    record { pool_labels = stood_labels _ _ _ c.in_ok-why_not_standing.ensures c.entries_fit.ensures c.if-not-entries_fit.false }
 
 pub returns-then-is_any_bound : goal.returns-then-is_any_bound
 returns-then-is_any_bound c =
     unfit_bound _ _ _ c.in_ok-why_not_standing.ensures c.entries_fit.ensures c.if-not-entries_fit.false c.count_open.ensures c.if-count_open-b.false
     c.is_any_bound.ensures c.if-is_any_bound.true
 
-pub pool_end-requires : goal.pool_end-requires
-pool_end-requires c =
-    let stood = c.in_ok-why_not_standing.ensures in
-    record { pool_fits = stood_pool _ _ _ stood c.entries_fit.ensures c.if-not-entries_fit.false; in_bound = omega (arith, stood_code _ _ _ stood c.entries_fit.ensures c.if-not-entries_fit.false) }
+pub end-requires : goal.end-requires
+end-requires c =
+    record { in_bound = omega (arith, stood_code _ _ _ c.in_ok-why_not_standing.ensures c.entries_fit.ensures c.if-not-entries_fit.false) }
 
-pub returns-then-pool_end-gt-MOST_CODE : goal.returns-then-pool_end-gt-MOST_CODE
-returns-then-pool_end-gt-MOST_CODE c =
+pub returns-then-end-gt-MOST_CODE : goal.returns-then-end-gt-MOST_CODE
+returns-then-end-gt-MOST_CODE c =
     unfit_long _ _ _ c.in_ok-why_not_standing.ensures c.entries_fit.ensures c.if-not-entries_fit.false c.count_open.ensures c.if-count_open-b.false
-    c.is_any_bound.ensures c.if-is_any_bound.false c.pool_end.ensures.0 c.if-pool_end-gt-MOST_CODE.true
+    c.is_any_bound.ensures c.if-is_any_bound.false c.end.ensures.0 c.if-end-gt-MOST_CODE.true
 
 pub returns : goal.returns
 returns c =
     unfit_none _ _ _ c.in_ok-why_not_standing.ensures c.entries_fit.ensures c.if-not-entries_fit.false c.count_open.ensures c.if-count_open-b.false
-    c.is_any_bound.ensures c.if-is_any_bound.false c.pool_end.ensures.0 c.if-pool_end-gt-MOST_CODE.false
+    c.is_any_bound.ensures c.if-is_any_bound.false c.end.ensures.0 c.if-end-gt-MOST_CODE.false

@@ -12,8 +12,8 @@ returns c =
     let a = c.args in
     let made = c.layout_by.ensures in
     let laid = kept_laid made.recorded (length_entries _ _) (omega arith) (λ x s r k. search rules) in record {
-      segments_after = segments_join a.events.now a.n a.code a.constants.now a.asked.now a.long.now _ _ _ laid.here made.order refl
-          _ _ _ a.m laid.table made.pooled;
+      segments_after = segments_join a.events.now a.n a.code a.pool.now.constants.now a.pool.now.asked.now a.long.now _ _ _ laid.here made.order refl
+          _ _ _ a.pool.now.count laid.table made.pooled;
       value = made.length
-          ∙ ends_join a.events.now a.n a.code a.constants.now a.asked.now a.long.now _ _ _ laid.here made.order refl a.m;
+          ∙ ends_join a.events.now a.n a.code a.pool.now.constants.now a.pool.now.asked.now a.long.now _ _ _ laid.here made.order refl a.pool.now.count;
     }

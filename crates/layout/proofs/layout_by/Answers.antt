@@ -26,10 +26,10 @@ overflow_add-new g c =
     let e : c.loop-i.i ≡ c.args.n = omega arith in
     omega (arith, kept_small c.requires.recorded (rw e at c.loop-i.invariant) (omega arith))
 
-pub layout_pool-requires-clause-within : goal.layout_pool-requires-clause-within
-layout_pool-requires-clause-within g c =
+pub layout_pool-requires : goal.layout_pool-requires
+layout_pool-requires g c =
     let e : c.loop-i.i ≡ c.args.n = omega arith in
-    (omega arith, omega arith, omega (arith, c.requires.recorded.small), kept_small c.requires.recorded (rw e at c.loop-i.invariant) (omega arith))
+    record { within = (omega arith, omega arith, omega (arith, c.requires.recorded.small), kept_small c.requires.recorded (rw e at c.loop-i.invariant) (omega arith)) }
 
 pub returns : goal.returns
 returns g c =

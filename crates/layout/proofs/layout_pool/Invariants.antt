@@ -4,4 +4,4 @@ use Rattle.layout.proofs.layout_pool.Given as goal
 
 abbrev pub invariant-loop-j : goal.invariant-loop-j
 invariant-loop-j l =
-    PoolLaid l.initial.segments l.segments l.constants l.asked l.n l.old l.new l.j l.from l.to
+    PoolLaid l.initial.segments l.segments l.pool.constants.now l.pool.asked.now l.n l.old l.new l.j l.from l.to

@@ -11,4 +11,4 @@ returns c =
     let a = c.args in
     let made = c.layout_by.ensures in
     let ended = kept_ended made.recorded (length_entries _ _) (omega arith) (λ x s r k. search rules) in
-    placed a.events.now a.n a.code a.constants.now a.asked.now a.m a.long.now ended made.order (omega arith) made.pooled
+    placed a.events.now a.n a.code a.pool.now.constants.now a.pool.now.asked.now a.pool.now.count a.long.now ended made.order (omega arith) made.pooled

@@ -11,40 +11,40 @@ use Rattle.layout.proofs.relax_jumps.Goals as goal
 pub layout-requires : goal.layout-requires
 layout-requires c =
     let p = c.requires in
-    record { recorded = p.recorded; pool_fits = p.pool_fits; within = (omega arith, omega arith, omega arith) }
+    record { recorded = p.recorded; within = (omega arith, omega arith, omega arith) }
 
 pub index_segments-requires : goal.index_segments-requires
 index_segments-requires c =
     let p = c.requires in
     let a = c.args in
-    let shown = shown_laid a.events.now a.n a.code a.constants.now a.asked.now a.m _ _ _ p.recorded p.pool_fits (omega arith) (omega arith) c.layout.ensures.segments_after in
+    let shown = shown_laid a.events.now a.n a.code a.pool.now.constants.now a.pool.now.asked.now a.pool.now.count _ _ _ p.recorded a.pool.now.fits (omega arith) (omega arith) c.layout.ensures.segments_after in
     record { sorted = shown_sorted shown; within = (p.within.3, omega arith) }
 
 pub find_targets-requires : goal.find_targets-requires
 find_targets-requires c =
     let p = c.requires in
     let a = c.args in
-    let shown = shown_laid a.events.now a.n a.code a.constants.now a.asked.now a.m _ _ _ p.recorded p.pool_fits (omega arith) (omega arith) c.layout.ensures.segments_after in
+    let shown = shown_laid a.events.now a.n a.code a.pool.now.constants.now a.pool.now.asked.now a.pool.now.count _ _ _ p.recorded a.pool.now.fits (omega arith) (omega arith) c.layout.ensures.segments_after in
     record { shown = (_, shown); indexed = c.index_segments.ensures; labelled = p.labelled; in_bound = omega arith }
 
 pub loop-segments-init : goal.loop-segments-init
 loop-segments-init c =
     let p = c.requires in
     let a = c.args in
-    let size = length_all a.events.now a.n a.code a.constants.now a.asked.now a.m in
-    let shown = shown_laid a.events.now a.n a.code a.constants.now a.asked.now a.m _ _ _ p.recorded p.pool_fits (omega arith) (omega arith) c.layout.ensures.segments_after in
+    let size = length_all a.events.now a.n a.code a.pool.now.constants.now a.pool.now.asked.now a.pool.now.count in
+    let shown = shown_laid a.events.now a.n a.code a.pool.now.constants.now a.pool.now.asked.now a.pool.now.count _ _ _ p.recorded a.pool.now.fits (omega arith) (omega arith) c.layout.ensures.segments_after in
     (omega (arith, c.layout.auto.segments, c.find_targets.auto.segments), refl, standing_none _ _ _ _ (p.within.2 ∙ sym size), c.find_targets.ensures.aiming _ shown)
 
 pub place_ends-requires : goal.place_ends-requires
 place_ends-requires c =
     let p = c.requires in
     let l = c.loop-segments in
-    record { recorded = p.recorded; pool_fits = p.pool_fits; within = (omega arith, l.invariant.0, omega (arith, l.invariant.1)) }
+    record { recorded = p.recorded; within = (omega arith, l.invariant.0, omega (arith, l.invariant.1)) }
 
 pub overflow_add-layouts : goal.overflow_add-layouts
 overflow_add-layouts c =
     let a = c.args in
-    let size = length_all a.events.now a.n a.code a.constants.now a.asked.now a.m in
+    let size = length_all a.events.now a.n a.code a.pool.now.constants.now a.pool.now.asked.now a.pool.now.count in
     omega (arith, layouts_few c.loop-segments.invariant.2, size)
 
 pub lengthen-requires : goal.lengthen-requires
@@ -54,15 +54,15 @@ lengthen-requires c =
     let l = c.loop-segments in
     let placed = c.place_ends.ensures in record {
       within = (omega (arith, l.invariant.0, placed.rest.sized), omega (arith, l.invariant.1), p.recorded.room);
-      adds = round_adds a.events.now a.n a.code a.constants.now a.asked.now a.m (word_at a.labels.now) l.invariant.2 l.invariant.3 (omega arith) placed
-          p.recorded p.pool_fits l.invariant.0;
+      adds = round_adds a.events.now a.n a.code a.pool.now.constants.now a.pool.now.asked.now a.pool.now.count (word_at a.labels.now) l.invariant.2 l.invariant.3 (omega arith) placed
+          p.recorded a.pool.now.fits l.invariant.0;
     }
 
 pub layout-len-requires : goal.layout-len-requires
 layout-len-requires c =
     let p = c.requires in
     let l = c.loop-segments in
-    record { recorded = p.recorded; pool_fits = p.pool_fits; within = (omega arith, omega (arith, l.invariant.0, c.place_ends.ensures.rest.sized), omega (arith, l.invariant.1, c.lengthen.auto.long)) }
+    record { recorded = p.recorded; within = (omega arith, omega (arith, l.invariant.0, c.place_ends.ensures.rest.sized), omega (arith, l.invariant.1, c.lengthen.auto.long)) }
 
 pub loop-segments-smaller : goal.loop-segments-smaller
 loop-segments-smaller c =
@@ -70,7 +70,7 @@ loop-segments-smaller c =
     let l = c.loop-segments in
     let said = c.lengthen.ensures in
     let less =
-    round_less a.events.now a.n a.code a.constants.now a.asked.now a.m (word_at a.labels.now) l.invariant.2 l.invariant.3 (omega arith)
+    round_less a.events.now a.n a.code a.pool.now.constants.now a.pool.now.asked.now a.pool.now.count (word_at a.labels.now) l.invariant.2 l.invariant.3 (omega arith)
     c.place_ends.ensures said.long_after said.value (c.if-not-lengthen.false) in
     omega (arith, less)
 
@@ -81,7 +81,7 @@ loop-segments-preserved c =
     let said = c.lengthen.ensures in
     let placed = c.place_ends.ensures in
     let next =
-    round_more a.events.now a.n a.code a.constants.now a.asked.now a.m (word_at a.labels.now) l.invariant.2 l.invariant.3 (omega arith)
+    round_more a.events.now a.n a.code a.pool.now.constants.now a.pool.now.asked.now a.pool.now.count (word_at a.labels.now) l.invariant.2 l.invariant.3 (omega arith)
     placed said.long_after said.value (c.if-not-lengthen.false) in
     (omega (arith, l.invariant.0, placed.rest.sized), c.lengthen.auto.long ∙ l.invariant.1, next, aiming_stays l.invariant.3 placed)
 
@@ -98,10 +98,10 @@ returns c =
     let p = c.requires in
     let few = p.within.0 in
     let room = p.within.1 in
-    let shown = shown_laid a.events.now a.n a.code a.constants.now a.asked.now a.m _ _ _ p.recorded p.pool_fits few room c.layout.ensures.segments_after in
-    let shown-last = shown_laid a.events.now a.n a.code a.constants.now a.asked.now a.m _ _ _ p.recorded p.pool_fits few (omega (arith, l.invariant.0, c.place_ends.ensures.rest.sized)) made.segments_after in record {
-      relaxed = relaxed_from a.events.now a.n a.code a.constants.now a.asked.now a.m (word_at a.labels.now) _ c.layout.ensures.segments_after c.find_targets.ensures.same_past
-          (round_done a.events.now a.n a.code a.constants.now a.asked.now a.m (word_at a.labels.now) l.invariant.2 l.invariant.3 few
+    let shown = shown_laid a.events.now a.n a.code a.pool.now.constants.now a.pool.now.asked.now a.pool.now.count _ _ _ p.recorded a.pool.now.fits few room c.layout.ensures.segments_after in
+    let shown-last = shown_laid a.events.now a.n a.code a.pool.now.constants.now a.pool.now.asked.now a.pool.now.count _ _ _ p.recorded a.pool.now.fits few (omega (arith, l.invariant.0, c.place_ends.ensures.rest.sized)) made.segments_after in record {
+      relaxed = relaxed_from a.events.now a.n a.code a.pool.now.constants.now a.pool.now.asked.now a.pool.now.count (word_at a.labels.now) _ c.layout.ensures.segments_after c.find_targets.ensures.same_past
+          (round_done a.events.now a.n a.code a.pool.now.constants.now a.pool.now.asked.now a.pool.now.count (word_at a.labels.now) l.invariant.2 l.invariant.3 few
           c.place_ends.ensures said.long_after said.value (c.if-not-lengthen.true) _ made.segments_after _ _ made.value);
       indexed = indexed_shown shown shown-last c.index_segments.ensures;
     }

@@ -12,10 +12,10 @@ use Rattle.layout.proofs.relax_jumps.Given as goal
 -- The table is the one that the loop was handed, but for its events' rows.
 abbrev pub invariant-loop-segments : goal.invariant-loop-segments
 invariant-loop-segments l =
-    (l.n + l.m ≤ length l.segments)
+    (l.n + l.pool.count ≤ length l.segments)
     × (length l.long ≡ length l.initial.long)
-    × Standing (all_events l.events l.n l.code l.constants l.asked l.m) (word_at l.labels) l.initial.long l.initial.segments l.segments l.long l.layouts
-    × Aiming (all_events l.events l.n l.code l.constants l.asked l.m) (word_at l.labels) l.events l.n l.segments
+    × Standing (all_events l.events l.n l.code l.pool.constants.now l.pool.asked.now l.pool.count) (word_at l.labels) l.initial.long l.initial.segments l.segments l.long l.layouts
+    × Aiming (all_events l.events l.n l.code l.pool.constants.now l.pool.asked.now l.pool.count) (word_at l.labels) l.events l.n l.segments
 
 abbrev pub decreases-loop-segments : goal.decreases-loop-segments
-decreases-loop-segments l = jumps (all_events l.events l.n l.code l.constants l.asked l.m) - l.layouts
+decreases-loop-segments l = jumps (all_events l.events l.n l.code l.pool.constants.now l.pool.asked.now l.pool.count) - l.layouts

@@ -9,4 +9,4 @@ pub returns : goal.returns
 unfolding refs_clear
 returns c =
     let a = c.args in
-    all_of_range (ref_clear a.refs.now a.events.now a.n a.code a.constants.now a.asked.now a.m) a.count c.all.ensures.ran (λ x b q k. search (rules, tests))
+    all_of_range (ref_clear a.refs.now a.events.now a.n a.code a.pool.now.constants.now a.pool.now.asked.now a.pool.now.count) a.count c.all.ensures.ran (λ x b q k. search (rules, tests))

@@ -13,12 +13,11 @@ pub relax_jumps-laid-requires : goal.relax_jumps-laid-requires
 relax_jumps-laid-requires c =
     let x = c.requires.layable in
     let ready = x.relaxable.ready in
-    record { recorded = recorded ready; pool_fits = ready.pool; labelled = labelled ready; within = (few x, room x, simp length-replicate at (ap length c.requires.none_long), c.shift_for-shift.ensures.small) }
+    record { recorded = recorded ready; labelled = labelled ready; within = (few x, room x, simp length-replicate at (ap length c.requires.none_long), c.shift_for-shift.ensures.small) }
 
-pub pool_end-end-requires : goal.pool_end-end-requires
-pool_end-end-requires c =
-    let ready = c.requires.layable.relaxable.ready in
-    record { pool_fits = ready.pool; in_bound = omega (arith, (recorded ready).small) }
+pub end-end-requires : goal.end-end-requires
+end-end-requires c =
+    record { in_bound = omega (arith, (recorded c.requires.layable.relaxable.ready).small) }
 
 pub overflow_add-all : goal.overflow_add-all
 overflow_add-all c = omega (arith, few c.requires.layable)

@@ -13,12 +13,12 @@ why_not_in_place-requires c =
 
 pub returns-in_err-why_not_in_place : goal.returns-in_err-why_not_in_place
 returns-in_err-why_not_in_place c =
-    λ es rs. kept_refused _ _ _ _ _ c.args.b.arch _ _ _ _ es rs c.requires _ _ _ c.pool_end-end.ensures.0 c.in_err-why_not_in_place.ensures _ (number_not_0 c.in_err-why_not_in_place.field-0.0) (handed_on c.in_err-why_not_in_place.field-0.0 (search rules))
+    λ es rs. kept_refused _ _ _ _ _ c.args.b.arch _ _ _ _ es rs c.requires _ _ _ c.end-end.ensures.0 c.in_err-why_not_in_place.ensures _ (number_not_0 c.in_err-why_not_in_place.field-0.0) (handed_on c.in_err-why_not_in_place.field-0.0 (search rules))
 
 pub write_in_place-requires : goal.write_in_place-requires
 write_in_place-requires c =
-    copying _ _ _ _ _ c.args.b.arch _ _ _ _ [] [] c.requires _ _ _ c.pool_end-end.ensures.0 c.in_ok-why_not_in_place.ensures refl
+    copying _ _ _ _ _ c.args.b.arch _ _ _ _ [] [] c.requires _ _ _ c.end-end.ensures.0 c.in_ok-why_not_in_place.ensures refl
 
 pub returns : goal.returns
 returns c =
-    λ es rs. kept_done _ _ _ _ _ c.args.b.arch _ _ _ _ es rs c.requires _ _ _ c.pool_end-end.ensures.0 c.in_ok-why_not_in_place.ensures refl _ _ refl c.write_in_place.ensures
+    λ es rs. kept_done _ _ _ _ _ c.args.b.arch _ _ _ _ es rs c.requires _ _ _ c.end-end.ensures.0 c.in_ok-why_not_in_place.ensures refl _ _ refl c.write_in_place.ensures

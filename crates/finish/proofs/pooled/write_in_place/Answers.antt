@@ -11,7 +11,6 @@ patch_uses-requires c =
 pub write-requires : goal.write-requires
 write-requires c =
     let w = c.requires in record {
-      pool_fits = w.pool;
       pool_labels = w.named;
       pool_room = record {
         within = λ j h. omega (arith, w.written.within j h, c.patch_uses.auto.output, c.emit.auto.output, c.copy_run.auto.output);

@@ -14,7 +14,7 @@ pub emit-requires : goal.emit-requires
 emit-requires c =
     let w = c.requires.writing in
     let e = c.map-to.ensures ∙ w.ends in
-    record { pool_fits = w.pool; in_bound = omega (arith, w.near, e); output_within = rw e (omega (arith, w.pooled, c.emit_events.auto.output)) }
+    record { in_bound = omega (arith, w.near, e); output_within = rw e (omega (arith, w.pooled, c.emit_events.auto.output)) }
 
 pub map-to-requires : goal.map-to-requires
 map-to-requires c =
@@ -34,7 +34,6 @@ patch_jumps-requires c =
 pub write-requires : goal.write-requires
 write-requires c =
     let w = c.requires.writing in record {
-      pool_fits = w.pool;
       pool_labels = w.named;
       pool_room = record {
         within = λ j h.
@@ -52,6 +51,6 @@ write-requires c =
 pub returns : goal.returns
 returns c =
     let a = c.args in
-    written_in_order a.output.now a.code.now a.labels.now a.events.now a.refs.now a.constants.now a.asked.now a.long.now a.segments.now
-    a.b.arch a.b.code a.b.events a.b.asked a.b.refs c.emit_events.ensures (c.map-to.ensures ∙ c.requires.writing.ends) c.emit.ensures
+    written_in_order a.output.now a.code.now a.labels.now a.events.now a.refs.now a.pool.now.constants.now a.pool.now.asked.now a.long.now a.segments.now
+    a.b.arch a.b.code a.b.events a.pool.now.count a.b.refs c.emit_events.ensures (c.map-to.ensures ∙ c.requires.writing.ends) c.emit.ensures
     c.patch_refs.ensures c.patch_jumps.ensures c.write.ensures

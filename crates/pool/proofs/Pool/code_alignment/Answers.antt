@@ -4,7 +4,7 @@ use native.Mathlib.Numerals.{add-one}
 use native.Mathlib.Omega.{arith}
 use Rattle.fresh.specs.Pooled.{constant_alignment}
 use Rattle.pool.specs.steps.Pool.{pool_alignment}
-use Rattle.pool.proofs.code_alignment.Goals as goal
+use Rattle.pool.proofs.Pool.code_alignment.Goals as goal
 
 pub loop-j-init : goal.loop-j-init
 unfolding pool_alignment

@@ -3,8 +3,8 @@ use mathlib.Core.Path.{refl, ◌∙◌}
 use native.Mathlib.Omega.{arith}
 use Rattle.words.proofs.Laws.{length_set_word}
 use Rattle.pool.specs.steps.Pool.{pool_unbound}
-use Rattle.pool.proofs.Pool.{unbound_turn}
-use Rattle.pool.proofs.unbind.Goals as goal
+use Rattle.pool.proofs.Turns.{unbound_turn}
+use Rattle.pool.proofs.Pool.unbind.Goals as goal
 
 pub loop-j-init : goal.loop-j-init
 unfolding pool_unbound

@@ -3,7 +3,7 @@ use mathlib.Core.Path.{◌≡◌}
 use Prim.Native.Nat.{◌≤◌}
 use lib.ListN.{length}
 use Rattle.pool.specs.steps.Pool.{pool_unbound}
-use Rattle.pool.proofs.unbind.Given as goal
+use Rattle.pool.proofs.Pool.unbind.Given as goal
 
 abbrev pub invariant-loop-j : goal.invariant-loop-j
-invariant-loop-j l = (l.j ≤ l.n) × (length l.labels ≡ length l.initial.labels) × (l.labels ≡ pool_unbound l.initial.labels l.constants l.asked l.j)
+invariant-loop-j l = (l.j ≤ l.self.count) × (length l.labels ≡ length l.initial.labels) × (l.labels ≡ pool_unbound l.initial.labels l.self.constants.now l.self.asked.now l.j)

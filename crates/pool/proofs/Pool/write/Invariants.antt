@@ -3,7 +3,7 @@ use mathlib.Core.Path.{◌≡◌}
 use Prim.Native.Nat.{◌≤◌}
 use lib.ListN.{length}
 use Rattle.pool.specs.steps.Pool.{pool_written}
-use Rattle.pool.proofs.write.Given as goal
+use Rattle.pool.proofs.Pool.write.Given as goal
 
 abbrev pub invariant-loop-j : goal.invariant-loop-j
-invariant-loop-j l = (l.j ≤ l.n) × (length l.output ≡ length l.initial.output) × (l.output ≡ pool_written l.initial.output l.labels l.constants l.asked l.j)
+invariant-loop-j l = (l.j ≤ l.self.count) × (length l.output ≡ length l.initial.output) × (l.output ≡ pool_written l.initial.output l.labels l.self.constants.now l.self.asked.now l.j)
