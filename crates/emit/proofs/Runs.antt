@@ -3,7 +3,7 @@ use Rattle.std.proofs.Common.{◌≡◌, ℕ, zero, suc, ◌+◌, ◌-◌, ◌<�
 use native.Mathlib.Nat.{sub-zero}
 use lib.Seq.{take-nil}
 use Rattle.seqs.specs.Over.{over}
-use Rattle.seqs.proofs.Overwrites.{over_append, over_mid}
+use Rattle.seqs.proofs.Overwrites.{over_append, over_mid, over_all}
 use Rattle.relax.specs.declared.LayoutEvent.{LayoutEvent}
 use Rattle.relax.specs.declared.Segment.{Segment}
 use Rattle.relax.specs.Events.{event_at, start_of, extent_of, end_of, no_event}
@@ -36,14 +36,20 @@ run_is o s n l h = rw (drop_take o n l) (take-take (s - o) (n - o) (drop o l) (o
 part_is : (start k n : ℕ) (l : List ℕ) → start + k ≤ n → part (take n l) start k ≡ part l start k
 part_is start k n l h = rw (drop_take start n l) (take-take k (n - start) (drop start l) (omega arith))
 
--- a part that was copied into another
+-- a part that a copy of its length was made into
+pub copied : (xs part bytes : List ℕ) (at k : ℕ) → length bytes ≡ k → at + k ≤ length xs → part ≡ over (take (at + k - at) (drop at xs)) 0 bytes
+    → take at xs ++ (part ++ drop (at + k - at) (drop at xs)) ≡ over xs at bytes
+copied xs part bytes at k e h f =
+    let m : at + k - at ≡ k = omega arith in
+    let l : length (take (at + k - at) (drop at xs)) ≡ k = rw m (length-take-le k (drop at xs) (rw (length-drop at xs) (omega arith))) in
+    let whole : part ≡ bytes = f ∙ over_all (take (at + k - at) (drop at xs)) bytes (e ∙ sym l) in
+    rw whole (over_mid xs at (at + k - at) bytes (e ∙ sym m) (omega arith))
+
 pub run_copied : (xs part code : List ℕ) (old start new : ℕ) → old ≤ start → start ≤ length code → new + (start - old) ≤ length xs
-    → let k = new + (start - old) - new in part ≡ take (start - old) (drop old code)
+    → let k = new + (start - old) - new in part ≡ over (take k (drop new xs)) 0 (take (start - old) (drop old code))
     → take new xs ++ (part ++ drop k (drop new xs)) ≡ over xs new (take (start - old) (drop old code))
 run_copied xs part code old start new a b h f =
-    let k : new + (start - old) - new ≡ start - old = omega arith in
-    let run : length (take (start - old) (drop old code)) ≡ start - old = length-take-le (start - old) (drop old code) (rw (length-drop old code) (omega arith)) in
-    rw f (over_mid xs new (new + (start - old) - new) (take (start - old) (drop old code)) (run ∙ sym k) (omega arith))
+    copied xs part (take (start - old) (drop old code)) new (start - old) (length-take-le (start - old) (drop old code) (rw (length-drop old code) (omega arith))) h f
 
 -- an event's form in the part that its segment has
 pub form_back : (xs part : List ℕ) (event : LayoutEvent) (long : Bool) (start end arch : ℕ) (bytes : List ℕ) → end ≡ start + width event long start

@@ -108,7 +108,7 @@ pub fn copy_run(output: &mut [u8], code: &[u8], old: usize, start: usize, new: u
     ensures { output.new ≡ over output.old new (take (start - old) (drop old code.now)) }
 {
     let end = new + (start - old);
-    output[new..end].copy_from_slice(&code[old..start]);
+    seqs::copy(&code[old..start], &mut output[new..end]);
 }
 
 // The word that a branch was recorded with; 0 of any other event, whose form looks at no word, so that there is no Option to open.

@@ -4,4 +4,4 @@ use Rattle.emit.proofs.copy_run.Goals as goal
 
 pub returns : goal.returns
 returns c =
-    search (run_copied, c.requires.0, c.requires.1, c.requires.2, c.copy_from_slice.ensures)
+    search (run_copied, c.requires.0, c.requires.1, c.requires.2, c.copy.ensures)
