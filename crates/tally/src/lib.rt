@@ -16,7 +16,7 @@ pub struct Tally {
     pub cut_short: bool,
 }
 
-pub const NONE: Tally = Tally {
+const NONE: Tally = Tally {
     cases: 0,
     marked: 0,
     agreeing: 0,
@@ -85,7 +85,7 @@ impl Tally {
         }
     }
 
-    pub fn plus(self, next: Tally) -> Tally {
+    fn plus(self, next: Tally) -> Tally {
         Tally {
             cases: self.cases.wrapping_add(next.cases),
             marked: self.marked.wrapping_add(next.marked),
@@ -94,17 +94,6 @@ impl Tally {
             disagreeing: self.disagreeing.wrapping_add(next.disagreeing),
             cut_short: next.cut_short,
         }
-    }
-
-    // How many of `left` cases, or sections of them, are to be read after one more.
-    pub fn left_after(self, left: u32) -> u32
-        requires { 0 < left }
-        ensures { result < left }
-    {
-        if self.cut_short {
-            return 0;
-        }
-        left - 1
     }
 
     // Says where the input did not end with its last case.
