@@ -10,13 +10,10 @@ use Rattle.std.specs.Prelude.{Result, Ok, Err}
 use Rattle.std.specs.Result.{is_ok}
 use Rattle.seqs.specs.Pick.{pick}
 use Rattle.seqs.specs.Counting.{one}
-use Rattle.seqs.proofs.Picking.{yes_eq, no_eq, yes_lt}
-use Rattle.refusals.specs.Numbers as refusals
+use Rattle.seqs.proofs.Picking.{yes_eq, no_eq}
 use Rattle.refusals.specs.declared.Refusal.{Refusal}
 use Rattle.refusals.specs.Answers.{number_of, answer_of}
 use Rattle.refusals.proofs.Variants.{number_not_0}
-use Rattle.buffer.specs.declared.CodeBuffer.{CodeBuffer}
-use Rattle.buffer.specs.State.{refusing}
 
 -- the tests are past, or one refused
 pub past : {A : Type 0} {n : ℕ} (x y : A) → 0 ≡ n → pick (eqb n 0) x y ≡ x
@@ -39,8 +36,3 @@ pub byte_one : (t : Bool) → (bool_byte t ≡ one t) × (bool_byte t ≤ 1)
 unfolding pick
 byte_one true = (refl, omega arith)
 byte_one false = (refl, omega arith)
-
--- no refusal is recorded where there is none
-pub refusing_0 : (b : CodeBuffer) → refusing b 0 ≡ b
-unfolding refusing
-refusing_0 b = yes_lt 0 refusals.first_recorded _ _ (omega arith)

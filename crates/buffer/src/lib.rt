@@ -2,9 +2,9 @@
 // The tables are lent by the caller as byte slices, whole entries of little-endian words; their lengths are their capacities.
 #![tactic(auto)]
 
-ghost use Rattle.std.specs.Prelude.{◌≡◌, ◌+◌, ◌≤◌, ◌&&◌, leb};
+ghost use Rattle.std.specs.Prelude.{◌≡◌, ◌&&◌, leb};
 ghost use Rattle.refusals.specs.Answers.{number_of, answer_of};
-ghost use Rattle.buffer.specs.State.{keeps_events, with_open, turned_down, none_made, recorded, made_of};
+ghost use Rattle.buffer.specs.State.{keeps_events, turned_down, none_made, recorded, made_of};
 ghost use Rattle.buffer.specs.Refusals.{arch_occurs, refusal_occurs, standing};
 ghost use Rattle.buffer.specs.Calls.{started};
 ghost use Rattle.buffer.specs.Tables.{most_open};
@@ -194,25 +194,6 @@ impl CodeBuffer {
             return Err(Refusal::AlreadyFinished);
         }
         Ok(())
-    }
-
-    // The recording after a call for an entry that names a label, and `more` open entries. Such a call has this one exit, since it is slower where the
-    // counts are stored one by one and then loaded as a whole.
-    #[tactic(auto, using(seqs::proofs::Picking::picks), unfolding(crate::specs::State::refusing))]
-    pub(crate) fn entered(mut self, answer: Result<(), Refusal>, more: u32) -> Recorded
-        requires { self.unresolved + more ≤ 4294967295 }
-        ensures { recorded result ≡ turned_down (with_open self (self.unresolved + more)) (answer_of answer) }
-    {
-        self.unresolved += more;
-        if let Err(why) = answer
-            && why.is_recorded()
-        {
-            self.refusal = why.number();
-        }
-        Recorded {
-            buffer: self,
-            answer,
-        }
     }
 
     // A call that is turned down: numbers from 6 on are recorded.

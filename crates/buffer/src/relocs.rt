@@ -106,21 +106,21 @@ impl CodeBuffer {
     ) -> Recorded
         ensures { (recorded result, relocs.new) ≡ add_reloc self labels.now relocs.old offset kind target addend }
     {
-        let answer = self.why_no_reloc(
+        if let Err(why) = self.why_no_reloc(
             labels.len() / LABEL_SIZE,
             relocs.len() / RELOC_SIZE,
             offset,
             kind,
             target,
-        );
-        let mut more: u32 = 0;
-        let mut took: u32 = 0;
-        if answer.is_ok() {
-            more = target_opened(labels, target);
-            took = 1;
-            put_reloc(relocs, self.relocs as usize, offset, kind, target, addend);
+        ) {
+            return self.turn_down(why);
         }
-        self.relocs += took;
-        self.entered(answer, more)
+        put_reloc(relocs, self.relocs as usize, offset, kind, target, addend);
+        self.relocs += 1;
+        self.unresolved += target_opened(labels, target);
+        Recorded {
+            buffer: self,
+            answer: Ok(()),
+        }
     }
 }

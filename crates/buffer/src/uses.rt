@@ -84,21 +84,21 @@ impl CodeBuffer {
     ) -> Recorded
         ensures { (recorded result, uses.new) ≡ use_label self labels.now uses.old offset label code }
     {
-        let answer = self.why_no_use(
+        if let Err(why) = self.why_no_use(
             labels.len() / LABEL_SIZE,
             uses.len() / USE_SIZE,
             label,
             code,
-        );
-        let mut more: u32 = 0;
-        let mut took: u32 = 0;
-        if answer.is_ok() {
-            more = opened(labels, label);
-            took = 1;
-            put_use(uses, self.uses as usize, offset, label, code);
+        ) {
+            return self.turn_down(why);
         }
-        self.uses += took;
-        self.entered(answer, more)
+        put_use(uses, self.uses as usize, offset, label, code);
+        self.uses += 1;
+        self.unresolved += opened(labels, label);
+        Recorded {
+            buffer: self,
+            answer: Ok(()),
+        }
     }
 
     fn why_no_ref(self, known: usize, room: usize, label: u32, code: u32) -> Result<(), Refusal>
@@ -136,20 +136,22 @@ impl CodeBuffer {
     ) -> Recorded
         ensures { (recorded result, refs.new) ≡ record_ref self labels.now refs.old offset label code addend }
     {
-        let answer = self.why_no_ref(
+        if let Err(why) = self.why_no_ref(
             labels.len() / LABEL_SIZE,
             refs.len() / REF_SIZE,
             label,
             code,
-        );
-        let mut more: u32 = 0;
-        let mut took: u32 = 0;
-        if answer.is_ok() && keeps_events(self.arch) {
-            more = opened(labels, label);
-            took = 1;
-            put_ref(refs, self.refs as usize, offset, label, code, addend);
+        ) {
+            return self.turn_down(why);
         }
-        self.refs += took;
-        self.entered(answer, more)
+        if keeps_events(self.arch) {
+            put_ref(refs, self.refs as usize, offset, label, code, addend);
+            self.refs += 1;
+            self.unresolved += opened(labels, label);
+        }
+        Recorded {
+            buffer: self,
+            answer: Ok(()),
+        }
     }
 }

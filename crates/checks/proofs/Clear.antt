@@ -131,16 +131,6 @@ pool_ordered code constants asked n =
           rw e at (pool_rises code constants asked i (j - (i + 1)));
     }
 
--- fewer constants
-pub placed_fewer : (labels constants asked : List ℕ) (code n m : ℕ) → m ≤ n → Placed labels constants asked code n → Placed labels constants asked code m
-placed_fewer labels constants asked code n m h p =
-    record {
-      room = omega (arith, p.room);
-      listed = λ j l. p.listed j (omega arith);
-      known = λ j l. p.known j (omega arith);
-      stands = λ j l. p.stands j (omega arith);
-    }
-
 -- where an alignment starts, by the label of the constant before it
 pub after_constant_lem : (labels constants asked : List ℕ) (code j : ℕ) → 0 < j → Placed labels constants asked code j
     → word_at labels (label_at constants asked (j - 1)) + size_at constants asked (j - 1) ≡ pool_start code constants asked j

@@ -23,8 +23,10 @@ fn form_fits(labels: u32, kind: u32, start: u32, len: u32, what: u32, how: u32) 
 {
     match kind {
         relax::JUMP => {
-            (relax::SHORT_LEN <= len && len <= relax::MOST_JUMP)
-                && (what < labels && how <= relax::NO_CONDITION)
+            relax::SHORT_LEN <= len
+                && len <= relax::MOST_JUMP
+                && what < labels
+                && how <= relax::NO_CONDITION
         }
         relax::ALIGNMENT => {
             buffer::bytes::is_alignment(what) && len == encoder::padding_within(start, what, how)
@@ -241,6 +243,7 @@ fn is_new(
     ensures { result ≡ new_at asked.now constants.now known i }
 {
     let constant = words::word_at(asked, i);
+    // Two early exits, each before what it keeps from being read; one chain of && would have to hold a block, and is no plainer.
     if known <= constant {
         return false;
     }

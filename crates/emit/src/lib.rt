@@ -111,7 +111,7 @@ pub fn copy_run(output: &mut [u8], code: &[u8], old: usize, start: usize, new: u
     output[new..end].copy_from_slice(&code[old..start]);
 }
 
-// The word that a branch was recorded with; 0 of any other event.
+// The word that a branch was recorded with; 0 of any other event, whose form looks at no word, so that there is no Option to open.
 fn recorded_word(code: &[u8], event: LayoutEvent) -> u32
     requires { Writes event × (end_of event ≤ length code.now) }
     ensures { Keeps event result (part code.now (start_of event) (extent_of event)) }

@@ -7,34 +7,40 @@ ghost use Rattle.std.specs.Prelude.{◌≡◌, length, ◌*◌, ◌≤◌};
 
 use buffer::CodeBuffer;
 use finish::{CodeBufferFinalized, Finished};
+use refusals::Refusal;
 use tally::Tally;
 
 // A recording, in little-endian words: bytes that follow, architecture, symbols, bytes of the sheet, the sheet, and the answer: error and index;
 // where the error is 0, finished length, alignment, layouts, the number of labels and their offsets, the number of relocations and of each
 // offset, kind, target and the addend's two halves, a checksum of the code, and the number of code bytes that are stored, and these.
 
-// The error of a refusal's number, by the numbers that are stored (`reference/README.md` names them).
-fn error_of(refusal: u32) -> u32 {
-    match refusal {
-        0 => 0,
-        1 | 5 | 8 | 10 | 17 | 19 => 1,
-        2 | 7 => 2,
-        3 | 18 | 21 => 3,
-        4 | 9 | 13 => 4,
-        11 | 16 => 5,
-        12 | 14 | 23 => 6,
-        15 => 7,
-        6 | 20 | 22 => 8,
+// The error of a refusal, by the numbers that are stored (`reference/README.md` names them).
+fn error_of(why: Refusal) -> u32 {
+    match why {
+        Refusal::Malformed
+        | Refusal::BadAlignment
+        | Refusal::UnknownNumber
+        | Refusal::BadEntry
+        | Refusal::RefOverlaps
+        | Refusal::UsePastEnd => 1,
+        Refusal::UnknownArch | Refusal::ForeignKind => 2,
+        Refusal::PastLimit | Refusal::RefOutOfReach | Refusal::LabelTooFarAhead => 3,
+        Refusal::AlreadyFinished | Refusal::AlreadyBound | Refusal::PoolLabelBound => 4,
+        Refusal::TableFull | Refusal::TooFewSegments => 5,
+        Refusal::CodeFull | Refusal::PoolTooLarge | Refusal::OutputTooSmall => 6,
+        Refusal::UnboundLabel => 7,
+        Refusal::UnsupportedUse | Refusal::BranchOutOfReach | Refusal::LabelTooFarBack => 8,
+        // Nothing that is replayed is refused by these.
         _ => buffer::NONE,
     }
 }
 
 // Too little is lent: a table, the code, the segments or the output.
-fn is_for_room(refusal: u32) -> bool {
-    match refusal {
-        11 | 12 | 16 | 23 => true,
-        _ => false,
-    }
+fn is_for_room(why: Refusal) -> bool {
+    matches!(
+        why,
+        Refusal::TableFull | Refusal::CodeFull | Refusal::TooFewSegments | Refusal::OutputTooSmall
+    )
 }
 
 // What the Rust answered: 0 or the error, and the index of the refused call, or the number of calls.
@@ -45,72 +51,52 @@ struct Answer {
 }
 
 // A call, or finish, was refused.
-fn judge_refusal(refusal: u32, index: u32, answer: Answer) -> Tally {
-    if index == answer.index && error_of(refusal) == answer.error {
-        return tally::compared(true);
-    }
-    if is_for_room(refusal) {
+fn judge_refusal(why: Refusal, index: u32, answer: Answer) -> Tally {
+    let agrees = index == answer.index && error_of(why) == answer.error;
+    if !agrees && is_for_room(why) {
         return tally::passed_over();
     }
-    tally::compared(false)
-}
-
-fn mixed(sum: u32, byte: u8) -> u32 {
-    sum ^ byte as u32
-}
-
-fn next_sum(sum: u32, byte: u8) -> u32 {
-    (mixed(sum, byte) as u64 * 16777619 % 4294967296) as u32
+    tally::compared(agrees)
 }
 
 // FNV-1a, 32 bits.
 fn checksum(code: &[u8]) -> u32 {
     let mut sum: u32 = 0x811c9dc5;
-    let mut i: usize = 0;
-    while i < code.len() {
-        sum = next_sum(sum, code[i]);
-        i += 1;
+    for byte in code {
+        sum = (sum ^ *byte as u32).wrapping_mul(16777619);
     }
     sum
 }
 
 // The code's checksum, and the code itself where it has at most 1,024 bytes.
 fn same_code(code: &[u8], stored: &[u8]) -> bool {
-    if stored.len() < 8 {
-        return false;
-    }
-    if checksum(code) != words::word_at(stored, 0) {
+    if stored.len() < 8 || checksum(code) != words::word_at(stored, 0) {
         return false;
     }
     let kept = words::word_at(stored, 1) as usize;
     if code.len() > 1024 {
         return kept == 0;
     }
-    kept == code.len() && check::same(code, &stored[8..])
+    kept == code.len() && code == &stored[8..]
 }
 
 // An entry of the table, six words with a 0 in them, and a stored one of five words.
 fn same_reloc(entry: &[u8], stored: &[u8]) -> bool
     requires { (length entry.now ≡ 24) × (length stored.now ≡ 20) }
 {
-    check::same(&entry[0..12], &stored[0..12]) && check::same(&entry[16..24], &stored[12..20])
+    entry[..12] == stored[..12] && entry[16..] == stored[12..]
 }
 
 fn same_relocs(relocs: &[u8], stored: &[u8], n: usize) -> bool
     requires { (n * 24 ≤ length relocs.now) × (n * 20 ≤ length stored.now) }
 {
-    let mut i: usize = 0;
-    while i < n {
+    (0..n).all(|i| {
         let at = i * 24;
         let end = at + 24;
         let stored_at = i * 20;
         let stored_end = stored_at + 20;
-        i += 1;
-        if !same_reloc(&relocs[at..end], &stored[stored_at..stored_end]) {
-            return false;
-        }
-    }
-    true
+        same_reloc(&relocs[at..end], &stored[stored_at..stored_end])
+    })
 }
 
 // The number of relocations, these, and the code.
@@ -137,17 +123,11 @@ fn same_tables(
     stored: &[u8],
 ) -> bool {
     let end = finished.labels as usize * 4;
-    if labels.len() < end {
-        return false;
-    }
-    if stored.len() < end {
-        return false;
-    }
     let len = finished.len as usize;
-    if output.len() < len {
+    if labels.len() < end || stored.len() < end || output.len() < len {
         return false;
     }
-    check::same(&labels[0..end], &stored[0..end])
+    labels[..end] == stored[..end]
         && same_relocs_and_code(relocs, finished.relocs, &output[0..len], &stored[end..])
 }
 
@@ -168,10 +148,8 @@ fn same_record(
     output: &[u8],
     stored: &[u8],
 ) -> bool {
-    if stored.len() < 16 {
-        return false;
-    }
-    same_numbers(finished, &stored[0..16])
+    stored.len() >= 16
+        && same_numbers(finished, &stored[0..16])
         && same_tables(finished, labels, relocs, output, &stored[16..])
 }
 
@@ -185,13 +163,14 @@ fn judge_finished(
     output: &[u8],
     stored: &[u8],
 ) -> Tally {
-    if finished.refusal != 0 {
-        return judge_refusal(finished.refusal, index, answer);
+    match finished.answer {
+        Ok(code) => tally::compared(
+            answer.error == 0
+                && answer.index == index
+                && same_record(code, labels, relocs, output, stored),
+        ),
+        Err(why) => judge_refusal(why, index, answer),
     }
-    let agrees = answer.error == 0
-        && answer.index == index
-        && same_record(finished.code, labels, relocs, output, stored);
-    tally::compared(agrees)
 }
 
 // Room for code, recorded or finished. One stored recording has more, 16 MiB.
@@ -228,8 +207,8 @@ fn replay(
         &mut asked,
         &mut relocs,
     );
-    if ran.refusal != 0 {
-        return judge_refusal(ran.refusal, ran.index, answer);
+    if let Err(why) = ran.answer {
+        return judge_refusal(why, ran.index, answer);
     }
     let finished = own_segments::finish_with_table(
         ran.buffer,
@@ -282,16 +261,15 @@ fn try_recording(stored: &[u8], code: &mut Code, output: &mut Code) -> Tally {
 
 // A recording of more bytes than `stored` has counts as the input's end.
 fn read_recording(code: &mut Code, output: &mut Code) -> Tally {
-    let mut head = [0u8; 4];
-    if !tally::fill(&mut head) {
+    let Some(head) = tally::read::<4>() else {
         return tally::cut_short();
-    }
+    };
     let mut stored = [0u8; 163840];
-    let n = words::word_at(&head, 0) as usize;
+    let n = u32::from_le_bytes(head) as usize;
     if n > 163840 {
         return tally::cut_short();
     }
-    let part: &mut [u8] = &mut stored[0..n];
+    let part: &mut [u8] = &mut stored[..n];
     if !tally::fill(part) {
         return tally::cut_short();
     }
@@ -305,31 +283,16 @@ fn print_line(word: &[u8], n: u64) {
 }
 
 // Tells which recording it is that disagrees.
-fn add_recording(sum: Tally, one: Tally) -> Tally {
-    if one.disagreeing != 0 {
-        print_line(b"disagrees: recording", sum.cases);
-    }
-    sum.plus(one)
-}
-
-fn read_recordings(recordings: u32) -> Tally {
+fn read_all() -> Tally {
     let mut code = [0u8; ROOM];
     let mut output = [0u8; ROOM];
-    let mut sum = tally::NONE;
-    let mut left = recordings;
-    while left > 0 {
-        sum = add_recording(sum, read_recording(&mut code, &mut output));
-        left = sum.left_after(left);
-    }
-    sum
-}
-
-fn read_all() -> Tally {
-    let mut head = [0u8; 4];
-    if !tally::fill(&mut head) {
-        return tally::cut_short();
-    }
-    read_recordings(words::word_at(&head, 0))
+    tally::read_all(|i| {
+        let one = read_recording(&mut code, &mut output);
+        if one.disagreeing != 0 {
+            print_line(b"disagrees: recording", i as u64);
+        }
+        one
+    })
 }
 
 fn main() {

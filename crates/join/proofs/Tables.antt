@@ -1,5 +1,5 @@
 -- The table of symbols: what an entry says as definitions are noted, one after the other.
-use Rattle.std.proofs.Common.{◌≡◌, ℕ, ◌+◌, ◌<◌, ◌≢◌, List, [], length, set, replicate, sym, ap, ◌∙◌, ⊎_elim, not-suc-le-zero, add-one, arith, length-set, get_or-set_other, get_or-set_same}
+use Rattle.std.proofs.Common.{◌≡◌, ℕ, ◌+◌, ◌<◌, ◌≢◌, List, length, set, replicate, sym, ap, ◌∙◌, ⊎_elim, add-one, arith, length-set, get_or-set_other, get_or-set_same}
 use Rattle.seqs.specs.Pick.{or_else, first_of}
 use Rattle.seqs.proofs.Numbers.{eq_or_ne}
 use Rattle.seqs.proofs.Picking.{yes_eq, no_eq, neither}
@@ -60,10 +60,7 @@ module _ {pieces labels definitions : List ℕ} {k : ℕ} where
   unfolding find_before find first_of
   begun_all turn begun = record { entry = λ s within. rw (add-one k) (rw (turn.piece, turn.cursor) at (begun.entry s within)) }
 
--- A clear table knows what no piece says, and a table without entries all there is.
+-- A clear table knows what no piece says.
 pub settled_clear : (m : ℕ) (pieces labels definitions : List ℕ) → Settled (replicate m 0) pieces labels definitions 0
 unfolding find first_of
 settled_clear m pieces labels definitions = record { entry = λ s within. zero_at m s }
-
-pub settled_empty : (pieces labels definitions : List ℕ) (n : ℕ) → Settled [] pieces labels definitions n
-settled_empty pieces labels definitions n = record { entry = λ s within. absurd (not-suc-le-zero within) }

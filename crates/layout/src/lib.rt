@@ -112,6 +112,7 @@ impl<'a> OffsetMap<'a> {
         requires { offset ≢ none → offset ≤ offset_bound }
         ensures { result ≡ map_offset (take self.now.count self.now.segments.now) offset }
     {
+        // The word of an unbound label in the table that C lends.
         if offset == buffer::NONE {
             return offset;
         }
@@ -520,6 +521,7 @@ pub fn relax_jumps(
     index_segments(index, shift, segments, n + pool.count);
     find_targets(segments, events, labels, n, n + pool.count, index, shift);
     let mut layouts: u32 = 0;
+    // Document 01 asks for this form: the rounds' loop yields the summary.
     let settled = loop {
         place_ends(segments, events, pool, long, n, code);
         layouts += 1;

@@ -5,15 +5,12 @@ use buffer::CodeBuffer;
 use finish::Finished;
 use relax::Segment;
 
-fn table() -> [Segment; 8192] {
-    let zero = Segment {
-        old_start: 0,
-        old_end: 0,
-        new_start: 0,
-        new_end: 0,
-    };
-    [zero; 8192]
-}
+const UNUSED: Segment = Segment {
+    old_start: 0,
+    old_end: 0,
+    new_start: 0,
+    new_end: 0,
+};
 
 // Finishes a recording; one with a jump that has more than 8,192 events, those of its pool among them, is refused by 16.
 pub fn finish_with_table(
@@ -28,7 +25,7 @@ pub fn finish_with_table(
     relocs: &mut [u8],
     output: &mut [u8],
 ) -> Finished {
-    let mut segments = table();
+    let mut segments = [UNUSED; 8192];
     finish::finish(
         recording,
         code,

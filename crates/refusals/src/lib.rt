@@ -79,7 +79,7 @@ impl Refusal {
     pub fn is_recorded(self) -> bool
         ensures { result ≡ leb unsupported_use (number_of self) }
     {
-        FIRST_RECORDED <= self.number()
+        Refusal::UnsupportedUse.number() <= self.number()
     }
 }
 
@@ -137,93 +137,3 @@ pub fn answer_of(outcome: Result<(), Refusal>) -> u32
         Err(refusal) => refusal.number(),
     }
 }
-
-// OLD
-pub const MALFORMED: u32 = 1;
-
-// Start names an architecture other than X86, X64 and AArch64.
-pub const UNKNOWN_ARCH: u32 = 2;
-
-// A call is lent more than a limit.
-pub const PAST_LIMIT: u32 = 3;
-
-// The recording has finished.
-pub const ALREADY_FINISHED: u32 = 4;
-
-// An alignment is no power of two, or exceeds 4,096.
-pub const BAD_ALIGNMENT: u32 = 5;
-
-// A use has the code that has no field.
-pub const UNSUPPORTED_USE: u32 = 6;
-
-// A use, ref or relocation has a kind foreign to the architecture.
-pub const FOREIGN_KIND: u32 = 7;
-
-// A label, constant or symbol number is unknown.
-pub const UNKNOWN_NUMBER: u32 = 8;
-
-// The label is bound already.
-pub const ALREADY_BOUND: u32 = 9;
-
-// A jump, a relocation's offset or a constant that no entry may hold.
-pub const BAD_ENTRY: u32 = 10;
-
-// A table that the call must extend is full.
-pub const TABLE_FULL: u32 = 11;
-
-// Bytes or padding pass the lent code's end.
-pub const CODE_FULL: u32 = 12;
-
-// A pooled constant's label was bound by the caller.
-pub const POOL_LABEL_BOUND: u32 = 13;
-
-// Code with pool exceeds the limit.
-pub const POOL_TOO_LARGE: u32 = 14;
-
-// A use, label relocation, ref or jump names an unbound label.
-pub const UNBOUND_LABEL: u32 = 15;
-
-// With a jump, the segment table is short.
-pub const TOO_FEW_SEGMENTS: u32 = 16;
-
-// With a jump, a ref's field passes the pooled code's end, or overlaps an event; joining, a field that is filled passes its piece's end.
-pub const REF_OVERLAPS: u32 = 17;
-
-// With a jump, a ref can't reach its label plus addend; joining, a field can't reach its symbol plus addend.
-pub const REF_OUT_OF_REACH: u32 = 18;
-
-// Without a jump, a use's field passes the pooled code's end.
-pub const USE_PAST_END: u32 = 19;
-
-// Without a jump, an AArch64 branch can't reach.
-pub const BRANCH_OUT_OF_REACH: u32 = 20;
-
-// Another use can't reach a label at or after it.
-pub const LABEL_TOO_FAR_AHEAD: u32 = 21;
-
-// Another use can't reach a label before it.
-pub const LABEL_TOO_FAR_BACK: u32 = 22;
-
-// The finished code exceeds the lent output; joining, the whole does, or an offset in it exceeds 32 bits.
-pub const OUTPUT_TOO_SMALL: u32 = 23;
-
-// ELF has no type here for a relocation's kind, or none for the architecture.
-pub const NO_ELF_TYPE: u32 = 24;
-
-// A relocation's addend plus its label's offset leaves signed 64 bits.
-pub const ADDEND_OVERFLOW: u32 = 25;
-
-// The entries of ELF exceed the lent output.
-pub const ELF_OUTPUT_TOO_SMALL: u32 = 26;
-
-// Pieces that are to be joined have different architectures.
-pub const ARCHITECTURES_DIFFER: u32 = 27;
-
-// Two definitions have one symbol.
-pub const SYMBOL_DEFINED_TWICE: u32 = 28;
-
-// A field is to be filled with a symbol that nothing defines, or an unknown or unbound label.
-pub const SYMBOL_UNDEFINED: u32 = 29;
-
-// Of what recording calls refuse by, the numbers from here on are recorded, but for a bind's.
-pub const FIRST_RECORDED: u32 = UNSUPPORTED_USE;

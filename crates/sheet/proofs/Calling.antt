@@ -13,8 +13,7 @@ use Rattle.seqs.proofs.Picking.{yes_eq, no_eq}
 use Rattle.words.specs.Words.{word_at}
 use Rattle.fields.specs.Words64.{sign_extend}
 use Rattle.buffer.specs.declared.CodeBuffer.{CodeBuffer}
-use Rattle.buffer.specs.declared.Recorded.{Recorded}
-use Rattle.buffer.specs.declared.Made.{Made}
+use Rattle.buffer.specs.State.{Recorded, Made}
 use Rattle.buffer.specs.Calls.{put_bytes, get_label, bind_label, align_to, use_label, record_ref, record_jump, add_constant, constant_label, add_reloc}
 use Rattle.recording.specs.Calls.{Recording}
 use Rattle.checks.specs.Lent.{recording_of}

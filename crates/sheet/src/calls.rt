@@ -1,5 +1,6 @@
 // The calls of a sheet, by kind.
 ghost use Rattle.std.specs.Prelude.{◌≡◌, length};
+ghost use Rattle.refusals.specs.Answers.{answer_of};
 ghost use Rattle.buffer.specs.steps.Below.{Told};
 ghost use Rattle.checks.specs.Lent.{recording_of};
 ghost use Rattle.sheet.specs.Run.{call_of, called};
@@ -12,12 +13,12 @@ use sheet_form::kinds::Kind;
 
 // What a call for a label or a constant answers, without its number.
 fn recorded(made: Made) -> Recorded
-    ensures { result ≡ record { buffer = made.buffer; refusal = made.refusal } }
+    ensures same { result.buffer ≡ made.buffer }
+    ensures answered { answer_of result.answer ≡ answer_of made.answer }
 {
-    let buffer = made.buffer;
     Recorded {
-        buffer,
-        refusal: made.refusal,
+        buffer: made.buffer,
+        answer: made.answer.map(|_| ()),
     }
 }
 
@@ -26,7 +27,7 @@ pub(crate) fn call(
     b: CodeBuffer,
     kind: Kind,
     arguments: &[u8],
-    nearest: u32,
+    nearest: Option<u32>,
     code: &mut [u8],
     labels: &mut [u8],
     events: &mut [u8],
@@ -37,7 +38,7 @@ pub(crate) fn call(
     relocs: &mut [u8],
 ) -> Recorded
     requires { (length arguments.now ≡ argument_size) × Told labels.old b.labels b.code nearest }
-    ensures { (result.refusal, recording_of result.buffer code.new labels.new events.new uses.new refs.new constants.new asked.new relocs.new) ≡ called (call_of (code_of kind) arguments.now) (recording_of b code.old labels.old events.old uses.old refs.old constants.old asked.old relocs.old) }
+    ensures { (answer_of result.answer, recording_of result.buffer code.new labels.new events.new uses.new refs.new constants.new asked.new relocs.new) ≡ called (call_of (code_of kind) arguments.now) (recording_of b code.old labels.old events.old uses.old refs.old constants.old asked.old relocs.old) }
 {
     let first = words::word_at(arguments, 0);
     let second = words::word_at(arguments, 1);

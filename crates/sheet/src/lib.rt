@@ -3,6 +3,7 @@
 
 ghost use Rattle.std.specs.Prelude.{◌≡◌, ◌*◌, ◌≤◌, ◌<◌, length, true};
 ghost use Rattle.seqs.specs.Pick.{pick};
+ghost use Rattle.refusals.specs.Answers.{answer_of};
 ghost use Rattle.buffer.specs.State.{with_open};
 ghost use Rattle.buffer.specs.Tables.{label_size};
 ghost use Rattle.buffer.specs.steps.Count.{NamersFit, open_count};
@@ -12,7 +13,8 @@ ghost use Rattle.sheet.specs.Run.{calls_of, run_calls, run_sheet};
 ghost use Rattle.sheet_form.specs.Form.{first_broken, argument_size};
 ghost use Rattle.sheet.specs.steps.Meant.{meant, Going};
 
-use buffer::{CodeBuffer, NONE};
+use buffer::CodeBuffer;
+use refusals::Refusal;
 use sheet_form::bound::Bound;
 use sheet_form::kinds::{self, Kind};
 use sheet_form::{ARGUMENT_SIZE, form};
@@ -22,11 +24,11 @@ mod calls;
 // So many binds of a sheet look at the tables themselves; where there are more, the open entries are counted once, after its calls.
 const FEW_BINDS: usize = 4;
 
-// The recording after a sheet, 0 or the first refusal's number, and the index of the refused call, or the number of calls.
+// The recording after a sheet, the first refusal, and the index of the refused call, or the number of calls.
 #[derive(Clone, Copy)]
 pub struct Ran {
     pub buffer: CodeBuffer,
-    pub refusal: u32,
+    pub answer: Result<(), Refusal>,
     pub index: u32,
 }
 
@@ -90,7 +92,7 @@ fn run(
     requires within { (length arguments.now ≡ length kinds.now * argument_size) × (length kinds.now < 4294967296) }
     requires formed { length kinds.now ≤ first_broken kinds.now arguments.now }
     requires going { Going kept (recording_of b code.old labels.old events.old uses.old refs.old constants.old asked.old relocs.old) }
-    ensures relocs_after { ((result.refusal, result.index), meant kept (recording_of result.buffer code.new labels.new events.new uses.new refs.new constants.new asked.new relocs.new)) ≡ run_calls (calls_of kinds.now arguments.now) 0 (meant kept (recording_of b code.old labels.old events.old uses.old refs.old constants.old asked.old relocs.old)) }
+    ensures relocs_after { ((answer_of result.answer, result.index), meant kept (recording_of result.buffer code.new labels.new events.new uses.new refs.new constants.new asked.new relocs.new)) ≡ run_calls (calls_of kinds.now arguments.now) 0 (meant kept (recording_of b code.old labels.old events.old uses.old refs.old constants.old asked.old relocs.old)) }
     ensures fitting { Fitting (recording_of result.buffer code.new labels.new events.new uses.new refs.new constants.new asked.new relocs.new) }
 {
     let mut last = b;
@@ -104,8 +106,8 @@ fn run(
         let kind = kinds::of_byte(kinds[i]);
         let more = i + 1 < kinds.len();
         bound = bound.before_call(last, kind, labels, more);
-        let nearest = bound.nearest(last.code).unwrap_or(NONE);
-        let answer = calls::call(
+        let nearest = bound.nearest(last.code);
+        let done = calls::call(
             last,
             kind,
             &arguments[at..end],
@@ -119,20 +121,19 @@ fn run(
             asked,
             relocs,
         );
-        let buffer = answer.buffer;
-        if answer.refusal != 0 {
+        if let Err(why) = done.answer {
             return Ran {
-                buffer,
-                refusal: answer.refusal,
+                buffer: done.buffer,
+                answer: Err(why),
                 index: i as u32,
             };
         }
         bound = bound.after_call(kind, last.code);
-        last = going_on(buffer, kept);
+        last = going_on(done.buffer, kept);
     }
     Ran {
         buffer: last,
-        refusal: 0,
+        answer: Ok(()),
         index: kinds.len() as u32,
     }
 }
@@ -172,12 +173,12 @@ pub fn run_sheet(
     asked: &mut [u8],
     relocs: &mut [u8],
 ) -> Ran
-    ensures { ((result.refusal, result.index), recording_of result.buffer code.new labels.new events.new uses.new refs.new constants.new asked.new relocs.new) ≡ run_sheet sheet.now (recording_of b code.old labels.old events.old uses.old refs.old constants.old asked.old relocs.old) }
+    ensures { ((answer_of result.answer, result.index), recording_of result.buffer code.new labels.new events.new uses.new refs.new constants.new asked.new relocs.new) ≡ run_sheet sheet.now (recording_of b code.old labels.old events.old uses.old refs.old constants.old asked.old relocs.old) }
 {
     if !form::is_whole(sheet) {
         return Ran {
             buffer: b,
-            refusal: refusals::MALFORMED,
+            answer: Err(Refusal::Malformed),
             index: 0,
         };
     }
@@ -189,17 +190,17 @@ pub fn run_sheet(
     if broken < n {
         return Ran {
             buffer: b,
-            refusal: refusals::MALFORMED,
+            answer: Err(Refusal::Malformed),
             index: broken as u32,
         };
     }
-    let why = checks::lent::why_not_standing(
+    let stands = checks::lent::why_not_standing(
         b, code, labels, events, uses, refs, constants, asked, relocs, 0, 0,
     );
-    if why != 0 {
+    if let Err(why) = stands {
         return Ran {
             buffer: b,
-            refusal: why,
+            answer: Err(why),
             index: 0,
         };
     }
@@ -207,10 +208,9 @@ pub fn run_sheet(
     let ran = run(
         b, kept, kinds, arguments, code, labels, events, uses, refs, constants, asked, relocs,
     );
-    let left = ran.buffer;
     Ran {
-        buffer: counted(left, kept, labels, events, uses, refs, relocs),
-        refusal: ran.refusal,
+        buffer: counted(ran.buffer, kept, labels, events, uses, refs, relocs),
+        answer: ran.answer,
         index: ran.index,
     }
 }

@@ -1,5 +1,5 @@
 -- What is kept of the labels from call to call of a sheet: that it answers a jump, and that it stays right.
-use Rattle.std.proofs.Common.{◌≡◌, ◌≢◌, sym, ◌∙◌, ℕ, ◌≤◌, ◌<◌, List, Option, Some, None, option_map, max, refl, not, true, false, rules, cond, ltb, Bool, unwrap_or, arith}
+use Rattle.std.proofs.Common.{◌≡◌, ◌≢◌, sym, ◌∙◌, ℕ, ◌≤◌, ◌<◌, List, Option, Some, None, option_map, max, refl, not, true, false, rules, cond, ltb, Bool, arith}
 use Rattle.std.proofs.lemmas.Option.{same_Some}
 use Rattle.buffer.specs.State.{none}
 use Rattle.buffer.specs.steps.Below.{under, greatest_below, Told}
@@ -40,21 +40,25 @@ kept_below code (Some k) = cond (ltb k code) (Some k) None
 
 module _ {labels : List ℕ} {n : ℕ} {s : Bound} (known : Known labels n s) (code m : ℕ) (greatest : s.greatest ≡ Some m) where
   -- Every label is bound below the current offset, or none is bound between it and the greatest offset.
-  pub greatest_told : m < code → code ≤ none → Told labels n code m
-  greatest_told below limit = record { right = λ ne. let is = known.first m greatest ne in is ∙ sym (below_nearer labels n none code (omega arith) limit) }
+  pub greatest_told : m < code → code ≤ none → Told labels n code (Some m)
+  greatest_told below limit =
+      let is = known.first m greatest (λ e. omega arith) in
+      record { right = λ at e. sym (same_Some m at e) ∙ is ∙ sym (below_nearer labels n none code (omega arith) limit) }
 
-  second_kept : (k : ℕ) → s.second ≡ Some k → k < code → code ≤ m → Told labels n code k
-  second_kept k second below limit = record { right = λ ne. let is = known.next m k greatest second ne in is ∙ sym (below_nearer labels n m code (omega arith) limit) }
+  second_kept : (k : ℕ) → s.second ≡ Some k → k < code → code ≤ m → code ≤ none → Told labels n code (Some k)
+  second_kept k second below limit small =
+      let is = known.next m k greatest second (λ e. omega arith) in
+      record { right = λ at e. sym (same_Some k at e) ∙ is ∙ sym (below_nearer labels n m code (omega arith) limit) }
 
-  pub second_told : code ≤ m → Told labels n code (unwrap_or (kept_below code s.second) none)
-  second_told limit = by s.second refl
+  pub second_told : code ≤ m → code ≤ none → Told labels n code (kept_below code s.second)
+  second_told limit small = by s.second refl
     where
-      chosen : (k : ℕ) (t : Bool) → s.second ≡ Some k → ltb k code ≡ t → Told labels n code (unwrap_or (cond t (Some k) None) none)
-      chosen k true e h = second_kept k e (ltb-true k code h) limit
-      chosen k false e h = record { right = λ ne. absurd (ne refl) }
+      chosen : (k : ℕ) (t : Bool) → s.second ≡ Some k → ltb k code ≡ t → Told labels n code (cond t (Some k) None)
+      chosen k true e h = second_kept k e (ltb-true k code h) limit small
+      chosen k false e h = record { right = λ at e. absurd (cc) }
 
-      by : (second : Option ℕ) → s.second ≡ second → Told labels n code (unwrap_or (kept_below code second) none)
-      by None e = record { right = λ ne. absurd (ne refl) }
+      by : (second : Option ℕ) → s.second ≡ second → Told labels n code (kept_below code second)
+      by None e = record { right = λ at e. absurd (cc) }
       by (Some k) e = chosen k (ltb k code) e refl
 
 module _ {kind code : ℕ} {labels labels' : List ℕ} {n n' : ℕ} {s : Bound} (follows : Follows kind code labels n labels' n') (known : Known labels n s) where

@@ -1,6 +1,6 @@
 // The greatest offsets at which labels are bound, kept from call to call of a sheet: what a jump has to know of the labels (number 10) is then no longer
 // looked for among all of them.
-ghost use Rattle.std.specs.Prelude.{◌≡◌, List, ℕ, ◌*◌, ◌≤◌, length, unwrap_or};
+ghost use Rattle.std.specs.Prelude.{◌≡◌, List, ℕ, ◌*◌, ◌≤◌, length};
 ghost use Rattle.buffer.specs.State.{none};
 ghost use Rattle.buffer.specs.Tables.{label_size};
 ghost use Rattle.buffer.specs.steps.Below.{under, greatest_below, Told};
@@ -59,7 +59,7 @@ impl Bound {
 
     // The greatest offset of a label below the current offset, where it is known.
     pub fn nearest(self, code: u32) -> Option<u32>
-        ensures { (labels : List ℕ) (n : ℕ) → Known labels n self → Told labels n code (unwrap_or result none) }
+        ensures { (labels : List ℕ) (n : ℕ) → Known labels n self → Told labels n code result }
     {
         let most = self.greatest?;
         if most < code {

@@ -5,14 +5,16 @@
 // lent only a record of zeros is written; bytes past them are not touched.
 #![tactic(auto)]
 
-ghost use Rattle.std.specs.Prelude.{◌≡◌, [], ◌∷◌, ◌+◌, ◌*◌, ◌≤◌, length};
+ghost use Rattle.std.specs.Prelude.{◌≡◌, [], ◌∷◌, ◌+◌, ◌*◌, ◌≤◌, ◌<◌, length, MatchOption};
 ghost use Rattle.seqs.specs.Over.{over};
 ghost use Rattle.words.specs.Words.{bytes_of_all, over_words};
 ghost use Rattle.join.specs.Pieces as joining;
+ghost use Rattle.join.specs.Join.{joined_as};
 ghost use Rattle.wargnifla.specs.Boundary.{version, counts_at, counts_of, record_of, record_at, start, put_bytes, align, add_constant, add_reloc, lent_of, run_sheet, finish, write_relas, read_relas, join, counts_size, record_size};
 
 use buffer::CodeBuffer;
 use finish::CodeBufferFinalized;
+use refusals::Refusal;
 use relax::Segment;
 
 // 0.8.0: the major number times 1,000,000, the minor number times 1,000, and the patch number.
@@ -23,12 +25,14 @@ const COUNTS_SIZE: usize = 52;
 
 const RECORD_SIZE: usize = 24;
 
-// The counts that are lent.
-fn counts_at(counts: &[u8]) -> CodeBuffer
-    requires { counts_size ≤ length counts.now }
-    ensures { result ≡ counts_at counts.now }
+// The counts that are lent, if there are bytes for them.
+fn counts_at(counts: &[u8]) -> Option<CodeBuffer>
+    ensures { MatchOption result (length counts.now < counts_size) (λ b. (counts_size ≤ length counts.now) × (b ≡ counts_at counts.now)) }
 {
-    CodeBuffer {
+    if counts.len() < COUNTS_SIZE {
+        return None;
+    }
+    Some(CodeBuffer {
         arch: words::word_at(counts, 0),
         symbols: words::word_at(counts, 1),
         finished: words::word_at(counts, 2),
@@ -42,7 +46,7 @@ fn counts_at(counts: &[u8]) -> CodeBuffer
         asked: words::word_at(counts, 10),
         relocs: words::word_at(counts, 11),
         unresolved: words::word_at(counts, 12),
-    }
+    })
 }
 
 // Four words from word `k` on.
@@ -97,7 +101,7 @@ fn record_at(finalized: &[u8]) -> CodeBufferFinalized
     }
 }
 
-// What a refused finish reports.
+// What a refused finish or join reports.
 const NO_RECORD: CodeBufferFinalized = CodeBufferFinalized {
     arch: 0,
     len: 0,
@@ -106,6 +110,24 @@ const NO_RECORD: CodeBufferFinalized = CodeBufferFinalized {
     labels: 0,
     relocs: 0,
 };
+
+// Writes what finish or join reports, and gives the number that it answers.
+fn report(finalized: &mut [u8], answer: Result<CodeBufferFinalized, Refusal>) -> u32
+    requires { record_size ≤ length finalized.old }
+    ensures answered { result ≡ (joined_as answer).refusal }
+    ensures written { finalized.new ≡ over_words finalized.old (record_of (joined_as answer).code) }
+{
+    match answer {
+        Ok(code) => {
+            put_record(finalized, code);
+            0
+        }
+        Err(refusal) => {
+            put_record(finalized, NO_RECORD);
+            refusal.number()
+        }
+    }
+}
 
 // The library's version.
 pub fn wargnifla_version() -> u32
@@ -119,25 +141,23 @@ pub fn wargnifla_start(arch: u32, symbols: u32, counts: &mut [u8]) -> u32
     ensures { (result, counts.new) ≡ start arch symbols counts.old }
 {
     if counts.len() < COUNTS_SIZE {
-        return refusals::MALFORMED;
+        return Refusal::Malformed as u32;
     }
-    let answer = CodeBuffer::new(arch, symbols);
-    let buffer = answer.buffer;
-    put_counts(counts, buffer);
-    answer.refusal
+    let started = CodeBuffer::new(arch, symbols);
+    put_counts(counts, started.buffer);
+    refusals::answer_of(started.answer)
 }
 
 // Appends bytes, any number of them.
 pub fn wargnifla_put_bytes(counts: &mut [u8], code: &mut [u8], bytes: &[u8]) -> u32
     ensures { (result, (counts.new, code.new)) ≡ put_bytes counts.old code.old bytes.now }
 {
-    if counts.len() < COUNTS_SIZE {
-        return refusals::MALFORMED;
-    }
-    let answer = counts_at(counts).put_bytes(code, bytes);
-    let buffer = answer.buffer;
-    put_counts(counts, buffer);
-    answer.refusal
+    let Some(b) = counts_at(counts) else {
+        return Refusal::Malformed as u32;
+    };
+    let done = b.put_bytes(code, bytes);
+    put_counts(counts, done.buffer);
+    refusals::answer_of(done.answer)
 }
 
 // Pads the code to a multiple, where that takes no more than `most` bytes; else it spends none.
@@ -150,13 +170,12 @@ pub fn wargnifla_align(
 ) -> u32
     ensures { (result, (counts.new, (code.new, events.new))) ≡ align counts.old code.old events.old multiple most }
 {
-    if counts.len() < COUNTS_SIZE {
-        return refusals::MALFORMED;
-    }
-    let answer = counts_at(counts).try_align_to_within(code, events, multiple, most);
-    let buffer = answer.buffer;
-    put_counts(counts, buffer);
-    answer.refusal
+    let Some(b) = counts_at(counts) else {
+        return Refusal::Malformed as u32;
+    };
+    let done = b.try_align_to_within(code, events, multiple, most);
+    put_counts(counts, done.buffer);
+    refusals::answer_of(done.answer)
 }
 
 // A new constant of up to 64 bytes, and its number.
@@ -168,15 +187,22 @@ pub fn wargnifla_add_constant(
 ) -> u32
     ensures { (result, (counts.new, (constants.new, number.new))) ≡ add_constant counts.old constants.old bytes.now }
 {
-    if counts.len() < COUNTS_SIZE {
+    let Some(b) = counts_at(counts) else {
         *number = buffer::NONE;
-        return refusals::MALFORMED;
+        return Refusal::Malformed as u32;
+    };
+    let made = b.add_constant(constants, bytes);
+    put_counts(counts, made.buffer);
+    match made.answer {
+        Ok(n) => {
+            *number = n;
+            0
+        }
+        Err(why) => {
+            *number = buffer::NONE;
+            why.number()
+        }
     }
-    let answer = counts_at(counts).add_constant(constants, bytes);
-    let buffer = answer.buffer;
-    put_counts(counts, buffer);
-    *number = answer.number;
-    answer.refusal
 }
 
 // A relocation with an addend of 64 bits, two's complement.
@@ -191,14 +217,12 @@ pub fn wargnifla_add_reloc(
 ) -> u32
     ensures { (result, (counts.new, relocs.new)) ≡ add_reloc counts.old labels.now relocs.old offset kind target addend }
 {
-    if counts.len() < COUNTS_SIZE {
-        return refusals::MALFORMED;
-    }
-    let b = counts_at(counts);
-    let answer = b.add_reloc_at_offset(labels, relocs, offset, kind, target, addend);
-    let buffer = answer.buffer;
-    put_counts(counts, buffer);
-    answer.refusal
+    let Some(b) = counts_at(counts) else {
+        return Refusal::Malformed as u32;
+    };
+    let done = b.add_reloc_at_offset(labels, relocs, offset, kind, target, addend);
+    put_counts(counts, done.buffer);
+    refusals::answer_of(done.answer)
 }
 
 // Makes the calls of a sheet up to the first that is refused, whose index becomes `index`.
@@ -217,26 +241,16 @@ pub fn wargnifla_run_sheet(
 ) -> u32
     ensures { ((result, index.new), lent_of counts.new code.new labels.new events.new uses.new refs.new constants.new asked.new relocs.new) ≡ run_sheet sheet.now (lent_of counts.old code.old labels.old events.old uses.old refs.old constants.old asked.old relocs.old) }
 {
-    if counts.len() < COUNTS_SIZE {
+    let Some(b) = counts_at(counts) else {
         *index = 0;
-        return refusals::MALFORMED;
-    }
-    let answer = sheet::run_sheet(
-        counts_at(counts),
-        sheet,
-        code,
-        labels,
-        events,
-        uses,
-        refs,
-        constants,
-        asked,
-        relocs,
+        return Refusal::Malformed as u32;
+    };
+    let ran = sheet::run_sheet(
+        b, sheet, code, labels, events, uses, refs, constants, asked, relocs,
     );
-    let buffer = answer.buffer;
-    put_counts(counts, buffer);
-    *index = answer.index;
-    answer.refusal
+    put_counts(counts, ran.buffer);
+    *index = ran.index;
+    refusals::answer_of(ran.answer)
 }
 
 // Finishes a recording; what it reports is written to `finalized`.
@@ -257,30 +271,16 @@ pub fn wargnifla_finish(
     ensures { (result, (counts.new, ((labels.new, (relocs.new, (segments.new, output.new))), finalized.new))) ≡ finish (lent_of counts.old code.now labels.old events.now uses.now refs.now constants.now asked.now relocs.old) segments.old output.old finalized.old }
 {
     if finalized.len() < RECORD_SIZE {
-        return refusals::MALFORMED;
+        return Refusal::Malformed as u32;
     }
-    if counts.len() < COUNTS_SIZE {
-        put_record(finalized, NO_RECORD);
-        return refusals::MALFORMED;
-    }
-    let answer = finish::finish(
-        counts_at(counts),
-        code,
-        labels,
-        events,
-        uses,
-        refs,
-        constants,
-        asked,
-        relocs,
-        segments,
-        output,
+    let Some(b) = counts_at(counts) else {
+        return report(finalized, Err(Refusal::Malformed));
+    };
+    let done = finish::finish(
+        b, code, labels, events, uses, refs, constants, asked, relocs, segments, output,
     );
-    let buffer = answer.buffer;
-    put_counts(counts, buffer);
-    let report = answer.code;
-    put_record(finalized, report);
-    answer.refusal
+    put_counts(counts, done.buffer);
+    report(finalized, done.answer)
 }
 
 // Writes the relocations of a finished record as ELF's Elf64_Rela entries; a label target becomes the symbol `section`.
@@ -294,16 +294,16 @@ pub fn wargnifla_write_relas(
     ensures { (result, output.new) ≡ write_relas finalized.now labels.now relocs.now section output.old }
 {
     if finalized.len() < RECORD_SIZE {
-        return refusals::MALFORMED;
+        return Refusal::Malformed as u32;
     }
-    elf::write_relas(record_at(finalized), labels, relocs, section, output)
+    refusals::answer_of(elf::write_relas(record_at(finalized), labels, relocs, section, output))
 }
 
 // Takes such entries back to offset, type, symbol and addend.
 pub fn wargnifla_read_relas(relas: &[u8], table: &mut [u8]) -> u32
     ensures { (result, table.new) ≡ read_relas relas.now table.old }
 {
-    elf::read_relas(relas, table)
+    refusals::answer_of(elf::read_relas(relas, table))
 }
 
 // Joins finished recordings; the record of the whole is written to `finalized`.
@@ -321,7 +321,7 @@ pub fn wargnifla_join(
     ensures { (result, ((output.new, (joined_labels.new, joined_relocs.new)), finalized.new)) ≡ join (joining.lent_of pieces.now code.now labels.now relocs.now definitions.now) output.old joined_labels.old joined_relocs.old finalized.old }
 {
     if finalized.len() < RECORD_SIZE {
-        return refusals::MALFORMED;
+        return Refusal::Malformed as u32;
     }
     let answer = join::join(
         pieces,
@@ -333,7 +333,5 @@ pub fn wargnifla_join(
         joined_labels,
         joined_relocs,
     );
-    let report = answer.code;
-    put_record(finalized, report);
-    answer.refusal
+    report(finalized, answer)
 }

@@ -14,11 +14,15 @@ pub fn word_at(bytes: &[u8], k: usize) -> u32
     u32::from_le_bytes([bytes[i], bytes[i + 1], bytes[i + 2], bytes[i + 3]])
 }
 
-// Makes `v` word `k` of `bytes`.
+// Makes `v` word `k` of `bytes`, byte by byte: a copy of the four would ask in some loops whether they overlap.
 pub fn put_word(bytes: &mut [u8], k: usize, v: u32)
     requires { k * 4 + 4 ≤ length bytes.old }
     ensures { bytes.new ≡ set_word bytes.old k v }
 {
     let i = k * 4;
-    bytes[i..i + 4].copy_from_slice(&v.to_le_bytes());
+    let [first, second, third, fourth] = v.to_le_bytes();
+    bytes[i] = first;
+    bytes[i + 1] = second;
+    bytes[i + 2] = third;
+    bytes[i + 3] = fourth;
 }

@@ -1,7 +1,7 @@
 // Cases A to D of document 01, run through the recording calls and finish: each letter, then the finished length, layouts and long jumps, in decimal.
 #![tactic(auto)]
 
-ghost use Rattle.std.specs.Prelude.{◌<◌, ◌≤◌};
+ghost use Rattle.std.specs.Prelude.{◌<◌};
 
 use buffer::CodeBuffer;
 use finish::Finished;
@@ -23,9 +23,7 @@ fn put_zeros(recording: CodeBuffer, code: &mut [u8; 256], n: u32) -> CodeBuffer 
     if n > 128 {
         return recording;
     }
-    let end = n as usize;
-    let put = recording.put_bytes(code, &ZEROS[0..end]);
-    put.buffer
+    recording.put_bytes(code, &ZEROS[..n as usize]).buffer
 }
 
 // A jump of 5 bytes without a condition.
@@ -37,23 +35,20 @@ fn put_jump(
     label: u32,
 ) -> CodeBuffer {
     let start = recording.code;
-    let put = recording.put_bytes(code, b"\xe9\x00\x00\x00\x00");
-    let jump = put
+    let put = recording.put_bytes(code, b"\xe9\x00\x00\x00\x00").buffer;
+    put.record_relaxable_jump(labels, events, start, 5, label, 16)
         .buffer
-        .record_relaxable_jump(labels, events, start, 5, label, 16);
-    jump.buffer
 }
 
 fn new_label(recording: CodeBuffer, labels: &mut [u8; 8]) -> CodeBuffer {
-    let made = recording.get_label(labels);
-    made.buffer
+    recording.get_label(labels).buffer
 }
 
 // None of these recordings has uses, refs or relocations.
 fn bind(recording: CodeBuffer, labels: &mut [u8; 8], events: &[u8; 40], label: u32) -> CodeBuffer {
-    let none = [0u8; 0];
-    let bound = recording.try_bind_label(labels, events, &none, &none, &none, label);
-    bound.buffer
+    recording
+        .try_bind_label(labels, events, b"", b"", b"", label)
+        .buffer
 }
 
 fn record_forward(
@@ -90,8 +85,8 @@ fn record_aligned(
 ) -> CodeBuffer {
     let labelled = new_label(start, labels);
     let jumped = put_jump(labelled, code, labels, events, 0);
-    let aligned = jumped.try_align_to(code, events, 16);
-    bind(aligned.buffer, labels, events, 0)
+    let aligned = jumped.try_align_to(code, events, 16).buffer;
+    bind(aligned, labels, events, 0)
 }
 
 fn record(
@@ -100,33 +95,30 @@ fn record(
     labels: &mut [u8; 8],
     events: &mut [u8; 40],
 ) -> CodeBuffer {
-    let start = CodeBuffer::new(2, 0);
+    let start = CodeBuffer::new(2, 0).buffer;
     match recipe {
-        Recipe::Forward(zeros) => record_forward(start.buffer, code, labels, events, zeros),
-        Recipe::Chain => record_chain(start.buffer, code, labels, events),
-        Recipe::Aligned => record_aligned(start.buffer, code, labels, events),
+        Recipe::Forward(zeros) => record_forward(start, code, labels, events, zeros),
+        Recipe::Chain => record_chain(start, code, labels, events),
+        Recipe::Aligned => record_aligned(start, code, labels, events),
     }
 }
 
-// 1 where the finished code has a long jump at `at`, by its opcode.
-fn long_at(output: &[u8; 256], at: usize) -> u64
+// Whether the finished code has a long jump at `at`, by its opcode.
+fn is_long(output: &[u8; 256], at: usize) -> bool
     requires { at < 256 }
-    ensures { result ≤ 1 }
 {
-    if output[at] == 0xe9 {
-        return 1;
-    }
-    0
+    output[at] == 0xe9
 }
 
 // How many jumps are long: the finished code starts with them. A short one has 2 bytes, a long one 5.
 fn long_jumps(recipe: Recipe, output: &[u8; 256]) -> u64 {
-    let first = long_at(output, 0);
-    let second = (2 + 3 * first) as usize;
+    let first = is_long(output, 0);
     match recipe {
-        Recipe::Forward(zeros) => first,
-        Recipe::Chain => first + long_at(output, second),
-        Recipe::Aligned => first,
+        Recipe::Forward(_) | Recipe::Aligned => first as u64,
+        Recipe::Chain => {
+            let second = if first { 5 } else { 2 };
+            first as u64 + is_long(output, second) as u64
+        }
     }
 }
 
@@ -172,13 +164,16 @@ fn run(name: &[u8], recipe: Recipe) {
     let mut output = [0u8; 256];
     let finished = run_recipe(recipe, &mut output);
     io::write_all(1, name);
-    if finished.refusal == 0 {
-        print_number(finished.code.len as u64);
-        print_number(finished.code.layouts as u64);
-        print_number(long_jumps(recipe, &output));
-    } else {
-        io::write_all(1, b" refused");
-        print_number(finished.refusal as u64);
+    match finished.answer {
+        Ok(code) => {
+            print_number(code.len as u64);
+            print_number(code.layouts as u64);
+            print_number(long_jumps(recipe, &output));
+        }
+        Err(why) => {
+            io::write_all(1, b" refused");
+            print_number(why.number() as u64);
+        }
     }
     io::write_all(1, b"\n");
 }

@@ -7,4 +7,4 @@ returns-then-finalized-lt-RECORD_SIZE c = search join_short
 
 pub returns : goal.returns
 returns c =
-    search (join_crosses, c.if-finalized-lt-RECORD_SIZE.false, c.join-answer.ensures, c.put_record.ensures)
+    rw c.report.ensures.answered (join_crosses _ _ _ _ _ _ _ _ c.if-finalized-lt-RECORD_SIZE.false c.join-answer.ensures c.report.ensures.written)

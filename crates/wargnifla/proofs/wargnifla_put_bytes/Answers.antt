@@ -1,13 +1,16 @@
 -- `wargnifla_put_bytes` meets its contract.
+use Rattle.std.proofs.Common.{rules, length, ◌<◌}
+use Rattle.wargnifla.specs.Boundary.{counts_size}
 use Rattle.wargnifla.proofs.Crossing.{bytes_short, bytes_cross}
 use Rattle.wargnifla.proofs.wargnifla_put_bytes.Goals as goal
 
-pub returns-then-counts-lt-COUNTS_SIZE : goal.returns-then-counts-lt-COUNTS_SIZE
-returns-then-counts-lt-COUNTS_SIZE c =
+pub returns-in_default : goal.returns-in_default
+returns-in_default c =
     let a = c.args in
-    bytes_short a.counts.now a.counts.now a.code.now a.code.now a.bytes.now c.if-counts-lt-COUNTS_SIZE.true
+    let short : length c.args.counts.now < counts_size = search rules in
+    bytes_short a.counts.now a.counts.now a.code.now a.code.now a.bytes.now short
 
 pub returns : goal.returns
 returns c =
     let a = c.args in
-    bytes_cross a.counts.now _ a.code.now _ a.bytes.now _ _ c.if-counts-lt-COUNTS_SIZE.false c.counts_at.ensures c.put_bytes-answer.ensures c.put_counts.ensures
+    rw c.answer_of.ensures (bytes_cross a.counts.now _ a.code.now _ a.bytes.now _ _ c.in-Some.ensures.0 c.in-Some.ensures.1 c.put_bytes-done.ensures c.put_counts.ensures)

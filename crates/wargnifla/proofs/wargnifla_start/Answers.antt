@@ -9,4 +9,4 @@ returns-then-counts-lt-COUNTS_SIZE c =
 
 pub returns : goal.returns
 returns c =
-    start_crosses c.args.counts.now _ _ _ _ c.if-counts-lt-COUNTS_SIZE.false c.new-answer.ensures c.put_counts.ensures
+    rw c.answer_of.ensures (start_crosses c.args.counts.now _ _ _ _ c.if-counts-lt-COUNTS_SIZE.false c.new-started.ensures c.put_counts.ensures)

@@ -10,6 +10,6 @@ returns-then-finalized-lt-RECORD_SIZE c =
 pub returns : goal.returns
 returns c =
     let a = c.args in
-    relas_cross a.finalized.now a.labels.now a.relocs.now a.section a.output.now _ _ c.if-finalized-lt-RECORD_SIZE.false
+    rw c.answer_of.ensures (relas_cross a.finalized.now a.labels.now a.relocs.now a.section a.output.now _ _ c.if-finalized-lt-RECORD_SIZE.false
     c.record_at.ensures
-    c.write_relas.ensures
+    c.write_relas.ensures)

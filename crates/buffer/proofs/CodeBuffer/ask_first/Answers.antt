@@ -1,9 +1,5 @@
 -- `ask_first` meets its contract: the constant stands in its table, and the tests leave room in the other two.
 use Rattle.std.proofs.Common.{arith}
-use Rattle.std.proofs.Common.{rules}
-use Rattle.seqs.proofs.Picking.{picks}
-use borrow.Author.Tests.{tests}
-use Rattle.buffer.specs.Calls.{asked_first}
 use Rattle.buffer.proofs.Accepted.{constant_label_accepted}
 use Rattle.buffer.proofs.CodeBuffer.ask_first.Goals as goal
 

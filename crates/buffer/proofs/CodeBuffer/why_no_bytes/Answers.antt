@@ -1,8 +1,4 @@
 -- `why_no_bytes` meets its contract: its tests are those of `why_bytes`, in order.
-use Rattle.std.proofs.Common.{rules}
-use Rattle.seqs.proofs.Picking.{picks}
-use Rattle.refusals.proofs.Chains.{chains}
-use Rattle.buffer.specs.Refusals.{why_bytes}
 use Rattle.std.proofs.Common.{sym, arith}
 use Rattle.buffer.proofs.Standing.{count_fits}
 use Rattle.buffer.proofs.CodeBuffer.why_no_bytes.Goals as goal

@@ -1,8 +1,5 @@
 -- `why_not_bind` meets its contract: its tests are those of `why_bind`, in order.
-use Rattle.std.proofs.Common.{rules, ◌≡◌, Err}
-use Rattle.seqs.proofs.Picking.{picks}
-use Rattle.refusals.proofs.Chains.{chains, refused_first}
-use Rattle.buffer.specs.Refusals.{why_bind}
+use Rattle.std.proofs.Common.{rules, ◌≡◌}
 use Prim.Native.Nat.{◌/◌}
 use mathlib.Core.Bool.{◌&&◌}
 use borrow.Author.Tests.{leb-true}

@@ -10,4 +10,4 @@ returns-then-most-code c =
 pub returns : goal.returns
 returns c =
     let is : c.filter.result ≡ kept_below c.args.code c.args.self.second = search rules in
-    λ labels n known. rw is (second_told known c.args.code c.in_ok-most.most (search rules) c.if-most-code.false)
+    λ labels n known. rw is (second_told known c.args.code c.in_ok-most.most (search rules) c.if-most-code.false (omega arith))
