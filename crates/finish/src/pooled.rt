@@ -5,14 +5,13 @@ ghost use Rattle.refusals.specs.declared.Refusal.{Refusal};
 ghost use Rattle.refusals.specs.Answers.{answer_of};
 ghost use Rattle.seqs.specs.Pick.{first, or_else};
 ghost use Rattle.words.specs.Words.{word_at};
-ghost use Rattle.lookup.specs.steps.Index.{index_size, large_size, Indexed};
+ghost use Rattle.lookup.specs.steps.Index.{index_size, large_size};
 ghost use Rattle.relax.specs.declared.LayoutEvent.{LayoutEvent};
 ghost use Rattle.relax.specs.declared.Segment.{Segment};
 ghost use Rattle.relax.specs.Events.{event_at};
 ghost use Rattle.buffer.specs.Tables.{most_entries, label_size, use_size};
 ghost use Rattle.recording.specs.View as tables;
 ghost use Rattle.layout.specs.declared.Summary.{Summary};
-ghost use Rattle.layout.specs.steps.Layout.{start_at};
 ghost use Rattle.buffer.specs.steps.Count.{NamersFit, open_count};
 ghost use Rattle.checks.specs.steps.Fields.{refs_clear, why_uses};
 ghost use Rattle.checks.specs.steps.Handed.{few_marks, use_label, Named};
@@ -21,7 +20,7 @@ ghost use Rattle.finish.specs.steps.Tables.{tables_pooled, laid_pooled};
 ghost use Rattle.finish.specs.steps.Ready.{Clearing, end_of_runs, code_written, Writing, Layable, code_copied, Copying, Keepable, kept, Placeable, pooled_of, placed_as, Starts};
 
 use buffer::CodeBuffer;
-use layout::Summary;
+use layout::{OffsetMap, Summary};
 use pool::Pool;
 use refusals::Refusal;
 use relax::Segment;
@@ -100,15 +99,14 @@ pub(crate) fn write_relaxed(
     refs: &[u8],
     pool: &Pool,
     long: &[bool],
-    segments: &[Segment],
-    index: &[u32],
-    shift: u32,
+    offsets: &OffsetMap,
 )
-    requires indexed { Indexed index.now (start_at segments.now) (b.events + pool.now.count) shift }
-    requires writing { Writing output.old code.now labels.now events.now refs.now pool.now.constants.now pool.now.asked.now long.now segments.now b.arch b.code b.events pool.now.count b.refs (end_of_runs b.arch code.now events.now long.now b.code b.events) }
-    ensures { output.new ≡ code_written b.arch output.old code.now labels.now events.now refs.now pool.now.constants.now pool.now.asked.now long.now segments.now b.code b.events pool.now.count b.refs }
+    requires counted { offsets.now.count ≡ b.events + pool.now.count }
+    requires writing { Writing output.old code.now labels.now events.now refs.now pool.now.constants.now pool.now.asked.now long.now offsets.now.segments.now b.arch b.code b.events pool.now.count b.refs (end_of_runs b.arch code.now events.now long.now b.code b.events) }
+    ensures { output.new ≡ code_written b.arch output.old code.now labels.now events.now refs.now pool.now.constants.now pool.now.asked.now long.now offsets.now.segments.now b.code b.events pool.now.count b.refs }
 {
     let recorded = b.events as usize;
+    let segments = offsets.segments;
     emit::emit_events(
         output,
         code,
@@ -120,18 +118,15 @@ pub(crate) fn write_relaxed(
         b.arch,
     );
     // Among the recorded events alone, and so without the index, which is of all.
-    let to = layout::map(segments, recorded, &index[0..0], shift, b.code);
-    pool.emit(output, b.arch, to);
-    emit::patch_refs(
-        output,
-        refs,
-        labels,
+    let among = OffsetMap {
         segments,
-        index,
-        shift,
-        b.refs as usize,
-        recorded + pool.count,
-    );
+        count: recorded,
+        index: &offsets.index[0..0],
+        shift: offsets.shift,
+    };
+    let to = among.map(b.code);
+    pool.emit(output, b.arch, to);
+    emit::patch_refs(output, refs, labels, offsets, b.refs as usize);
     emit::patch_jumps(output, events, labels, long, segments, recorded);
     pool.write(output, labels);
 }
@@ -156,27 +151,22 @@ pub(crate) fn relax_and_write(
     ensures { (us : List tables.Use) → (outcome_of result, (labels.new, (relocs.new, (segments.new, output.new)))) ≡ relaxed (laid_pooled b.arch b.code (take b.code code.now) (tables.entries (word_at labels.old) b.labels) (tables.entries (event_at events.now) b.events) us (tables.entries (tables.ref_at refs.now) b.refs) pool.now.constants.now pool.now.asked.now pool.now.count) b.relocs labels.old relocs.old segments.old output.old }
 {
     let recorded = b.events as usize;
-    let all = recorded + pool.count;
     let end = pool.end(b.code);
     let shift = lookup::shift_for(end, index.len());
     let laid = layout::relax_jumps(
         segments, events, labels, pool, long, index, shift, recorded, b.code,
     );
-    let reach = emit::refs_reach(refs, labels, segments, index, shift, b.refs as usize, all);
-    why_not_written(reach, laid.len, output.len())?;
-    emit::map_words(labels, segments, index, shift, 1, b.labels as usize, all);
-    emit::map_words(
-        relocs,
+    let offsets = OffsetMap {
         segments,
+        count: recorded + pool.count,
         index,
         shift,
-        buffer::RELOC_WORDS,
-        b.relocs as usize,
-        all,
-    );
-    write_relaxed(
-        b, output, code, labels, events, refs, pool, long, segments, index, shift,
-    );
+    };
+    let reach = emit::refs_reach(refs, labels, &offsets, b.refs as usize);
+    why_not_written(reach, laid.len, output.len())?;
+    emit::map_words(labels, &offsets, 1, b.labels as usize);
+    emit::map_words(relocs, &offsets, buffer::RELOC_WORDS, b.relocs as usize);
+    write_relaxed(b, output, code, labels, events, refs, pool, long, &offsets);
     Ok(laid)
 }
 

@@ -70,7 +70,8 @@ fn index_segments(index: &mut [u32], shift: u32, segments: &[Segment], n: usize)
     }
 }
 
-// How many of the first `n` segments start at or before an offset. The index, if there is one, is that of their starts.
+// How many of the first `n` segments start at or before an offset. The index, if there is one, is that of their starts. No `OffsetMap` is handed on here, nor
+// by `locate`, `target_of` and `find_targets`: these also look up while rows hold targets, which are no new offsets.
 fn find(segments: &[Segment], n: usize, index: &[u32], shift: u32, offset: u32) -> usize
     requires sorted { Sorted segments.now n }
     requires indexed { Indexed index.now (start_at segments.now) n shift }

@@ -1,6 +1,5 @@
 // The pool of constants: where the constants that were asked for stand, after asmkit's core/buffer.rs (see NOTICE). `asked` lists them in order; an entry
-// of `constants` is a size, a label and 64 bytes. `constants`, `asked` and `n` are no struct, since C lends the tables and PoolFits, which the clauses of
-// layout, checks and finish cite, names them one by one.
+// of `constants` is a size, a label and 64 bytes.
 #![tactic(auto)]
 
 ghost use Rattle.std.specs.Prelude.{◌≡◌, ◌+◌, ◌*◌, ◌≤◌, ◌<◌, length};

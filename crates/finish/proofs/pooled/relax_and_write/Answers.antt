@@ -19,13 +19,16 @@ pub end-end-requires : goal.end-end-requires
 end-end-requires c =
     record { in_bound = omega (arith, (recorded c.requires.layable.relaxable.ready).small) }
 
-pub overflow_add-all : goal.overflow_add-all
-overflow_add-all c = omega (arith, few c.requires.layable)
+pub overflow_add-offsets : goal.overflow_add-offsets
+overflow_add-offsets c = omega (arith, few c.requires.layable)
+
+pub invariant_of-offsets-clause-rising : goal.invariant_of-offsets-clause-rising
+invariant_of-offsets-clause-rising c = segments_rise c.requires.layable c.relax_jumps-laid.ensures.relaxed
 
 pub refs_reach-reach-requires : goal.refs_reach-reach-requires
 refs_reach-reach-requires c =
     let x = c.requires.layable in
-    record { rising = segments_rise x c.relax_jumps-laid.ensures.relaxed; indexed = c.relax_jumps-laid.ensures.indexed; refs_known = refs_known x.relaxable.ready x.relaxable.referred (clear x) }
+    refs_known x.relaxable.ready x.relaxable.referred (clear x)
 
 pub returns-in_err-why_not_written : goal.returns-in_err-why_not_written
 returns-in_err-why_not_written c = λ us.
@@ -34,21 +37,17 @@ returns-in_err-why_not_written c = λ us.
     refused_late _ x.relaxable us x.unrefused refl c.requires.none_long c.relax_jumps-laid.ensures.relaxed late (number_not_0 c.in_err-why_not_written.field-0.0) (handed_on c.in_err-why_not_written.field-0.0 (search rules))
 
 pub map_words-requires : goal.map_words-requires
-map_words-requires c =
-    let x = c.requires.layable in
-    record { rising = segments_rise x c.relax_jumps-laid.ensures.relaxed; indexed = c.relax_jumps-laid.ensures.indexed; words_fit = labels_fit_lem x.relaxable.ready }
+map_words-requires c = labels_fit_lem c.requires.layable.relaxable.ready
 
 pub map_words-requires-2 : goal.map_words-requires-2
-map_words-requires-2 c =
-    let x = c.requires.layable in
-    record { rising = segments_rise x c.relax_jumps-laid.ensures.relaxed; indexed = c.relax_jumps-laid.ensures.indexed; words_fit = x.relaxable.moved }
+map_words-requires-2 c = c.requires.layable.relaxable.moved
 
 pub write_relaxed-requires : goal.write_relaxed-requires
 write_relaxed-requires c =
     let pre = c.requires in
     let marks = simp length-replicate at (ap length pre.none_long) in
     let late = why_by c.relax_jumps-laid.result.len (length c.args.output.now) c.refs_reach-reach.ensures c.in_ok-why_not_written.ensures in
-    record { indexed = c.relax_jumps-laid.ensures.indexed; writing = writing_is _ pre.layable.relaxable [] pre.layable.unrefused refl pre.none_long c.relax_jumps-laid.ensures.relaxed late refl (omega (arith, marks, c.relax_jumps-laid.auto)) c.map_words.ensures }
+    record { counted = refl; writing = writing_is _ pre.layable.relaxable [] pre.layable.unrefused refl pre.none_long c.relax_jumps-laid.ensures.relaxed late refl (omega (arith, marks, c.relax_jumps-laid.auto)) c.map_words.ensures }
 
 pub returns : goal.returns
 returns c = λ us.

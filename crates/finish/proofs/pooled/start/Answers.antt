@@ -7,21 +7,9 @@ use Rattle.finish.proofs.RelaxedRequires.{clearing}
 use Rattle.finish.proofs.WithOrWithoutJump.{given, keepable, placed_unbound, started_refused, starts, placed_kept}
 use Rattle.finish.proofs.pooled.start.Goals as goal
 
-pub all_bound-requires : goal.all_bound-requires
-all_bound-requires c =
-    record { labels_within = c.requires.placeable.ready.room; namers_fit = c.requires.placeable.namers; none_open = c.requires.placeable.settled }
-
 pub returns-then-not-all_bound-clause-output_after : goal.returns-then-not-all_bound-clause-output_after
 returns-then-not-all_bound-clause-output_after c = λ placed e ss l.
     placed_unbound c.requires.placeable c.all_bound.ensures c.if-not-all_bound.true (sym (ap outcome_of (given e))) ss
-
-pub moves-requires : goal.moves-requires
-moves-requires c =
-    omega (arith, c.requires.placeable.entered.recorded.room)
-
-pub end-end-requires : goal.end-end-requires
-end-end-requires c =
-    record { in_bound = omega (arith, c.requires.placeable.ready.bytes.limit) }
 
 pub why_not_laid-requires : goal.why_not_laid-requires
 why_not_laid-requires c =

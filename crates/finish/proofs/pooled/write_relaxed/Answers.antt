@@ -1,8 +1,6 @@
 -- `write_relaxed` meets its contract: the calls in their order.
 use mathlib.Core.Path.{◌∙◌}
 use native.Mathlib.Omega.{arith}
-use lib.Dec.{lit≤}
-use Rattle.lookup.proofs.Index.{indexed_none}
 use Rattle.finish.proofs.FinishedCode.{written_in_order}
 use Rattle.finish.proofs.pooled.write_relaxed.Goals as goal
 
@@ -17,14 +15,12 @@ emit-requires c =
     record { in_bound = omega (arith, w.near, e); output_within = rw e (omega (arith, w.pooled, c.emit_events.auto.output)) }
 
 pub map-to-requires : goal.map-to-requires
-map-to-requires c =
-    let p = c.requires in
-    record { rising = p.writing.rising; indexed = indexed_none _ _ _ _ p.indexed.few_bits (lit≤ tt); in_range = λ bound. omega (arith, p.writing.small) }
+map-to-requires c bound = omega (arith, c.requires.writing.small)
 
 pub patch_refs-requires : goal.patch_refs-requires
 patch_refs-requires c =
     let w = c.requires.writing in
-    record { rising = w.rising_all; indexed = c.requires.indexed; refs_fit = rw (c.emit.auto.output, c.emit_events.auto.output) w.filled }
+    rw (c.emit.auto.output, c.emit_events.auto.output) (rw c.requires.counted w.filled)
 
 pub patch_jumps-requires : goal.patch_jumps-requires
 patch_jumps-requires c =
@@ -51,6 +47,6 @@ write-requires c =
 pub returns : goal.returns
 returns c =
     let a = c.args in
-    written_in_order a.output.now a.code.now a.labels.now a.events.now a.refs.now a.pool.now.constants.now a.pool.now.asked.now a.long.now a.segments.now
+    written_in_order a.output.now a.code.now a.labels.now a.events.now a.refs.now a.pool.now.constants.now a.pool.now.asked.now a.long.now a.offsets.now.segments.now
     a.b.arch a.b.code a.b.events a.pool.now.count a.b.refs c.emit_events.ensures (c.map-to.ensures ∙ c.requires.writing.ends) c.emit.ensures
-    c.patch_refs.ensures c.patch_jumps.ensures c.write.ensures
+    (rw c.requires.counted at c.patch_refs.ensures) c.patch_jumps.ensures c.write.ensures
