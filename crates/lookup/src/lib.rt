@@ -27,7 +27,8 @@ pub struct Span {
     pub high: usize,
 }
 
-// By halving: where a test of numbers turns from true to false, between two numbers. It is asked below the second alone.
+// By halving: where a test of numbers turns from true to false, between two numbers. It is asked below the second alone. The library's method of this name
+// is of slices, and what is searched here are entries of several tables.
 pub fn partition_point<F: Fn(usize) -> bool>(mut low: usize, mut high: usize, before: F) -> usize
     requires order { low ≤ high }
     requires callable { (i : ℕ) → low ≤ i → i < high → F.pre before i }
@@ -65,7 +66,7 @@ fn parts_of(size: usize) -> usize
     size.max(SIZE) - 2
 }
 
-// The least shift by which offsets up to `end` lie in the parts that an index of a length tells apart.
+// The least shift by which offsets up to `end` lie in the parts that an index of a length tells apart. A loop, as it ends where the test fails, not at a number.
 pub fn shift_for(end: u32, size: usize) -> u32
     ensures small { result < 32 }
     ensures told_apart { (index_size ≤ size → end / 2 ^ result < parts size) }

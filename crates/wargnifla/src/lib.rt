@@ -140,6 +140,7 @@ pub fn wargnifla_version() -> u32
 pub fn wargnifla_start(arch: u32, symbols: u32, counts: &mut [u8]) -> u32
     ensures { (result, counts.new) ≡ start arch symbols counts.old }
 {
+    // No counts are read here, so there is nothing to have as an Option.
     if counts.len() < COUNTS_SIZE {
         return Refusal::Malformed as u32;
     }
