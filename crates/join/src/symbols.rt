@@ -215,21 +215,32 @@ pub fn settle(table: &mut [u64], pieces: &[u8], labels: &[u8], definitions: &[u8
     true
 }
 
-// What is known of a symbol once all pieces are noted.
-pub fn known(
-    table: &[u64],
-    pieces: &[u8],
-    labels: &[u8],
-    definitions: &[u8],
-    n: usize,
-    symbol: u32,
-) -> u64
-    requires { Resolves table.now pieces.now labels.now definitions.now n }
-    ensures { result ≡ find pieces.now labels.now definitions.now n symbol }
-{
-    if (symbol as usize) < table.len() {
-        table[symbol as usize]
-    } else {
-        find(pieces, labels, definitions, n, symbol)
+// The `count` pieces once all their definitions are noted: the table has what is known of the symbols below its length.
+#[derive(Clone, Copy)]
+pub struct Resolver<'a> {
+    pub table: &'a [u64],
+    pub pieces: &'a [u8],
+    pub labels: &'a [u8],
+    pub definitions: &'a [u8],
+    pub count: usize,
+    ghost resolves: { Resolves table.now pieces.now labels.now definitions.now count },
+}
+
+impl<'a> Resolver<'a> {
+    // What is known of a symbol.
+    pub fn known(&self, symbol: u32) -> u64
+        ensures { result ≡ find self.now.pieces.now self.now.labels.now self.now.definitions.now self.now.count symbol }
+    {
+        if (symbol as usize) < self.table.len() {
+            self.table[symbol as usize]
+        } else {
+            find(
+                self.pieces,
+                self.labels,
+                self.definitions,
+                self.count,
+                symbol,
+            )
+        }
     }
 }

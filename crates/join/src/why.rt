@@ -5,6 +5,7 @@ ghost use Rattle.join.specs.Pieces.{lent_of, piece_count, sums_fit};
 ghost use Rattle.join.specs.Join.{lent_fits, why_unfit, why_undefined, why_no_table, why_no_field, why_no_output, why_no_room, why_not_joined};
 ghost use Rattle.join.specs.steps.Tables.{Settled};
 
+use crate::symbols::Resolver;
 use crate::{
     AsmReloc, Cursor, DEFINITION_SIZE, LAST_PLACE, PIECE_SIZE, Piece, labels, pieces, relocs,
     symbols,
@@ -62,13 +63,13 @@ fn unfit(
 }
 
 // 28 and 29. Where there is neither, the table is settled.
-fn undefined(
-    table: &mut [u64],
-    pieces: &[u8],
+fn undefined<'a>(
+    table: &'a mut [u64],
+    pieces: &'a [u8],
     code: &[u8],
-    labels: &[u8],
+    labels: &'a [u8],
     relocs: &[u8],
-    definitions: &[u8],
+    definitions: &'a [u8],
 ) -> Result<(), Refusal>
     requires fits { why_unfit (lent_of pieces.now code.now labels.now relocs.now definitions.now) ≡ 0 }
     requires settled { Settled table.old pieces.now labels.now definitions.now 0 }
@@ -78,10 +79,16 @@ fn undefined(
     if !symbols::settle(table, pieces, labels, definitions, n) {
         return Err(Refusal::SymbolDefinedTwice);
     }
+    let resolver = Resolver {
+        table,
+        pieces,
+        labels,
+        definitions,
+        count: n,
+    };
     let defined = |piece: Piece, _: Cursor, reloc: AsmReloc| {
         !relocs::is_filled(piece.arch, reloc)
-            || symbols::FIRST_PLACE
-                <= symbols::known(table, pieces, labels, definitions, n, reloc.target)
+            || symbols::FIRST_PLACE <= resolver.known(reloc.target)
     };
     if !relocs::all_hold(defined, pieces, relocs, n) {
         return Err(Refusal::SymbolUndefined);
@@ -132,10 +139,17 @@ fn no_field(
     if !relocs::all_hold(inside, pieces, relocs, n) {
         return Err(Refusal::RefOverlaps);
     }
+    let resolver = Resolver {
+        table,
+        pieces,
+        labels,
+        definitions,
+        count: n,
+    };
     let reaches = |piece: Piece, cursor: Cursor, reloc: AsmReloc| {
         !relocs::is_filled(piece.arch, reloc)
             || {
-                let known = symbols::known(table, pieces, labels, definitions, n, reloc.target);
+                let known = resolver.known(reloc.target);
                 relocs::fits_32(relocs::value(known, piece, cursor, reloc))
             }
     };

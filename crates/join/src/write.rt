@@ -9,10 +9,10 @@ ghost use Rattle.join.specs.Pieces.{gap, base_of, lent_of};
 ghost use Rattle.join.specs.Symbols.{find};
 ghost use Rattle.join.specs.Join.{Inside, field_size, is_filled, relocs_hold, piece_code, field_filled, filled_with, filled_code, moved_target, remaining_words, remaining_in, count_remaining_in, image, labels_joined, remaining};
 ghost use Rattle.join.specs.steps.Within.{Placed, RelocsIn, CodeIn};
-ghost use Rattle.join.specs.steps.Tables.{Resolves};
 ghost use Rattle.join.specs.steps.Writes.{RelocMoves, RelocsMove, Joins};
 
-use crate::{AsmReloc, Cursor, Piece, labels, pieces, relocs, symbols};
+use crate::symbols::Resolver;
+use crate::{AsmReloc, Cursor, Piece, labels, pieces, relocs};
 
 fn put_field(part: &mut [u8], offset: usize, value: u32)
     requires { offset + field_size ≤ length part.old }
@@ -22,61 +22,29 @@ fn put_field(part: &mut [u8], offset: usize, value: u32)
 }
 
 // Fills the field of a relocation in its piece's code, if it is one that is filled.
-fn fill_field(
-    part: &mut [u8],
-    table: &[u64],
-    pieces: &[u8],
-    labels: &[u8],
-    definitions: &[u8],
-    n: usize,
-    piece: Piece,
-    cursor: Cursor,
-    reloc: AsmReloc,
-)
-    requires resolves { Resolves table.now pieces.now labels.now definitions.now n }
+fn fill_field(part: &mut [u8], resolver: &Resolver, piece: Piece, cursor: Cursor, reloc: AsmReloc)
     requires placed { Placed piece cursor }
     requires part_within { (is_filled piece.arch reloc ≡ true → reloc.offset + field_size ≤ length part.old) }
-    ensures { part.new ≡ field_filled (find pieces.now labels.now definitions.now n) piece cursor reloc part.old }
+    ensures { part.new ≡ field_filled (find resolver.now.pieces.now resolver.now.labels.now resolver.now.definitions.now resolver.now.count) piece cursor reloc part.old }
 {
     if relocs::is_filled(piece.arch, reloc) {
-        let known = symbols::known(table, pieces, labels, definitions, n, reloc.target);
+        let known = resolver.known(reloc.target);
         let value = relocs::value(known, piece, cursor, reloc);
         put_field(part, reloc.offset as usize, (value % 4294967296) as u32);
     }
 }
 
 // Fills the fields of a piece, in the order of its relocations.
-fn fill_fields(
-    part: &mut [u8],
-    table: &[u64],
-    pieces: &[u8],
-    labels: &[u8],
-    relocs: &[u8],
-    definitions: &[u8],
-    n: usize,
-    piece: Piece,
-    cursor: Cursor,
-)
-    requires resolves { Resolves table.now pieces.now labels.now definitions.now n }
+fn fill_fields(part: &mut [u8], resolver: &Resolver, relocs: &[u8], piece: Piece, cursor: Cursor)
     requires placed { Placed piece cursor }
     requires relocs_in { RelocsIn relocs.now piece cursor }
     requires part_length { length part.old ≡ piece.len }
-    requires relocs_hold { relocs_hold Inside (find pieces.now labels.now definitions.now n) relocs.now piece cursor piece.relocs ≡ true }
-    ensures { part.new ≡ filled_with (find pieces.now labels.now definitions.now n) relocs.now piece cursor part.old piece.relocs }
+    requires relocs_hold { relocs_hold Inside (find resolver.now.pieces.now resolver.now.labels.now resolver.now.definitions.now resolver.now.count) relocs.now piece cursor piece.relocs ≡ true }
+    ensures { part.new ≡ filled_with (find resolver.now.pieces.now resolver.now.labels.now resolver.now.definitions.now resolver.now.count) relocs.now piece cursor part.old piece.relocs }
 {
     for j in 0..piece.relocs as usize {
         let reloc = relocs::reloc_at(relocs, cursor.relocs + j);
-        fill_field(
-            part,
-            table,
-            pieces,
-            labels,
-            definitions,
-            n,
-            piece,
-            cursor,
-            reloc,
-        );
+        fill_field(part, resolver, piece, cursor, reloc);
     }
 }
 
@@ -97,37 +65,22 @@ fn put_code(output: &mut [u8], code: &[u8], piece: Piece, cursor: Cursor)
 // The same, with the piece's fields filled.
 fn put_filled(
     output: &mut [u8],
-    table: &[u64],
-    pieces: &[u8],
+    resolver: &Resolver,
     code: &[u8],
-    labels: &[u8],
     relocs: &[u8],
-    definitions: &[u8],
-    n: usize,
     piece: Piece,
     cursor: Cursor,
 )
-    requires resolves { Resolves table.now pieces.now labels.now definitions.now n }
     requires placed { Placed piece cursor }
     requires code_in { CodeIn code.now piece cursor × RelocsIn relocs.now piece cursor }
     requires output_within { base_of piece cursor + piece.len ≤ length output.old }
-    requires relocs_hold { relocs_hold Inside (find pieces.now labels.now definitions.now n) relocs.now piece cursor piece.relocs ≡ true }
-    ensures { output.new ≡ over output.old cursor.end (replicate (gap piece cursor) 0 ++ filled_code (find pieces.now labels.now definitions.now n) relocs.now code.now piece cursor) }
+    requires relocs_hold { relocs_hold Inside (find resolver.now.pieces.now resolver.now.labels.now resolver.now.definitions.now resolver.now.count) relocs.now piece cursor piece.relocs ≡ true }
+    ensures { output.new ≡ over output.old cursor.end (replicate (gap piece cursor) 0 ++ filled_code (find resolver.now.pieces.now resolver.now.labels.now resolver.now.definitions.now resolver.now.count) relocs.now code.now piece cursor) }
 {
     put_code(output, code, piece, cursor);
     let base = pieces::base(piece, cursor) as usize;
     let end = base + piece.len as usize;
-    fill_fields(
-        &mut output[base..end],
-        table,
-        pieces,
-        labels,
-        relocs,
-        definitions,
-        n,
-        piece,
-        cursor,
-    );
+    fill_fields(&mut output[base..end], resolver, relocs, piece, cursor);
 }
 
 // A target's number in the whole.
@@ -185,37 +138,21 @@ pub fn put_pieces(
     output: &mut [u8],
     joined_labels: &mut [u8],
     joined_relocs: &mut [u8],
-    table: &[u64],
-    pieces: &[u8],
+    resolver: &Resolver,
     code: &[u8],
-    labels: &[u8],
     relocs: &[u8],
-    definitions: &[u8],
-    n: usize,
 )
-    requires joins { Joins (lent_of pieces.now code.now labels.now relocs.now definitions.now) n (length output.old) (length joined_labels.old) (length joined_relocs.old) }
-    requires resolves { Resolves table.now pieces.now labels.now definitions.now n }
-    ensures output_after { output.new ≡ over output.old 0 (image (find pieces.now labels.now definitions.now n) pieces.now relocs.now code.now n) }
-    ensures joined_labels_after { joined_labels.new ≡ over_words joined_labels.old (labels_joined pieces.now labels.now n) }
-    ensures joined_relocs_after { joined_relocs.new ≡ over_words joined_relocs.old (remaining pieces.now relocs.now n) }
+    requires joins { Joins (lent_of resolver.now.pieces.now code.now resolver.now.labels.now relocs.now resolver.now.definitions.now) resolver.now.count (length output.old) (length joined_labels.old) (length joined_relocs.old) }
+    ensures output_after { output.new ≡ over output.old 0 (image (find resolver.now.pieces.now resolver.now.labels.now resolver.now.definitions.now resolver.now.count) resolver.now.pieces.now relocs.now code.now resolver.now.count) }
+    ensures joined_labels_after { joined_labels.new ≡ over_words joined_labels.old (labels_joined resolver.now.pieces.now resolver.now.labels.now resolver.now.count) }
+    ensures joined_relocs_after { joined_relocs.new ≡ over_words joined_relocs.old (remaining resolver.now.pieces.now relocs.now resolver.now.count) }
 {
     let mut cursor = pieces::START;
     let mut at: usize = 0;
-    for k in 0..n {
-        let piece = pieces::piece_at(pieces, k);
-        put_filled(
-            output,
-            table,
-            pieces,
-            code,
-            labels,
-            relocs,
-            definitions,
-            n,
-            piece,
-            cursor,
-        );
-        labels::put_labels(joined_labels, labels, piece, cursor);
+    for k in 0..resolver.count {
+        let piece = pieces::piece_at(resolver.pieces, k);
+        put_filled(output, resolver, code, relocs, piece, cursor);
+        labels::put_labels(joined_labels, resolver.labels, piece, cursor);
         at = put_relocs(joined_relocs, relocs, piece, cursor, at);
         cursor = pieces::after(piece, cursor);
     }

@@ -21,8 +21,8 @@ returns-then-not-all_hold c =
 pub all_hold-requires-2-clause-relocations : goal.all_hold-requires-2-clause-relocations
 all_hold-requires-2-clause-relocations c = search (rules, unfits)
 
-pub all_hold-requires-2-clause-callable : goal.all_hold-requires-2-clause-callable
-all_hold-requires-2-clause-callable c = search (rules, unfits)
+pub invariant_of-resolver : goal.invariant_of-resolver
+invariant_of-resolver c = search (rules, unfits)
 
 pub returns-then-not-all_hold-2 : goal.returns-then-not-all_hold-2
 unfolding why_no_field holds

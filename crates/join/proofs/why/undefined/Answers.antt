@@ -17,8 +17,8 @@ returns-then-not-settle c = search (rules, picks)
 pub all_hold-requires-clause-relocations : goal.all_hold-requires-clause-relocations
 all_hold-requires-clause-relocations c = search (rules, unfits)
 
-pub all_hold-requires-clause-callable : goal.all_hold-requires-clause-callable
-all_hold-requires-clause-callable c = search (rules, unfits)
+pub invariant_of-resolver : goal.invariant_of-resolver
+invariant_of-resolver c = search (rules, unfits)
 
 pub returns-then-not-all_hold : goal.returns-then-not-all_hold
 unfolding why_undefined holds

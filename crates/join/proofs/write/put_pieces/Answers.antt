@@ -22,7 +22,6 @@ put_filled-requires c =
     let v = c.loop-k in
     let p = next_puts v.invariant.4 (record { piece = c.piece_at-piece.ensures; cursor = v.invariant.1 }) c.loop-k-test.true v.invariant.2 in
     record {
-      resolves = c.requires.resolves;
       placed = p.placed;
       code_in = (p.code, p.relocs);
       output_within = omega (arith, p.output_room, output_length v.invariant.3);
