@@ -25,7 +25,7 @@ unfolding why_undefined holds
 returns-then-not-all_hold c =
     let a = c.args in
     let l : Lent = lent_of a.pieces.now a.code.now a.labels.now a.relocs.now a.definitions.now in
-    let held = c.all_hold.ensures Defined (known_in l) (λ p d r b placed called. search (rules, tests, picks)) in
+    let held = c.all_hold.ensures Defined (known_in l) (λ p r b called. search (rules, tests, picks)) in
     search (rules, picks, held)
 
 pub returns : goal.returns
@@ -33,5 +33,5 @@ unfolding why_undefined holds
 returns c =
     let a = c.args in
     let l : Lent = lent_of a.pieces.now a.code.now a.labels.now a.relocs.now a.definitions.now in
-    let held = c.all_hold.ensures Defined (known_in l) (λ p d r b placed called. search (rules, tests, picks)) in
+    let held = c.all_hold.ensures Defined (known_in l) (λ p r b called. search (rules, tests, picks)) in
     search (rules, picks, held)
