@@ -4,9 +4,10 @@ ghost use Rattle.seqs.specs.Over.{over};
 ghost use Rattle.words.specs.Words.{bytes_of_all};
 ghost use Rattle.buffer.specs.Tables.{label_size};
 ghost use Rattle.join.specs.Join.{label_moves, labels_move, all_labels_move, moved_label, moved_labels};
-ghost use Rattle.join.specs.steps.Within.{most_base, Placed, Labelled, Labels};
+ghost use Rattle.join.specs.steps.Within.{most_base, Labelled, Labels};
 
-use crate::{Cursor, LAST_PLACE, Piece, pieces};
+use crate::pieces::PlacedPiece;
+use crate::{LAST_PLACE, pieces};
 
 fn label_moves(base: u64, offset: u32) -> bool
     requires { base ≤ most_base }
@@ -16,13 +17,15 @@ fn label_moves(base: u64, offset: u32) -> bool
 }
 
 // Whether every label of a piece has an offset in the whole, or is not bound.
-fn labels_move(labels: &[u8], piece: Piece, cursor: Cursor) -> bool
-    requires placed { Placed piece cursor }
-    requires labelled { Labelled labels.now piece cursor }
-    ensures { result ≡ labels_move labels.now piece cursor piece.labels }
+fn labels_move(labels: &[u8], placed: PlacedPiece) -> bool
+    requires labelled { Labelled labels.now placed.piece placed.cursor }
+    ensures { result ≡ labels_move labels.now placed.piece placed.cursor placed.piece.labels }
 {
-    let base = pieces::base(piece, cursor);
-    (0..piece.labels as usize).all(|j| label_moves(base, words::word_at(labels, cursor.labels + j)))
+    let base = placed.base();
+    (0..placed.piece.labels as usize).all(|j| label_moves(
+        base,
+        words::word_at(labels, placed.cursor.labels + j),
+    ))
 }
 
 pub fn all_labels_move(pieces: &[u8], labels: &[u8], n: usize) -> bool
@@ -32,10 +35,11 @@ pub fn all_labels_move(pieces: &[u8], labels: &[u8], n: usize) -> bool
     let mut cursor = pieces::START;
     for k in 0..n {
         let piece = pieces::piece_at(pieces, k);
-        if !labels_move(labels, piece, cursor) {
+        let placed = PlacedPiece { piece, cursor };
+        if !labels_move(labels, placed) {
             return false;
         }
-        cursor = pieces::after(piece, cursor);
+        cursor = placed.after();
     }
     true
 }
@@ -53,16 +57,15 @@ fn moved(base: u64, offset: u32) -> u32
 }
 
 // Writes the labels of a piece, in their order behind those of the pieces before it.
-pub fn put_labels(joined: &mut [u8], labels: &[u8], piece: Piece, cursor: Cursor)
-    requires placed { Placed piece cursor }
-    requires labelled { Labelled labels.now piece cursor }
-    requires labelled_2 { Labelled joined.old piece cursor }
-    requires labels_move { labels_move labels.now piece cursor piece.labels ≡ true }
-    ensures { joined.new ≡ over joined.old (cursor.labels * label_size) (bytes_of_all (moved_labels labels.now piece cursor piece.labels)) }
+pub fn put_labels(joined: &mut [u8], labels: &[u8], placed: PlacedPiece)
+    requires labelled { Labelled labels.now placed.piece placed.cursor }
+    requires labelled_2 { Labelled joined.old placed.piece placed.cursor }
+    requires labels_move { labels_move labels.now placed.piece placed.cursor placed.piece.labels ≡ true }
+    ensures { joined.new ≡ over joined.old (placed.cursor.labels * label_size) (bytes_of_all (moved_labels labels.now placed.piece placed.cursor placed.piece.labels)) }
 {
-    let base = pieces::base(piece, cursor);
-    for j in 0..piece.labels as usize {
-        let i = cursor.labels + j;
+    let base = placed.base();
+    for j in 0..placed.piece.labels as usize {
+        let i = placed.cursor.labels + j;
         words::put_word(joined, i, moved(base, words::word_at(labels, i)));
     }
 }

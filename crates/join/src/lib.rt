@@ -9,6 +9,7 @@ ghost use Rattle.join.specs.steps.Writes.{Whole};
 
 use finish::CodeBufferFinalized;
 use refusals::Refusal;
+use symbols::Resolver;
 
 mod labels;
 mod pieces;
@@ -108,17 +109,20 @@ fn join_by<const SYMBOLS: usize>(
         joined_relocs.len(),
     )?;
     let n = pieces.len() / PIECE_SIZE;
+    let resolver = Resolver {
+        table: &table,
+        pieces,
+        labels,
+        definitions,
+        count: n,
+    };
     write::put_pieces(
         output,
         joined_labels,
         joined_relocs,
-        &table,
-        pieces,
+        &resolver,
         code,
-        labels,
         relocs,
-        definitions,
-        n,
     );
     Ok(whole(pieces, relocs, n))
 }

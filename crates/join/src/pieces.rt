@@ -2,7 +2,7 @@
 ghost use Rattle.std.specs.Prelude.{◌≡◌, ℕ, ◌+◌, ◌*◌, ◌<◌, ◌≤◌, max, true, ◌||◌, length, ◌==◌, nat_eq};
 ghost use Rattle.seqs.specs.Every.{all};
 ghost use Rattle.join.specs.Pieces.{piece_size, piece_at, piece_fits, pieces_fit, boundary, gap, base_of, after, cursor_at, piece_within_limits, within_limits, same_arch, greatest_alignment, code_alignment, wide_alignment, most_pieces};
-ghost use Rattle.join.specs.steps.Within.{most_base, NearBy, Near};
+ghost use Rattle.join.specs.steps.Within.{most_base, NearBy, Near, Placed};
 
 use crate::{Cursor, Piece};
 
@@ -57,37 +57,44 @@ fn boundary(piece: Piece) -> u32
     }
 }
 
-// The zeros in front of a piece.
-pub fn gap(piece: Piece, cursor: Cursor) -> u64
-    requires { piece_fits piece ≡ true }
-    ensures { (result ≡ gap piece cursor) × (result < 4096) }
-{
-    let multiple = boundary(piece) as u64;
-    let past = cursor.end % multiple;
-    if past == 0 { 0 } else { multiple - past }
+// A piece that fits, at the cursor in front of it.
+#[derive(Clone, Copy)]
+pub struct PlacedPiece {
+    pub piece: Piece,
+    pub cursor: Cursor,
+    ghost placed: { Placed piece cursor },
 }
 
-// Where a piece starts in the whole.
-pub fn base(piece: Piece, cursor: Cursor) -> u64
-    requires { (piece_fits piece ≡ true) × (Near cursor) }
-    ensures { (result ≡ base_of piece cursor) × (result ≤ most_base) }
-{
-    cursor.end + gap(piece, cursor)
-}
+impl PlacedPiece {
+    // The zeros in front of it.
+    fn gap(self) -> u64
+        ensures { (result ≡ gap self.piece self.cursor) × (result < 4096) }
+    {
+        let multiple = boundary(self.piece) as u64;
+        let past = self.cursor.end % multiple;
+        if past == 0 { 0 } else { multiple - past }
+    }
 
-// The cursor behind a piece.
-pub fn after(piece: Piece, cursor: Cursor) -> Cursor
-    requires piece_fits { piece_fits piece ≡ true }
-    requires near { Near cursor }
-    ensures { (result ≡ after piece cursor) × ((k : ℕ) → NearBy k cursor → NearBy (k + 1) result) }
-{
-    let len = piece.len;
-    Cursor {
-        code: cursor.code + len as usize,
-        labels: cursor.labels + piece.labels as usize,
-        relocs: cursor.relocs + piece.relocs as usize,
-        definitions: cursor.definitions + piece.definitions as usize,
-        end: base(piece, cursor) + len as u64,
+    // Where it starts in the whole.
+    pub fn base(self) -> u64
+        ensures { (result ≡ base_of self.piece self.cursor) × (result ≤ most_base) }
+    {
+        self.cursor.end + self.gap()
+    }
+
+    // The cursor behind it.
+    pub fn after(self) -> Cursor
+        ensures { (result ≡ after self.piece self.cursor) × ((k : ℕ) → NearBy k self.cursor → NearBy (k + 1) result) }
+    {
+        let piece = self.piece;
+        let cursor = self.cursor;
+        Cursor {
+            code: cursor.code + piece.len as usize,
+            labels: cursor.labels + piece.labels as usize,
+            relocs: cursor.relocs + piece.relocs as usize,
+            definitions: cursor.definitions + piece.definitions as usize,
+            end: self.base() + piece.len as u64,
+        }
     }
 }
 
@@ -109,7 +116,9 @@ pub fn sum(pieces: &[u8], n: usize) -> Cursor
 {
     let mut cursor = START;
     for k in 0..n {
-        cursor = after(piece_at(pieces, k), cursor);
+        let piece = piece_at(pieces, k);
+        let placed = PlacedPiece { piece, cursor };
+        cursor = placed.after();
     }
     cursor
 }

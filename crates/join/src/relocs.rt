@@ -7,10 +7,11 @@ ghost use Rattle.buffer.specs.Tables.{reloc_size};
 ghost use Rattle.join.specs.Pieces.{base_of};
 ghost use Rattle.join.specs.Symbols.{first_place, find};
 ghost use Rattle.join.specs.Join.{Test, is_filled, reloc_of, value, fits32, field_size, last_place, filled_holds, remaining_holds, holds, relocs_hold, all_hold, count_remaining_in, count_remaining};
-ghost use Rattle.join.specs.steps.Within.{Placed, RelocsIn, Relocations};
+ghost use Rattle.join.specs.steps.Within.{RelocsIn, Relocations};
 ghost use Rattle.join.specs.steps.Asking.{Callable, Asks};
 
-use crate::{AsmReloc, Cursor, LAST_PLACE, Piece, pieces, symbols};
+use crate::pieces::PlacedPiece;
+use crate::{AsmReloc, LAST_PLACE, Piece, pieces, symbols};
 
 // The kinds that are filled: X86PCRel4, X86CallPCRel4 and X86CallPLTRel4.
 const FIRST_FILLED: u32 = 2;
@@ -45,12 +46,11 @@ pub fn is_filled(arch: u32, reloc: AsmReloc) -> bool
 }
 
 // The symbol's place plus the addend, less the field's own place.
-pub fn value(known: u64, piece: Piece, cursor: Cursor, reloc: AsmReloc) -> u64
-    requires { Placed piece cursor }
-    ensures { result ≡ value known piece cursor reloc }
+pub fn value(known: u64, placed: PlacedPiece, reloc: AsmReloc) -> u64
+    ensures { result ≡ value known placed.piece placed.cursor reloc }
 {
     let symbol = known.saturating_sub(symbols::FIRST_PLACE);
-    let place = pieces::base(piece, cursor) + reloc.offset as u64;
+    let place = placed.base() + reloc.offset as u64;
     symbol.wrapping_add(reloc.addend).wrapping_sub(place)
 }
 
@@ -73,27 +73,24 @@ pub fn lies_inside(piece: Piece, reloc: AsmReloc) -> bool
     reloc.offset as usize + FIELD_SIZE <= piece.len as usize
 }
 
-pub fn moves(piece: Piece, cursor: Cursor, reloc: AsmReloc) -> bool
-    requires { Placed piece cursor }
-    ensures { result ≡ nat_le (base_of piece cursor + reloc.offset) last_place }
+pub fn moves(placed: PlacedPiece, reloc: AsmReloc) -> bool
+    ensures { result ≡ nat_le (base_of placed.piece placed.cursor + reloc.offset) last_place }
 {
-    pieces::base(piece, cursor) + reloc.offset as u64 <= LAST_PLACE
+    placed.base() + reloc.offset as u64 <= LAST_PLACE
 }
 
 // Whether `test` holds of every relocation of a piece.
-fn relocs_hold<F: Fn(Piece, Cursor, AsmReloc) -> bool>(
+fn relocs_hold<F: Fn(PlacedPiece, AsmReloc) -> bool>(
     test: &F,
     relocs: &[u8],
-    piece: Piece,
-    cursor: Cursor,
+    placed: PlacedPiece,
 ) -> bool
-    requires placed { Placed piece cursor }
-    requires relocs_in { RelocsIn relocs.now piece cursor }
+    requires relocs_in { RelocsIn relocs.now placed.piece placed.cursor }
     requires callable { Callable (F.pre test.now) }
-    ensures { (asked : Test) (known : ℕ → ℕ) → Asks (F.post test.now) asked known → result ≡ relocs_hold asked known relocs.now piece cursor piece.relocs }
+    ensures { (asked : Test) (known : ℕ → ℕ) → Asks (F.post test.now) asked known → result ≡ relocs_hold asked known relocs.now placed.piece placed.cursor placed.piece.relocs }
 {
-    for j in 0..piece.relocs as usize {
-        if !test(piece, cursor, reloc_at(relocs, cursor.relocs + j)) {
+    for j in 0..placed.piece.relocs as usize {
+        if !test(placed, reloc_at(relocs, placed.cursor.relocs + j)) {
             return false;
         }
     }
@@ -101,7 +98,7 @@ fn relocs_hold<F: Fn(Piece, Cursor, AsmReloc) -> bool>(
 }
 
 // Whether it holds of every relocation of the `n` pieces.
-pub fn all_hold<F: Fn(Piece, Cursor, AsmReloc) -> bool>(
+pub fn all_hold<F: Fn(PlacedPiece, AsmReloc) -> bool>(
     test: F,
     pieces: &[u8],
     relocs: &[u8],
@@ -114,23 +111,26 @@ pub fn all_hold<F: Fn(Piece, Cursor, AsmReloc) -> bool>(
     let mut cursor = pieces::START;
     for k in 0..n {
         let piece = pieces::piece_at(pieces, k);
-        if !relocs_hold(&test, relocs, piece, cursor) {
+        let placed = PlacedPiece { piece, cursor };
+        if !relocs_hold(&test, relocs, placed) {
             return false;
         }
-        cursor = pieces::after(piece, cursor);
+        cursor = placed.after();
     }
     true
 }
 
 // How many relocations of a piece remain.
-fn count_remaining_in(relocs: &[u8], piece: Piece, cursor: Cursor) -> usize
-    requires placed { Placed piece cursor }
-    requires relocs_in { RelocsIn relocs.now piece cursor }
-    ensures { result ≡ count_remaining_in relocs.now piece cursor piece.relocs }
+fn count_remaining_in(relocs: &[u8], placed: PlacedPiece) -> usize
+    requires relocs_in { RelocsIn relocs.now placed.piece placed.cursor }
+    ensures { result ≡ count_remaining_in relocs.now placed.piece placed.cursor placed.piece.relocs }
 {
     let mut count: usize = 0;
-    for j in 0..piece.relocs as usize {
-        if !is_filled(piece.arch, reloc_at(relocs, cursor.relocs + j)) {
+    for j in 0..placed.piece.relocs as usize {
+        if !is_filled(
+            placed.piece.arch,
+            reloc_at(relocs, placed.cursor.relocs + j),
+        ) {
             count += 1;
         }
     }
@@ -146,8 +146,9 @@ pub fn count_remaining(pieces: &[u8], relocs: &[u8], n: usize) -> usize
     let mut cursor = pieces::START;
     for k in 0..n {
         let piece = pieces::piece_at(pieces, k);
-        count += count_remaining_in(relocs, piece, cursor);
-        cursor = pieces::after(piece, cursor);
+        let placed = PlacedPiece { piece, cursor };
+        count += count_remaining_in(relocs, placed);
+        cursor = placed.after();
     }
     count
 }

@@ -2,10 +2,11 @@
 ghost use Rattle.std.specs.Prelude.{◌≡◌, ◌+◌, ◌*◌, ◌≤◌, true, length, slice_set};
 ghost use Rattle.join.specs.Pieces.{definition_size};
 ghost use Rattle.join.specs.Symbols.{symbol_at, place, defined, defined_as, find_in, find, find_before, new_in, defined_once};
-ghost use Rattle.join.specs.steps.Within.{Placed, Labelled, DefinitionsIn, Symbols};
+ghost use Rattle.join.specs.steps.Within.{Labelled, DefinitionsIn, Symbols};
 ghost use Rattle.join.specs.steps.Tables.{Begun, Settled, Resolves};
 
-use crate::{Cursor, Piece, pieces};
+use crate::pieces::PlacedPiece;
+use crate::{Cursor, pieces};
 
 // A definition, in words: the symbol and the label.
 const DEFINITION_WORDS: usize = 2;
@@ -27,69 +28,54 @@ fn symbol_at(definitions: &[u8], cursor: Cursor, j: usize) -> u32
 }
 
 // What its label says: `UNBOUND`, or its place.
-fn label_place(labels: &[u8], piece: Piece, cursor: Cursor, label: u32) -> u64
-    requires placed { Placed piece cursor }
-    requires labelled { Labelled labels.now piece cursor }
-    ensures { result ≡ place labels.now piece cursor label }
+fn label_place(labels: &[u8], placed: PlacedPiece, label: u32) -> u64
+    requires labelled { Labelled labels.now placed.piece placed.cursor }
+    ensures { result ≡ place labels.now placed.piece placed.cursor label }
 {
-    if piece.labels <= label {
+    if placed.piece.labels <= label {
         return UNBOUND;
     }
-    let offset = words::word_at(labels, cursor.labels + label as usize);
+    let offset = words::word_at(labels, placed.cursor.labels + label as usize);
     if offset == buffer::NONE {
         return UNBOUND;
     }
-    pieces::base(piece, cursor) + offset as u64 + FIRST_PLACE
+    placed.base() + offset as u64 + FIRST_PLACE
 }
 
 // What definition `j` says of its symbol.
-fn defined(labels: &[u8], definitions: &[u8], piece: Piece, cursor: Cursor, j: usize) -> u64
-    requires placed { Placed piece cursor }
-    requires labelled { Labelled labels.now piece cursor }
-    requires definitions_within { (cursor.definitions + j + 1) * definition_size ≤ length definitions.now }
-    ensures { result ≡ defined labels.now definitions.now piece cursor j }
+fn defined(labels: &[u8], definitions: &[u8], placed: PlacedPiece, j: usize) -> u64
+    requires labelled { Labelled labels.now placed.piece placed.cursor }
+    requires definitions_within { (placed.cursor.definitions + j + 1) * definition_size ≤ length definitions.now }
+    ensures { result ≡ defined labels.now definitions.now placed.piece placed.cursor j }
 {
-    let label = words::word_at(definitions, (cursor.definitions + j) * DEFINITION_WORDS + 1);
-    label_place(labels, piece, cursor, label)
+    let label = words::word_at(
+        definitions,
+        (placed.cursor.definitions + j) * DEFINITION_WORDS + 1,
+    );
+    label_place(labels, placed, label)
 }
 
 // What it says of `symbol`.
-fn defined_as(
-    labels: &[u8],
-    definitions: &[u8],
-    piece: Piece,
-    cursor: Cursor,
-    symbol: u32,
-    j: usize,
-) -> u64
-    requires placed { Placed piece cursor }
-    requires labelled { Labelled labels.now piece cursor }
-    requires definitions_within { (cursor.definitions + j + 1) * definition_size ≤ length definitions.now }
-    ensures { result ≡ defined_as labels.now definitions.now piece cursor symbol j }
+fn defined_as(labels: &[u8], definitions: &[u8], placed: PlacedPiece, symbol: u32, j: usize) -> u64
+    requires labelled { Labelled labels.now placed.piece placed.cursor }
+    requires definitions_within { (placed.cursor.definitions + j + 1) * definition_size ≤ length definitions.now }
+    ensures { result ≡ defined_as labels.now definitions.now placed.piece placed.cursor symbol j }
 {
-    if symbol_at(definitions, cursor, j) == symbol {
-        defined(labels, definitions, piece, cursor, j)
+    if symbol_at(definitions, placed.cursor, j) == symbol {
+        defined(labels, definitions, placed, j)
     } else {
         UNDEFINED
     }
 }
 
 // What the first `m` definitions of a piece say of `symbol`.
-fn find_in(
-    labels: &[u8],
-    definitions: &[u8],
-    piece: Piece,
-    cursor: Cursor,
-    m: usize,
-    symbol: u32,
-) -> u64
-    requires placed { Placed piece cursor }
-    requires labelled { Labelled labels.now piece cursor }
-    requires definitions_within { (cursor.definitions + m) * definition_size ≤ length definitions.now }
-    ensures { result ≡ find_in labels.now definitions.now piece cursor m symbol }
+fn find_in(labels: &[u8], definitions: &[u8], placed: PlacedPiece, m: usize, symbol: u32) -> u64
+    requires labelled { Labelled labels.now placed.piece placed.cursor }
+    requires definitions_within { (placed.cursor.definitions + m) * definition_size ≤ length definitions.now }
+    ensures { result ≡ find_in labels.now definitions.now placed.piece placed.cursor m symbol }
 {
     for j in 0..m {
-        let found = defined_as(labels, definitions, piece, cursor, symbol, j);
+        let found = defined_as(labels, definitions, placed, symbol, j);
         if found != UNDEFINED {
             return found;
         }
@@ -105,18 +91,18 @@ fn find(pieces: &[u8], labels: &[u8], definitions: &[u8], n: usize, symbol: u32)
     let mut cursor = pieces::START;
     for k in 0..n {
         let piece = pieces::piece_at(pieces, k);
+        let placed = PlacedPiece { piece, cursor };
         let found = find_in(
             labels,
             definitions,
-            piece,
-            cursor,
-            piece.definitions as usize,
+            placed,
+            placed.piece.definitions as usize,
             symbol,
         );
         if found != UNDEFINED {
             return found;
         }
-        cursor = pieces::after(piece, cursor);
+        cursor = placed.after();
     }
     UNDEFINED
 }
@@ -128,17 +114,15 @@ fn find_before(
     labels: &[u8],
     definitions: &[u8],
     k: usize,
-    piece: Piece,
-    cursor: Cursor,
+    placed: PlacedPiece,
     j: usize,
     symbol: u32,
 ) -> u64
     requires symbols { Symbols pieces.now labels.now definitions.now k }
-    requires placed { Placed piece cursor }
-    requires labelled { Labelled labels.now piece cursor }
-    requires definitions_within { (cursor.definitions + j) * definition_size ≤ length definitions.now }
-    requires begun { Begun table.now pieces.now labels.now definitions.now k piece cursor j }
-    ensures { result ≡ find_before pieces.now labels.now definitions.now k piece cursor j symbol }
+    requires labelled { Labelled labels.now placed.piece placed.cursor }
+    requires definitions_within { (placed.cursor.definitions + j) * definition_size ≤ length definitions.now }
+    requires begun { Begun table.now pieces.now labels.now definitions.now k placed.piece placed.cursor j }
+    ensures { result ≡ find_before pieces.now labels.now definitions.now k placed.piece placed.cursor j symbol }
 {
     if (symbol as usize) < table.len() {
         return table[symbol as usize];
@@ -147,7 +131,7 @@ fn find_before(
     if found != UNDEFINED {
         return found;
     }
-    find_in(labels, definitions, piece, cursor, j, symbol)
+    find_in(labels, definitions, placed, j, symbol)
 }
 
 // Keeps what is known of a symbol, if the table has room for it.
@@ -166,33 +150,21 @@ fn settle_piece(
     labels: &[u8],
     definitions: &[u8],
     k: usize,
-    piece: Piece,
-    cursor: Cursor,
+    placed: PlacedPiece,
 ) -> bool
     requires symbols { Symbols pieces.now labels.now definitions.now k }
-    requires placed { Placed piece cursor }
-    requires labelled { Labelled labels.now piece cursor }
-    requires definitions_in { DefinitionsIn definitions.now piece cursor }
+    requires labelled { Labelled labels.now placed.piece placed.cursor }
+    requires definitions_in { DefinitionsIn definitions.now placed.piece placed.cursor }
     requires settled { Settled table.old pieces.now labels.now definitions.now k }
-    ensures { (result ≡ new_in pieces.now labels.now definitions.now k piece cursor piece.definitions) × (result ≡ true → Begun table.new pieces.now labels.now definitions.now k piece cursor piece.definitions) × (length table.new ≡ length table.old) }
+    ensures { (result ≡ new_in pieces.now labels.now definitions.now k placed.piece placed.cursor placed.piece.definitions) × (result ≡ true → Begun table.new pieces.now labels.now definitions.now k placed.piece placed.cursor placed.piece.definitions) × (length table.new ≡ length table.old) }
 {
-    for j in 0..piece.definitions as usize {
-        let symbol = symbol_at(definitions, cursor, j);
-        let found = find_before(
-            table,
-            pieces,
-            labels,
-            definitions,
-            k,
-            piece,
-            cursor,
-            j,
-            symbol,
-        );
+    for j in 0..placed.piece.definitions as usize {
+        let symbol = symbol_at(definitions, placed.cursor, j);
+        let found = find_before(table, pieces, labels, definitions, k, placed, j, symbol);
         if found != UNDEFINED {
             return false;
         }
-        let known = defined(labels, definitions, piece, cursor, j);
+        let known = defined(labels, definitions, placed, j);
         note(table, symbol, known);
     }
     true
@@ -207,29 +179,41 @@ pub fn settle(table: &mut [u64], pieces: &[u8], labels: &[u8], definitions: &[u8
     let mut cursor = pieces::START;
     for k in 0..n {
         let piece = pieces::piece_at(pieces, k);
-        if !settle_piece(table, pieces, labels, definitions, k, piece, cursor) {
+        let placed = PlacedPiece { piece, cursor };
+        if !settle_piece(table, pieces, labels, definitions, k, placed) {
             return false;
         }
-        cursor = pieces::after(piece, cursor);
+        cursor = placed.after();
     }
     true
 }
 
-// What is known of a symbol once all pieces are noted.
-pub fn known(
-    table: &[u64],
-    pieces: &[u8],
-    labels: &[u8],
-    definitions: &[u8],
-    n: usize,
-    symbol: u32,
-) -> u64
-    requires { Resolves table.now pieces.now labels.now definitions.now n }
-    ensures { result ≡ find pieces.now labels.now definitions.now n symbol }
-{
-    if (symbol as usize) < table.len() {
-        table[symbol as usize]
-    } else {
-        find(pieces, labels, definitions, n, symbol)
+// The `count` pieces once all their definitions are noted: the table has what is known of the symbols below its length.
+#[derive(Clone, Copy)]
+pub struct Resolver<'a> {
+    pub table: &'a [u64],
+    pub pieces: &'a [u8],
+    pub labels: &'a [u8],
+    pub definitions: &'a [u8],
+    pub count: usize,
+    ghost resolves: { Resolves table.now pieces.now labels.now definitions.now count },
+}
+
+impl<'a> Resolver<'a> {
+    // What is known of a symbol.
+    pub fn known(&self, symbol: u32) -> u64
+        ensures { result ≡ find self.now.pieces.now self.now.labels.now self.now.definitions.now self.now.count symbol }
+    {
+        if (symbol as usize) < self.table.len() {
+            self.table[symbol as usize]
+        } else {
+            find(
+                self.pieces,
+                self.labels,
+                self.definitions,
+                self.count,
+                symbol,
+            )
+        }
     }
 }

@@ -5,9 +5,10 @@ ghost use Rattle.join.specs.Pieces.{lent_of, piece_count, sums_fit};
 ghost use Rattle.join.specs.Join.{lent_fits, why_unfit, why_undefined, why_no_table, why_no_field, why_no_output, why_no_room, why_not_joined};
 ghost use Rattle.join.specs.steps.Tables.{Settled};
 
+use crate::pieces::PlacedPiece;
+use crate::symbols::Resolver;
 use crate::{
-    AsmReloc, Cursor, DEFINITION_SIZE, LAST_PLACE, PIECE_SIZE, Piece, labels, pieces, relocs,
-    symbols,
+    AsmReloc, Cursor, DEFINITION_SIZE, LAST_PLACE, PIECE_SIZE, labels, pieces, relocs, symbols,
 };
 use refusals::Refusal;
 
@@ -31,8 +32,8 @@ fn lent_fits(pieces: &[u8], code: &[u8], labels: &[u8], relocs: &[u8], definitio
     if n == 0 || MOST_PIECES < n || !pieces::pieces_fit(pieces, n) {
         return false;
     }
-    let known = |piece: Piece, _: Cursor, reloc: AsmReloc| {
-        relocs::is_filled(piece.arch, reloc) || relocs::is_label_known(piece, reloc)
+    let known = |placed: PlacedPiece, reloc: AsmReloc| {
+        relocs::is_filled(placed.piece.arch, reloc) || relocs::is_label_known(placed.piece, reloc)
     };
     sums_fit(pieces::sum(pieces, n), code, labels, relocs, definitions)
         && relocs::all_hold(known, pieces, relocs, n)
@@ -62,13 +63,13 @@ fn unfit(
 }
 
 // 28 and 29. Where there is neither, the table is settled.
-fn undefined(
-    table: &mut [u64],
-    pieces: &[u8],
+fn undefined<'a>(
+    table: &'a mut [u64],
+    pieces: &'a [u8],
     code: &[u8],
-    labels: &[u8],
+    labels: &'a [u8],
     relocs: &[u8],
-    definitions: &[u8],
+    definitions: &'a [u8],
 ) -> Result<(), Refusal>
     requires fits { why_unfit (lent_of pieces.now code.now labels.now relocs.now definitions.now) ≡ 0 }
     requires settled { Settled table.old pieces.now labels.now definitions.now 0 }
@@ -78,10 +79,16 @@ fn undefined(
     if !symbols::settle(table, pieces, labels, definitions, n) {
         return Err(Refusal::SymbolDefinedTwice);
     }
-    let defined = |piece: Piece, _: Cursor, reloc: AsmReloc| {
-        !relocs::is_filled(piece.arch, reloc)
-            || symbols::FIRST_PLACE
-                <= symbols::known(table, pieces, labels, definitions, n, reloc.target)
+    let resolver = Resolver {
+        table,
+        pieces,
+        labels,
+        definitions,
+        count: n,
+    };
+    let defined = |placed: PlacedPiece, reloc: AsmReloc| {
+        !relocs::is_filled(placed.piece.arch, reloc)
+            || symbols::FIRST_PLACE <= resolver.known(reloc.target)
     };
     if !relocs::all_hold(defined, pieces, relocs, n) {
         return Err(Refusal::SymbolUndefined);
@@ -126,17 +133,24 @@ fn no_field(
     ensures { answer_of result ≡ why_no_field (lent_of pieces.now code.now labels.now relocs.now definitions.now) }
 {
     let n = pieces.len() / PIECE_SIZE;
-    let inside = |piece: Piece, _: Cursor, reloc: AsmReloc| {
-        !relocs::is_filled(piece.arch, reloc) || relocs::lies_inside(piece, reloc)
+    let inside = |placed: PlacedPiece, reloc: AsmReloc| {
+        !relocs::is_filled(placed.piece.arch, reloc) || relocs::lies_inside(placed.piece, reloc)
     };
     if !relocs::all_hold(inside, pieces, relocs, n) {
         return Err(Refusal::RefOverlaps);
     }
-    let reaches = |piece: Piece, cursor: Cursor, reloc: AsmReloc| {
-        !relocs::is_filled(piece.arch, reloc)
+    let resolver = Resolver {
+        table,
+        pieces,
+        labels,
+        definitions,
+        count: n,
+    };
+    let reaches = |placed: PlacedPiece, reloc: AsmReloc| {
+        !relocs::is_filled(placed.piece.arch, reloc)
             || {
-                let known = symbols::known(table, pieces, labels, definitions, n, reloc.target);
-                relocs::fits_32(relocs::value(known, piece, cursor, reloc))
+                let known = resolver.known(reloc.target);
+                relocs::fits_32(relocs::value(known, placed, reloc))
             }
     };
     if !relocs::all_hold(reaches, pieces, relocs, n) {
@@ -161,8 +175,8 @@ fn no_output(
 {
     let n = pieces.len() / PIECE_SIZE;
     let sum = pieces::sum(pieces, n);
-    let moves = |piece: Piece, cursor: Cursor, reloc: AsmReloc| {
-        relocs::is_filled(piece.arch, reloc) || relocs::moves(piece, cursor, reloc)
+    let moves = |placed: PlacedPiece, reloc: AsmReloc| {
+        relocs::is_filled(placed.piece.arch, reloc) || relocs::moves(placed, reloc)
     };
     if LAST_PLACE < sum.end
         || output < sum.end as usize

@@ -8,11 +8,12 @@ ghost use Rattle.buffer.specs.State.{label_target};
 ghost use Rattle.join.specs.Pieces.{gap, base_of, lent_of};
 ghost use Rattle.join.specs.Symbols.{find};
 ghost use Rattle.join.specs.Join.{Inside, field_size, is_filled, relocs_hold, piece_code, field_filled, filled_with, filled_code, moved_target, remaining_words, remaining_in, count_remaining_in, image, labels_joined, remaining};
-ghost use Rattle.join.specs.steps.Within.{Placed, RelocsIn, CodeIn};
-ghost use Rattle.join.specs.steps.Tables.{Resolves};
+ghost use Rattle.join.specs.steps.Within.{RelocsIn, CodeIn};
 ghost use Rattle.join.specs.steps.Writes.{RelocMoves, RelocsMove, Joins};
 
-use crate::{AsmReloc, Cursor, Piece, labels, pieces, relocs, symbols};
+use crate::pieces::PlacedPiece;
+use crate::symbols::Resolver;
+use crate::{AsmReloc, Cursor, labels, pieces, relocs};
 
 fn put_field(part: &mut [u8], offset: usize, value: u32)
     requires { offset + field_size ≤ length part.old }
@@ -22,112 +23,60 @@ fn put_field(part: &mut [u8], offset: usize, value: u32)
 }
 
 // Fills the field of a relocation in its piece's code, if it is one that is filled.
-fn fill_field(
-    part: &mut [u8],
-    table: &[u64],
-    pieces: &[u8],
-    labels: &[u8],
-    definitions: &[u8],
-    n: usize,
-    piece: Piece,
-    cursor: Cursor,
-    reloc: AsmReloc,
-)
-    requires resolves { Resolves table.now pieces.now labels.now definitions.now n }
-    requires placed { Placed piece cursor }
-    requires part_within { (is_filled piece.arch reloc ≡ true → reloc.offset + field_size ≤ length part.old) }
-    ensures { part.new ≡ field_filled (find pieces.now labels.now definitions.now n) piece cursor reloc part.old }
+fn fill_field(part: &mut [u8], resolver: &Resolver, placed: PlacedPiece, reloc: AsmReloc)
+    requires part_within { (is_filled placed.piece.arch reloc ≡ true → reloc.offset + field_size ≤ length part.old) }
+    ensures { part.new ≡ field_filled (find resolver.now.pieces.now resolver.now.labels.now resolver.now.definitions.now resolver.now.count) placed.piece placed.cursor reloc part.old }
 {
-    if relocs::is_filled(piece.arch, reloc) {
-        let known = symbols::known(table, pieces, labels, definitions, n, reloc.target);
-        let value = relocs::value(known, piece, cursor, reloc);
+    if relocs::is_filled(placed.piece.arch, reloc) {
+        let known = resolver.known(reloc.target);
+        let value = relocs::value(known, placed, reloc);
         put_field(part, reloc.offset as usize, (value % 4294967296) as u32);
     }
 }
 
 // Fills the fields of a piece, in the order of its relocations.
-fn fill_fields(
-    part: &mut [u8],
-    table: &[u64],
-    pieces: &[u8],
-    labels: &[u8],
-    relocs: &[u8],
-    definitions: &[u8],
-    n: usize,
-    piece: Piece,
-    cursor: Cursor,
-)
-    requires resolves { Resolves table.now pieces.now labels.now definitions.now n }
-    requires placed { Placed piece cursor }
-    requires relocs_in { RelocsIn relocs.now piece cursor }
-    requires part_length { length part.old ≡ piece.len }
-    requires relocs_hold { relocs_hold Inside (find pieces.now labels.now definitions.now n) relocs.now piece cursor piece.relocs ≡ true }
-    ensures { part.new ≡ filled_with (find pieces.now labels.now definitions.now n) relocs.now piece cursor part.old piece.relocs }
+fn fill_fields(part: &mut [u8], resolver: &Resolver, relocs: &[u8], placed: PlacedPiece)
+    requires relocs_in { RelocsIn relocs.now placed.piece placed.cursor }
+    requires part_length { length part.old ≡ placed.piece.len }
+    requires relocs_hold { relocs_hold Inside (find resolver.now.pieces.now resolver.now.labels.now resolver.now.definitions.now resolver.now.count) relocs.now placed.piece placed.cursor placed.piece.relocs ≡ true }
+    ensures { part.new ≡ filled_with (find resolver.now.pieces.now resolver.now.labels.now resolver.now.definitions.now resolver.now.count) relocs.now placed.piece placed.cursor part.old placed.piece.relocs }
 {
-    for j in 0..piece.relocs as usize {
-        let reloc = relocs::reloc_at(relocs, cursor.relocs + j);
-        fill_field(
-            part,
-            table,
-            pieces,
-            labels,
-            definitions,
-            n,
-            piece,
-            cursor,
-            reloc,
-        );
+    for j in 0..placed.piece.relocs as usize {
+        let reloc = relocs::reloc_at(relocs, placed.cursor.relocs + j);
+        fill_field(part, resolver, placed, reloc);
     }
 }
 
 // Writes a piece's code behind the zeros in front of it.
-fn put_code(output: &mut [u8], code: &[u8], piece: Piece, cursor: Cursor)
-    requires placed { Placed piece cursor }
-    requires code_in { CodeIn code.now piece cursor }
-    requires output_within { base_of piece cursor + piece.len ≤ length output.old }
-    ensures { output.new ≡ over output.old cursor.end (replicate (gap piece cursor) 0 ++ piece_code code.now piece cursor) }
+fn put_code(output: &mut [u8], code: &[u8], placed: PlacedPiece)
+    requires code_in { CodeIn code.now placed.piece placed.cursor }
+    requires output_within { base_of placed.piece placed.cursor + placed.piece.len ≤ length output.old }
+    ensures { output.new ≡ over output.old placed.cursor.end (replicate (gap placed.piece placed.cursor) 0 ++ piece_code code.now placed.piece placed.cursor) }
 {
-    let base = pieces::base(piece, cursor) as usize;
-    let end = cursor.end as usize;
-    let from = cursor.code;
+    let base = placed.base() as usize;
+    let end = placed.cursor.end as usize;
+    let from = placed.cursor.code;
     buffer::bytes::clear(&mut output[end..base]);
-    emit::copy_run(output, code, from, from + piece.len as usize, base);
+    emit::copy_run(output, code, from, from + placed.piece.len as usize, base);
 }
 
 // The same, with the piece's fields filled.
 fn put_filled(
     output: &mut [u8],
-    table: &[u64],
-    pieces: &[u8],
+    resolver: &Resolver,
     code: &[u8],
-    labels: &[u8],
     relocs: &[u8],
-    definitions: &[u8],
-    n: usize,
-    piece: Piece,
-    cursor: Cursor,
+    placed: PlacedPiece,
 )
-    requires resolves { Resolves table.now pieces.now labels.now definitions.now n }
-    requires placed { Placed piece cursor }
-    requires code_in { CodeIn code.now piece cursor × RelocsIn relocs.now piece cursor }
-    requires output_within { base_of piece cursor + piece.len ≤ length output.old }
-    requires relocs_hold { relocs_hold Inside (find pieces.now labels.now definitions.now n) relocs.now piece cursor piece.relocs ≡ true }
-    ensures { output.new ≡ over output.old cursor.end (replicate (gap piece cursor) 0 ++ filled_code (find pieces.now labels.now definitions.now n) relocs.now code.now piece cursor) }
+    requires code_in { CodeIn code.now placed.piece placed.cursor × RelocsIn relocs.now placed.piece placed.cursor }
+    requires output_within { base_of placed.piece placed.cursor + placed.piece.len ≤ length output.old }
+    requires relocs_hold { relocs_hold Inside (find resolver.now.pieces.now resolver.now.labels.now resolver.now.definitions.now resolver.now.count) relocs.now placed.piece placed.cursor placed.piece.relocs ≡ true }
+    ensures { output.new ≡ over output.old placed.cursor.end (replicate (gap placed.piece placed.cursor) 0 ++ filled_code (find resolver.now.pieces.now resolver.now.labels.now resolver.now.definitions.now resolver.now.count) relocs.now code.now placed.piece placed.cursor) }
 {
-    put_code(output, code, piece, cursor);
-    let base = pieces::base(piece, cursor) as usize;
-    let end = base + piece.len as usize;
-    fill_fields(
-        &mut output[base..end],
-        table,
-        pieces,
-        labels,
-        relocs,
-        definitions,
-        n,
-        piece,
-        cursor,
-    );
+    put_code(output, code, placed);
+    let base = placed.base() as usize;
+    let end = base + placed.piece.len as usize;
+    fill_fields(&mut output[base..end], resolver, relocs, placed);
 }
 
 // A target's number in the whole.
@@ -143,39 +92,31 @@ fn moved_target(cursor: Cursor, target: u32) -> u32
 }
 
 // Writes a relocation as entry `i`, moved, if it is one that remains, and gives the entry behind it.
-fn put_remaining(
-    joined: &mut [u8],
-    i: usize,
-    piece: Piece,
-    cursor: Cursor,
-    reloc: AsmReloc,
-) -> usize
-    requires placed { Placed piece cursor }
-    requires joined_within { (i + one (not (is_filled piece.arch reloc))) * reloc_size ≤ length joined.old }
-    requires reloc_moves { RelocMoves piece cursor reloc }
-    ensures { (result ≡ i + one (not (is_filled piece.arch reloc))) × (joined.new ≡ over joined.old (i * reloc_size) (bytes_of_all (remaining_words piece cursor reloc))) }
+fn put_remaining(joined: &mut [u8], i: usize, placed: PlacedPiece, reloc: AsmReloc) -> usize
+    requires joined_within { (i + one (not (is_filled placed.piece.arch reloc))) * reloc_size ≤ length joined.old }
+    requires reloc_moves { RelocMoves placed.piece placed.cursor reloc }
+    ensures { (result ≡ i + one (not (is_filled placed.piece.arch reloc))) × (joined.new ≡ over joined.old (i * reloc_size) (bytes_of_all (remaining_words placed.piece placed.cursor reloc))) }
 {
-    if relocs::is_filled(piece.arch, reloc) {
+    if relocs::is_filled(placed.piece.arch, reloc) {
         return i;
     }
-    let offset = (pieces::base(piece, cursor) + reloc.offset as u64) as u32;
-    let target = moved_target(cursor, reloc.target);
+    let offset = (placed.base() + reloc.offset as u64) as u32;
+    let target = moved_target(placed.cursor, reloc.target);
     buffer::relocs::put_reloc(joined, i, offset, reloc.kind, target, reloc.addend);
     i + 1
 }
 
 // Writes the relocations of a piece that remain, from entry `at` on, and gives the entry behind them.
-fn put_relocs(joined: &mut [u8], relocs: &[u8], piece: Piece, cursor: Cursor, at: usize) -> usize
-    requires placed { Placed piece cursor }
-    requires relocs_in { RelocsIn relocs.now piece cursor }
-    requires joined_within { (at + count_remaining_in relocs.now piece cursor piece.relocs) * reloc_size ≤ length joined.old }
-    requires relocs_move { RelocsMove relocs.now piece cursor }
-    ensures { (result ≡ at + count_remaining_in relocs.now piece cursor piece.relocs) × (joined.new ≡ over joined.old (at * reloc_size) (bytes_of_all (remaining_in relocs.now piece cursor piece.relocs))) }
+fn put_relocs(joined: &mut [u8], relocs: &[u8], placed: PlacedPiece, at: usize) -> usize
+    requires relocs_in { RelocsIn relocs.now placed.piece placed.cursor }
+    requires joined_within { (at + count_remaining_in relocs.now placed.piece placed.cursor placed.piece.relocs) * reloc_size ≤ length joined.old }
+    requires relocs_move { RelocsMove relocs.now placed.piece placed.cursor }
+    ensures { (result ≡ at + count_remaining_in relocs.now placed.piece placed.cursor placed.piece.relocs) × (joined.new ≡ over joined.old (at * reloc_size) (bytes_of_all (remaining_in relocs.now placed.piece placed.cursor placed.piece.relocs))) }
 {
     let mut i: usize = at;
-    for j in 0..piece.relocs as usize {
-        let reloc = relocs::reloc_at(relocs, cursor.relocs + j);
-        i = put_remaining(joined, i, piece, cursor, reloc);
+    for j in 0..placed.piece.relocs as usize {
+        let reloc = relocs::reloc_at(relocs, placed.cursor.relocs + j);
+        i = put_remaining(joined, i, placed, reloc);
     }
     i
 }
@@ -185,38 +126,23 @@ pub fn put_pieces(
     output: &mut [u8],
     joined_labels: &mut [u8],
     joined_relocs: &mut [u8],
-    table: &[u64],
-    pieces: &[u8],
+    resolver: &Resolver,
     code: &[u8],
-    labels: &[u8],
     relocs: &[u8],
-    definitions: &[u8],
-    n: usize,
 )
-    requires joins { Joins (lent_of pieces.now code.now labels.now relocs.now definitions.now) n (length output.old) (length joined_labels.old) (length joined_relocs.old) }
-    requires resolves { Resolves table.now pieces.now labels.now definitions.now n }
-    ensures output_after { output.new ≡ over output.old 0 (image (find pieces.now labels.now definitions.now n) pieces.now relocs.now code.now n) }
-    ensures joined_labels_after { joined_labels.new ≡ over_words joined_labels.old (labels_joined pieces.now labels.now n) }
-    ensures joined_relocs_after { joined_relocs.new ≡ over_words joined_relocs.old (remaining pieces.now relocs.now n) }
+    requires joins { Joins (lent_of resolver.now.pieces.now code.now resolver.now.labels.now relocs.now resolver.now.definitions.now) resolver.now.count (length output.old) (length joined_labels.old) (length joined_relocs.old) }
+    ensures output_after { output.new ≡ over output.old 0 (image (find resolver.now.pieces.now resolver.now.labels.now resolver.now.definitions.now resolver.now.count) resolver.now.pieces.now relocs.now code.now resolver.now.count) }
+    ensures joined_labels_after { joined_labels.new ≡ over_words joined_labels.old (labels_joined resolver.now.pieces.now resolver.now.labels.now resolver.now.count) }
+    ensures joined_relocs_after { joined_relocs.new ≡ over_words joined_relocs.old (remaining resolver.now.pieces.now relocs.now resolver.now.count) }
 {
     let mut cursor = pieces::START;
     let mut at: usize = 0;
-    for k in 0..n {
-        let piece = pieces::piece_at(pieces, k);
-        put_filled(
-            output,
-            table,
-            pieces,
-            code,
-            labels,
-            relocs,
-            definitions,
-            n,
-            piece,
-            cursor,
-        );
-        labels::put_labels(joined_labels, labels, piece, cursor);
-        at = put_relocs(joined_relocs, relocs, piece, cursor, at);
-        cursor = pieces::after(piece, cursor);
+    for k in 0..resolver.count {
+        let piece = pieces::piece_at(resolver.pieces, k);
+        let placed = PlacedPiece { piece, cursor };
+        put_filled(output, resolver, code, relocs, placed);
+        labels::put_labels(joined_labels, resolver.labels, placed);
+        at = put_relocs(joined_relocs, relocs, placed, at);
+        cursor = placed.after();
     }
 }

@@ -18,15 +18,19 @@ returns-in_err-not_joined g c =
     rw told (join_refused l a.output.now a.joined_labels.now a.joined_relocs.now _ _ c.in_err-not_joined.ensures.0 (number_not_0 _) refl)
 
 -- nothing refuses the joining
+pub invariant_of-resolver : goal.invariant_of-resolver
+invariant_of-resolver g c =
+    let a = c.args in
+    let l : Lent = lent_of a.pieces.now a.code.now a.labels.now a.relocs.now a.definitions.now in
+    let passed = joined_passed l (length a.output.now) (length a.joined_labels.now) (length a.joined_relocs.now) (sym c.in_ok-not_joined.ensures.0) in
+    record { resolves = record { symbols = fit_symbols l passed.0; settled = c.in_ok-not_joined.ensures.1 refl } }
+
 pub put_pieces-requires : goal.put_pieces-requires
 put_pieces-requires g c =
     let a = c.args in
     let l : Lent = lent_of a.pieces.now a.code.now a.labels.now a.relocs.now a.definitions.now in
     let passed = joined_passed l (length a.output.now) (length a.joined_labels.now) (length a.joined_relocs.now) (sym c.in_ok-not_joined.ensures.0) in
-    record {
-      joins = fit_joins l _ _ _ passed.0 passed.1;
-      resolves = record { symbols = fit_symbols l passed.0; settled = c.in_ok-not_joined.ensures.1 refl };
-    }
+    record { joins = fit_joins l _ _ _ passed.0 passed.1 }
 
 pub whole-requires : goal.whole-requires
 whole-requires g c =

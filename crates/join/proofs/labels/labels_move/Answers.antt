@@ -11,4 +11,4 @@ pub returns : goal.returns
 unfolding labels_move
 returns c =
     let a = c.args in
-    all_of_range (λ (j : ℕ). label_moves (base_of a.piece a.cursor) (word_at a.labels.now (a.cursor.labels + j))) a.piece.labels c.all.ensures.ran (λ x b q k. search (rules, tests))
+    all_of_range (λ (j : ℕ). label_moves (base_of a.placed.piece a.placed.cursor) (word_at a.labels.now (a.placed.cursor.labels + j))) a.placed.piece.labels c.all.ensures.ran (λ x b q k. search (rules, tests))

@@ -16,7 +16,7 @@ unfolding labels_move
 moved-requires c =
     let a = c.args in
     rw (c.word_at.ensures, c.base-base.ensures.0)
-    (all_at (λ (i : ℕ). label_moves (base_of a.piece a.cursor) (word_at a.labels.now (a.cursor.labels + i))) a.piece.labels c.loop-j.j c.requires.labels_move c.loop-j-test.true)
+    (all_at (λ (i : ℕ). label_moves (base_of a.placed.piece a.placed.cursor) (word_at a.labels.now (a.placed.cursor.labels + i))) a.placed.piece.labels c.loop-j.j c.requires.labels_move c.loop-j-test.true)
 
 pub loop-j-preserved : goal.loop-j-preserved
 loop-j-preserved c =

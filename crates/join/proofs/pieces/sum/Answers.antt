@@ -8,16 +8,16 @@ use Rattle.join.proofs.pieces.sum.Goals as goal
 pub loop-k-init : goal.loop-k-init
 loop-k-init c = (omega arith, sym (cursor_none _), record { code = omega arith; labels = omega arith; relocs = omega arith; definitions = omega arith; end = omega arith })
 
-pub after-cursor-requires : goal.after-cursor-requires
+pub invariant_of-placed : goal.invariant_of-placed
 unfolding pieces_fit
-after-cursor-requires c =
+invariant_of-placed c =
     let pieces = c.args.pieces.now in
-    record { piece_fits = rw c.piece_at.ensures (all_at (λ (i : ℕ). piece_fits (piece_at pieces i)) _ _ c.requires.pieces_fit (omega arith)); near = near_most _ _ (omega arith) c.loop-k.invariant.2 }
+    record { placed = record { fits = rw c.piece_at-piece.ensures (all_at (λ (i : ℕ). piece_fits (piece_at pieces i)) _ _ c.requires.pieces_fit (omega arith)); near = near_most _ _ (omega arith) c.loop-k.invariant.2 } }
 
 pub loop-k-preserved : goal.loop-k-preserved
 loop-k-preserved c =
     let l = c.loop-k in (
       omega arith,
-      rw (c.after-cursor.ensures.0, c.piece_at.ensures, l.invariant.1) (cursor_next c.args.pieces.now l.k),
+      rw (c.after-cursor.ensures.0, c.piece_at-piece.ensures, l.invariant.1) (cursor_next c.args.pieces.now l.k),
       c.after-cursor.ensures.1 l.k l.invariant.2,
     )

@@ -14,7 +14,7 @@ pub loop-j-preserved : goal.loop-j-preserved
 unfolding count_remaining_in
 loop-j-preserved c =
     let a = c.args in
-    let more = one_counted (λ (i : ℕ). not (is_filled a.piece.arch (piece_reloc a.relocs.now a.cursor i))) c.loop-j.j in
+    let more = one_counted (λ (i : ℕ). not (is_filled a.placed.piece.arch (piece_reloc a.relocs.now a.placed.cursor i))) c.loop-j.j in
     let asked = rw c.reloc_at.ensures at c.is_filled.ensures in
     elim c.if-not-is_filled.branch [
       | then-not-is_filled w ↦

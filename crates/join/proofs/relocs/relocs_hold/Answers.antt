@@ -10,11 +10,11 @@ loop-j-init g c = λ asked known asks. pass_none _ _
 pub returns-then-not-test : goal.returns-then-not-test
 unfolding relocs_hold
 returns-then-not-test g c =
-    λ asked known asks. pass_fails (c.loop-j.invariant asked known asks) c.loop-j-test.true (rw c.reloc_at.ensures at (asks _ _ _ _ c.requires.placed c.test.ensures)) (rw c.if-not-test.true)
+    λ asked known asks. pass_fails (c.loop-j.invariant asked known asks) c.loop-j-test.true (rw c.reloc_at.ensures at (asks _ _ _ c.test.ensures)) (rw c.if-not-test.true)
 
 pub loop-j-preserved : goal.loop-j-preserved
 loop-j-preserved g c =
-    λ asked known asks. pass_one (c.loop-j.invariant asked known asks) c.loop-j-test.true (rw c.reloc_at.ensures at (asks _ _ _ _ c.requires.placed c.test.ensures)) (rw c.if-not-test.false)
+    λ asked known asks. pass_one (c.loop-j.invariant asked known asks) c.loop-j-test.true (rw c.reloc_at.ensures at (asks _ _ _ c.test.ensures)) (rw c.if-not-test.false)
 
 pub returns : goal.returns
 unfolding relocs_hold

@@ -7,4 +7,4 @@ use Rattle.join.proofs.relocs.relocs_hold.Given as goal
 
 abbrev pub invariant-loop-j : goal.invariant-loop-j
 invariant-loop-j g l =
-    (asked : Test) (known : ℕ → ℕ) → Asks (goal.F-post g l.test) asked known → AllPassed (λ (i : ℕ). holds asked known l.piece l.cursor (piece_reloc l.relocs l.cursor i)) l.piece.relocs l.j
+    (asked : Test) (known : ℕ → ℕ) → Asks (goal.F-post g l.test) asked known → AllPassed (λ (i : ℕ). holds asked known l.placed.piece l.placed.cursor (piece_reloc l.relocs l.placed.cursor i)) l.placed.piece.relocs l.j

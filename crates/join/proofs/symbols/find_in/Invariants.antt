@@ -4,4 +4,4 @@ use Rattle.join.specs.Symbols.{defined_as}
 use Rattle.join.proofs.symbols.find_in.Given as goal
 
 abbrev pub invariant-loop-j : goal.invariant-loop-j
-invariant-loop-j l = NoneRefused (defined_as l.labels l.definitions l.piece l.cursor l.symbol) l.m l.j
+invariant-loop-j l = NoneRefused (defined_as l.labels l.definitions l.placed.piece l.placed.cursor l.symbol) l.m l.j

@@ -31,5 +31,5 @@ loop-j-preserved c =
 pub returns : goal.returns
 unfolding new_in
 returns c =
-    let all : c.loop-j.j ≡ c.args.piece.definitions = omega arith in
+    let all : c.loop-j.j ≡ c.args.placed.piece.definitions = omega arith in
     (pass_all c.loop-j.invariant.0 (omega arith), λ e. rw all at c.loop-j.invariant.1, c.loop-j.invariant.2)

@@ -6,4 +6,4 @@ use Rattle.join.specs.steps.Tables.{Begun}
 use Rattle.join.proofs.symbols.settle_piece.Given as goal
 
 abbrev pub invariant-loop-j : goal.invariant-loop-j
-invariant-loop-j l = AllPassed (λ (i : ℕ). eqb (find_before l.pieces l.labels l.definitions l.k l.piece l.cursor i (symbol_at l.definitions l.cursor i)) undefined) l.piece.definitions l.j × Begun l.table l.pieces l.labels l.definitions l.k l.piece l.cursor l.j × (length l.table ≡ length l.initial.table)
+invariant-loop-j l = AllPassed (λ (i : ℕ). eqb (find_before l.pieces l.labels l.definitions l.k l.placed.piece l.placed.cursor i (symbol_at l.definitions l.placed.cursor i)) undefined) l.placed.piece.definitions l.j × Begun l.table l.pieces l.labels l.definitions l.k l.placed.piece l.placed.cursor l.j × (length l.table ≡ length l.initial.table)

@@ -27,7 +27,7 @@ returns-then-sums_fit c =
     rw (ne_eqb _ _ c.if-n-eq0.false, le-leb _ _ c.if-n-gt-MOST_PIECES.false)
     (test_holds_lem c.pieces_fit.ensures (rw c.if-not-pieces_fit.false)
     (test_holds_lem (rw c.sum.ensures.0 at (c.sums_fit.ensures c.args.pieces.now)) (rw c.if-sums_fit.true)
-    (c.all_hold.ensures Known (known_in l) (λ p d r b placed called. search (rules, tests, picks)))))
+    (c.all_hold.ensures Known (known_in l) (λ p r b called. search (rules, tests, picks)))))
 
 pub returns-else-sums_fit : goal.returns-else-sums_fit
 returns-else-sums_fit c =

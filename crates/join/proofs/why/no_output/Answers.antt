@@ -30,7 +30,7 @@ returns-then-sum-gt-LAST_PLACE c =
       | then-sum-gt-LAST_PLACE-via-else-sum-gt-LAST_PLACE+then-output-sum w ↦ search (rules, picks)
       | then-sum-gt-LAST_PLACE-via-else-sum-gt-LAST_PLACE+else-output-sum+then-not-all_labels_move w ↦ search (rules, picks)
       | then-sum-gt-LAST_PLACE-via-else-sum-gt-LAST_PLACE+else-output-sum+else-not-all_labels_move+then-not-all_hold w ↦
-          let held = w.all_hold.ensures Moves (known_in l) (λ p d r b placed called. search (rules, tests, picks)) in
+          let held = w.all_hold.ensures Moves (known_in l) (λ p r b called. search (rules, tests, picks)) in
           search (rules, picks, held)
     ]
 
@@ -39,5 +39,5 @@ unfolding why_no_output holds
 returns c =
     let a = c.args in
     let l : Lent = lent_of a.pieces.now a.code.now a.labels.now a.relocs.now a.definitions.now in
-    let held = c.all_hold.ensures Moves (known_in l) (λ p d r b placed called. search (rules, tests, picks)) in
+    let held = c.all_hold.ensures Moves (known_in l) (λ p r b called. search (rules, tests, picks)) in
     search (rules, picks, held)

@@ -17,15 +17,15 @@ returns-then-not-settle c = search (rules, picks)
 pub all_hold-requires-clause-relocations : goal.all_hold-requires-clause-relocations
 all_hold-requires-clause-relocations c = search (rules, unfits)
 
-pub all_hold-requires-clause-callable : goal.all_hold-requires-clause-callable
-all_hold-requires-clause-callable c = search (rules, unfits)
+pub invariant_of-resolver : goal.invariant_of-resolver
+invariant_of-resolver c = search (rules, unfits)
 
 pub returns-then-not-all_hold : goal.returns-then-not-all_hold
 unfolding why_undefined holds
 returns-then-not-all_hold c =
     let a = c.args in
     let l : Lent = lent_of a.pieces.now a.code.now a.labels.now a.relocs.now a.definitions.now in
-    let held = c.all_hold.ensures Defined (known_in l) (λ p d r b placed called. search (rules, tests, picks)) in
+    let held = c.all_hold.ensures Defined (known_in l) (λ p r b called. search (rules, tests, picks)) in
     search (rules, picks, held)
 
 pub returns : goal.returns
@@ -33,5 +33,5 @@ unfolding why_undefined holds
 returns c =
     let a = c.args in
     let l : Lent = lent_of a.pieces.now a.code.now a.labels.now a.relocs.now a.definitions.now in
-    let held = c.all_hold.ensures Defined (known_in l) (λ p d r b placed called. search (rules, tests, picks)) in
+    let held = c.all_hold.ensures Defined (known_in l) (λ p r b called. search (rules, tests, picks)) in
     search (rules, picks, held)

@@ -15,13 +15,11 @@ pub fill_field-requires : goal.fill_field-requires
 unfolding relocs_hold holds
 fill_field-requires c =
     let a = c.args in
-    let known = find a.pieces.now a.labels.now a.definitions.now a.n in
-    let inside = all_at (λ (i : ℕ). holds Inside known a.piece a.cursor (piece_reloc a.relocs.now a.cursor i)) _ c.loop-j.j c.requires.relocs_hold c.loop-j-test.true in
-    let size = ap length c.loop-j.invariant.1 ∙ length_filled known a.relocs.now a.piece a.cursor a.part.now c.loop-j.j ∙ c.requires.part_length in record {
-      resolves = c.requires.resolves;
-      placed = c.requires.placed;
+    let known = find a.resolver.now.pieces.now a.resolver.now.labels.now a.resolver.now.definitions.now a.resolver.now.count in
+    let inside = all_at (λ (i : ℕ). holds Inside known a.placed.piece a.placed.cursor (piece_reloc a.relocs.now a.placed.cursor i)) _ c.loop-j.j c.requires.relocs_hold c.loop-j-test.true in
+    let size = ap length c.loop-j.invariant.1 ∙ length_filled known a.relocs.now a.placed.piece a.placed.cursor a.part.now c.loop-j.j ∙ c.requires.part_length in record {
       part_within = λ filled.
-          let room : (piece_reloc a.relocs.now a.cursor c.loop-j.j).offset + field_size ≤ a.piece.len =
+          let room : (piece_reloc a.relocs.now a.placed.cursor c.loop-j.j).offset + field_size ≤ a.placed.piece.len =
           leb-true _ _ (sym (pick_yes _ _ _ (rw c.reloc_at-reloc.ensures at filled)) ∙ inside) in
           rw c.reloc_at-reloc.ensures (omega (arith, size, room));
     }

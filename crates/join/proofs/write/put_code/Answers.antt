@@ -7,5 +7,5 @@ pub returns : goal.returns
 returns c =
     let a = c.args in
     c.copy_run.ensures
-    ∙ code_put a.output.now a.code.now a.piece a.cursor c.base-base.result c.base-base.ensures.0 c.requires.code_in
+    ∙ code_put a.output.now a.code.now a.placed.piece a.placed.cursor c.base-base.result c.base-base.ensures.0 c.requires.code_in
     (rw (← c.base-base.ensures.0) at c.requires.output_within) _ c.clear.ensures

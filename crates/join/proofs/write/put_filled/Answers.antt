@@ -7,5 +7,5 @@ returns c =
     let a = c.args in
     let pre = c.requires in
     let room = rw (← c.base-base.ensures.0) at pre.output_within in
-    filled_put a.output.now a.code.now a.piece a.cursor c.base-base.result c.base-base.ensures.0 pre.code_in.0 room
+    filled_put a.output.now a.code.now a.placed.piece a.placed.cursor c.base-base.result c.base-base.ensures.0 pre.code_in.0 room
     _ c.put_code.ensures _ a.relocs.now _ c.fill_fields.ensures

@@ -22,8 +22,6 @@ put_filled-requires c =
     let v = c.loop-k in
     let p = next_puts v.invariant.4 (record { piece = c.piece_at-piece.ensures; cursor = v.invariant.1 }) c.loop-k-test.true v.invariant.2 in
     record {
-      resolves = c.requires.resolves;
-      placed = p.placed;
       code_in = (p.code, p.relocs);
       output_within = omega (arith, p.output_room, output_length v.invariant.3);
       relocs_hold = p.inside;
@@ -34,7 +32,6 @@ put_labels-requires c =
     let v = c.loop-k in
     let p = next_puts v.invariant.4 (record { piece = c.piece_at-piece.ensures; cursor = v.invariant.1 }) c.loop-k-test.true v.invariant.2 in
     record {
-      placed = p.placed;
       labelled = p.labels;
       labelled_2 = omega (arith, p.labels_room, labels_length v.invariant.3);
       labels_move = p.labels_moved;
@@ -45,7 +42,6 @@ put_relocs-at-requires c =
     let v = c.loop-k in
     let p = next_puts v.invariant.4 (record { piece = c.piece_at-piece.ensures; cursor = v.invariant.1 }) c.loop-k-test.true v.invariant.2 in
     record {
-      placed = p.placed;
       relocs_in = p.relocs;
       joined_within = omega (arith, p.relocs_room, relocs_length v.invariant.3);
       relocs_move = p.relocs_move;

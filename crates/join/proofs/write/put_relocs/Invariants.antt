@@ -7,4 +7,4 @@ use Rattle.join.specs.Join.{remaining_in, count_remaining_in}
 use Rattle.join.proofs.write.put_relocs.Given as goal
 
 abbrev pub invariant-loop-j : goal.invariant-loop-j
-invariant-loop-j l = (l.j ≤ l.piece.relocs) × (l.i ≡ l.at + count_remaining_in l.relocs l.piece l.cursor l.j) × (l.joined ≡ over l.initial.joined (l.at * reloc_size) (bytes_of_all (remaining_in l.relocs l.piece l.cursor l.j)))
+invariant-loop-j l = (l.j ≤ l.placed.piece.relocs) × (l.i ≡ l.at + count_remaining_in l.relocs l.placed.piece l.placed.cursor l.j) × (l.joined ≡ over l.initial.joined (l.at * reloc_size) (bytes_of_all (remaining_in l.relocs l.placed.piece l.placed.cursor l.j)))

@@ -8,7 +8,7 @@ pub returns-then-is_filled : goal.returns-then-is_filled
 returns-then-is_filled c =
     let a = c.args in
     let filled = sym c.is_filled.ensures ∙ c.if-is_filled.true in
-    (omega (arith, no_not {A = ℕ} _ 1 0 filled), filled_left a.joined.now a.i a.piece a.cursor a.reloc filled)
+    (omega (arith, no_not {A = ℕ} _ 1 0 filled), filled_left a.joined.now a.i a.placed.piece a.placed.cursor a.reloc filled)
 
 pub put_reloc-requires : goal.put_reloc-requires
 put_reloc-requires c =
@@ -21,7 +21,7 @@ returns c =
     let remains = sym c.is_filled.ensures ∙ c.if-is_filled.false in (
       omega (arith, yes_not {A = ℕ} _ 1 0 remains),
       c.put_reloc.ensures
-          ∙ remaining_put a.joined.now a.i a.piece a.cursor a.reloc remains c.base.result c.moved_target-target.result
+          ∙ remaining_put a.joined.now a.i a.placed.piece a.placed.cursor a.reloc remains c.base.result c.moved_target-target.result
           c.base.ensures.0
           c.moved_target-target.ensures,
     )
