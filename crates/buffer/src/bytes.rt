@@ -21,13 +21,6 @@ pub fn is_alignment(n: u32) -> bool
     n != 0 && MOST_ALIGNMENT % n == 0
 }
 
-// OLD: `fill(0)` in its place.
-pub fn clear(part: &mut [u8])
-    ensures { part.new ≡ replicate (length part.old) 0 }
-{
-    part.fill(0);
-}
-
 // AArch64 is padded with zeros.
 pub fn pad(arch: u32, part: &mut [u8])
     ensures { part.new ≡ padding arch (length part.old) }

@@ -56,7 +56,7 @@ fn put_code(output: &mut [u8], code: &[u8], placed: PlacedPiece)
     let base = placed.base() as usize;
     let end = placed.cursor.end as usize;
     let from = placed.cursor.code;
-    buffer::bytes::clear(&mut output[end..base]);
+    output[end..base].fill(0);
     emit::copy_run(output, code, from, from + placed.piece.len as usize, base);
 }
 
