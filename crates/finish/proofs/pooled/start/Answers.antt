@@ -7,28 +7,42 @@ use Rattle.finish.proofs.RelaxedRequires.{clearing}
 use Rattle.finish.proofs.WithOrWithoutJump.{given, keepable, placed_unbound, started_refused, starts, placed_kept}
 use Rattle.finish.proofs.pooled.start.Goals as goal
 
+pub all_bound-requires : goal.all_bound-requires
+all_bound-requires c =
+    record { labels_within = c.requires.ready.room; namers_fit = c.requires.namers; none_open = c.requires.settled }
+
 pub returns-then-not-all_bound-clause-output_after : goal.returns-then-not-all_bound-clause-output_after
 returns-then-not-all_bound-clause-output_after c = λ placed e ss l.
-    placed_unbound c.requires.placeable c.all_bound.ensures c.if-not-all_bound.true (sym (ap outcome_of (given e))) ss
+    placed_unbound c.requires c.all_bound.ensures c.if-not-all_bound.true (sym (ap outcome_of (given e))) ss
+
+pub invariant_of-pool : goal.invariant_of-pool
+invariant_of-pool c =
+    record { fits = c.requires.ready.pool }
+
+pub moves-requires : goal.moves-requires
+moves-requires c =
+    omega (arith, c.requires.entered.recorded.room)
+
+pub end-end-requires : goal.end-end-requires
+end-end-requires c =
+    record { in_bound = omega (arith, c.requires.ready.bytes.limit) }
 
 pub why_not_laid-requires : goal.why_not_laid-requires
 why_not_laid-requires c =
-    let x = c.requires.placeable in
-    let counted = c.requires.counted in
-    rw counted (clearing x.ready _ _ _ (omega (arith, x.entered.referred.room)) x.namers.events_few (rw counted at c.end-end.ensures.0))
+    let x = c.requires in
+    clearing x.ready _ _ _ (omega (arith, x.entered.referred.room)) x.namers.events_few c.end-end.ensures.0
 
 pub unrelaxed-requires : goal.unrelaxed-requires
-unrelaxed-requires c =
-    rw c.requires.counted (keepable c.requires.placeable)
+unrelaxed-requires c = keepable c.requires
 
 pub returns-in-Ok-clause-starts : goal.returns-in-Ok-clause-starts
 returns-in-Ok-clause-starts c = λ e.
-    starts c.requires.placeable c.all_bound.ensures c.if-not-all_bound.false c.moves.ensures c.if-moves.true (rw c.requires.counted at c.in-Ok.ensures) refl
+    starts c.requires c.all_bound.ensures c.if-not-all_bound.false c.moves.ensures c.if-moves.true c.in-Ok.ensures refl
 
 pub returns-in-Err-clause-output_after : goal.returns-in-Err-clause-output_after
 returns-in-Err-clause-output_after c = λ placed e ss l.
-    started_refused c.requires.placeable c.all_bound.ensures c.if-not-all_bound.false c.moves.ensures c.if-moves.true (rw c.requires.counted at c.in-Err.ensures) (number_not_0 c.in-Err.why) (sym (ap outcome_of (given e))) ss l
+    started_refused c.requires c.all_bound.ensures c.if-not-all_bound.false c.moves.ensures c.if-moves.true c.in-Err.ensures (number_not_0 c.in-Err.why) (sym (ap outcome_of (given e))) ss l
 
 pub returns-clause-output_after : goal.returns-clause-output_after
 returns-clause-output_after c = λ placed e ss l.
-    placed_kept c.requires.placeable c.all_bound.ensures c.if-not-all_bound.false c.moves.ensures c.if-moves.false (λ es rs. rw (given e, c.requires.counted) at (c.unrelaxed.ensures es rs)) ss
+    placed_kept c.requires c.all_bound.ensures c.if-not-all_bound.false c.moves.ensures c.if-moves.false (λ es rs. rw (given e) at (c.unrelaxed.ensures es rs)) ss
