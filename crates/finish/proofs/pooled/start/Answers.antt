@@ -4,12 +4,8 @@ use native.Mathlib.Omega.{arith}
 use Rattle.refusals.proofs.Variants.{number_not_0}
 use Rattle.finish.specs.Finish.{outcome_of}
 use Rattle.finish.proofs.RelaxedRequires.{clearing}
-use Rattle.finish.proofs.WithOrWithoutJump.{given, keepable, placed_unbound, started_refused, starts, placed_kept}
+use Rattle.finish.proofs.WithOrWithoutJump.{given, placed_unbound, started_refused, starts, placed_kept}
 use Rattle.finish.proofs.pooled.start.Goals as goal
-
-pub all_bound-requires : goal.all_bound-requires
-all_bound-requires c =
-    record { labels_within = c.requires.ready.room; namers_fit = c.requires.namers; none_open = c.requires.settled }
 
 pub returns-then-not-all_bound-clause-output_after : goal.returns-then-not-all_bound-clause-output_after
 returns-then-not-all_bound-clause-output_after c = λ placed e ss l.
@@ -19,21 +15,10 @@ pub invariant_of-pool : goal.invariant_of-pool
 invariant_of-pool c =
     record { fits = c.requires.ready.pool }
 
-pub moves-requires : goal.moves-requires
-moves-requires c =
-    omega (arith, c.requires.entered.recorded.room)
-
-pub end-end-requires : goal.end-end-requires
-end-end-requires c =
-    record { in_bound = omega (arith, c.requires.ready.bytes.limit) }
-
 pub why_not_laid-requires : goal.why_not_laid-requires
 why_not_laid-requires c =
     let x = c.requires in
     clearing x.ready _ _ _ (omega (arith, x.entered.referred.room)) x.namers.events_few c.end-end.ensures.0
-
-pub unrelaxed-requires : goal.unrelaxed-requires
-unrelaxed-requires c = keepable c.requires
 
 pub returns-in-Ok-clause-starts : goal.returns-in-Ok-clause-starts
 returns-in-Ok-clause-starts c = λ e.
