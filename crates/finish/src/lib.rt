@@ -113,6 +113,7 @@ fn conclude(
 }
 
 // Finish up to a layout: 1 to 17, and without a jump all of it; none where a layout is to be made. `segments` is how many there is room for.
+// Not one Lent: the pool's labels are bound in between, so that the tables are lent on as they are before it and after it.
 fn begin(
     b: CodeBuffer,
     code: &[u8],
@@ -131,7 +132,7 @@ fn begin(
 {
     let recorded = Lent {
         code,
-        labels: &*labels,
+        labels,
         events,
         uses,
         refs,
@@ -153,7 +154,7 @@ fn begin(
     pool.bind(b.code, labels);
     let bound = Lent {
         code,
-        labels: &*labels,
+        labels,
         events,
         uses,
         refs,
@@ -166,7 +167,7 @@ fn begin(
 }
 
 // Finishes a recording: pools its constants, relaxes its jumps and writes its code to `output`. On success `labels` and `relocs` hold final offsets. The
-// tables are lent whole; `segments` has room for every alignment and jump, those of the pool included.
+// tables are lent whole, one by one as the C function lends them; `segments` has room for every alignment and jump, those of the pool included.
 pub fn finish(
     b: CodeBuffer,
     code: &[u8],

@@ -131,7 +131,7 @@ fn run(
     }
 }
 
-// What a sheet leaves: where the number of open entries was not kept, they are counted. Its tables are lent one by one, since it reads five of the eight.
+// What a sheet leaves: where the number of open entries was not kept, they are counted. Not one Lent: the only caller would make it for this call alone.
 fn counted(
     mut b: CodeBuffer,
     kept: bool,
@@ -153,7 +153,7 @@ fn counted(
     b
 }
 
-// Makes the calls of a sheet up to the first that is refused. All tables of the recording are lent.
+// Makes the calls of a sheet up to the first that is refused. All tables of the recording are lent, one by one as the C function lends them.
 pub fn run_sheet(
     b: CodeBuffer,
     sheet: &[u8],
@@ -188,14 +188,14 @@ pub fn run_sheet(
         };
     }
     let lent = Lent {
-        code: &*code,
-        labels: &*labels,
-        events: &*events,
-        uses: &*uses,
-        refs: &*refs,
-        constants: &*constants,
-        asked: &*asked,
-        relocs: &*relocs,
+        code,
+        labels,
+        events,
+        uses,
+        refs,
+        constants,
+        asked,
+        relocs,
     };
     if let Err(why) = lent.why_not_standing(b, 0, 0) {
         return Ran {
