@@ -3,6 +3,7 @@ use Rattle.std.specs.Prelude.{Bool, ◌&&◌, List, ℕ, ◌/◌, leb, length}
 use Rattle.buffer.specs.declared.CodeBuffer.{CodeBuffer}
 use Rattle.buffer.specs.Tables.{most_entries, most_code, label_size, use_size, ref_size, constant_size, asked_size, reloc_size}
 use Rattle.recording.specs.Calls.{Recording}
+use Rattle.checks.specs.declared.lent.Lent.{Lent}
 use Rattle.relax.specs.Events.{event_size}
 
 -- the recording that is lent: its counts and its tables
@@ -19,6 +20,10 @@ recording_of b code labels events uses refs constants asked relocs =
       asked = asked;
       relocs = relocs;
     }
+
+-- the recording whose tables are lent as one
+abbrev pub recorded_in : CodeBuffer → Lent → Recording
+recorded_in b l = recording_of b l.code.now l.labels.now l.events.now l.uses.now l.refs.now l.constants.now l.asked.now l.relocs.now
 
 -- "a count handed in passes what is lent": none does
 unfoldable pub counts_fit : Recording → Bool

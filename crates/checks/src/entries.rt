@@ -10,6 +10,7 @@ ghost use Rattle.checks.specs.Entries.{form_fits, event_fits, kept_only, events_
 ghost use Rattle.checks.specs.steps.Search.{Ordered};
 ghost use Rattle.checks.specs.steps.Handed.{few_marks, CountsFit, tables, Labelled, Marking, new_at, unlabelled, unlabelled_or};
 
+use crate::lent::Lent;
 use buffer::CodeBuffer;
 
 // Marks that cost a small recording next to nothing to clear.
@@ -343,24 +344,27 @@ pub fn order_fits(asked: &[u8], n: usize, constants: &[u8], known: u32, labels: 
 
 // Whether every entry of the tables is one that calls write.
 #[tactic(auto, unfolding(crate::specs::Entries::entries_fit))]
-pub fn entries_fit(
-    b: CodeBuffer,
-    labels: &[u8],
-    events: &[u8],
-    uses: &[u8],
-    refs: &[u8],
-    constants: &[u8],
-    asked: &[u8],
-    relocs: &[u8],
-) -> bool
-    requires { CountsFit b labels.now events.now uses.now refs.now constants.now asked.now relocs.now }
-    ensures { result ≡ entries_fit (tables b labels.now events.now uses.now refs.now constants.now asked.now relocs.now) }
+pub fn entries_fit(b: CodeBuffer, lent: &Lent) -> bool
+    requires { CountsFit b lent.now.labels.now lent.now.events.now lent.now.uses.now lent.now.refs.now lent.now.constants.now lent.now.asked.now lent.now.relocs.now }
+    ensures { result ≡ entries_fit (tables b lent.now.labels.now lent.now.events.now lent.now.uses.now lent.now.refs.now lent.now.constants.now lent.now.asked.now lent.now.relocs.now) }
 {
-    events_fit(b.arch, events, b.events as usize, b.labels, b.code)
-        && labels_fit(labels, b.labels as usize, events, b.events as usize, b.code)
-        && uses_fit(uses, b.uses as usize, b.arch, b.labels)
-        && refs_fit(refs, b.refs as usize, b.arch, b.labels)
-        && constants_fit(constants, b.constants as usize, b.labels)
-        && order_fits(asked, b.asked as usize, constants, b.constants, b.labels)
-        && relocs_fit(b, relocs)
+    events_fit(b.arch, lent.events, b.events as usize, b.labels, b.code)
+        && labels_fit(
+            lent.labels,
+            b.labels as usize,
+            lent.events,
+            b.events as usize,
+            b.code,
+        )
+        && uses_fit(lent.uses, b.uses as usize, b.arch, b.labels)
+        && refs_fit(lent.refs, b.refs as usize, b.arch, b.labels)
+        && constants_fit(lent.constants, b.constants as usize, b.labels)
+        && order_fits(
+            lent.asked,
+            b.asked as usize,
+            lent.constants,
+            b.constants,
+            b.labels,
+        )
+        && relocs_fit(b, lent.relocs)
 }

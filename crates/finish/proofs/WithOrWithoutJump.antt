@@ -30,7 +30,7 @@ use Rattle.checks.specs.steps.Fields.{refs_clear}
 use Rattle.finish.specs.Refusals.{all_bound, why_not_in_place}
 use Rattle.finish.specs.Finish.{Outcome, Left, refused_with, relaxed, unrelaxed}
 use Rattle.finish.specs.steps.Tables.{tables_pooled, laid_pooled}
-use Rattle.finish.specs.steps.Ready.{Relaxable, Keepable, kept, Placeable, pooled_of, placed_as, Starts}
+use Rattle.finish.specs.steps.Ready.{Relaxable, kept, Placeable, pooled_of, placed_as, Starts}
 use Rattle.finish.proofs.ScansAgree.{none_open, moves_is}
 use Rattle.finish.proofs.StageAnswers.{refused_early}
 
@@ -104,17 +104,6 @@ module _ {b : CodeBuffer} {code labels events uses refs constants asked relocs o
     few = x.namers.events_few;
     segments_limit = x.segments_limit;
     output_limit = x.output_limit;
-  }
-
-  pub keepable : Keepable code labels uses constants asked b.code b.labels b.uses b.asked
-  keepable = record {
-    bytes = x.ready.bytes;
-    pool = x.ready.pool;
-    named = x.ready.named;
-    stands = x.ready.stands;
-    room = x.ready.room;
-    used_room = omega (arith, x.entered.used.room);
-    known = λ i h. (x.entered.used.entry i h).label;
   }
 
   module _ {bound : Bool} (bound·answer : bound ≡ eqb (open_count b labels events uses refs relocs) 0) where

@@ -6,13 +6,14 @@ ghost use Rattle.std.specs.Prelude.{◌≡◌, List, length, Some, None, Ok};
 ghost use Rattle.refusals.specs.Answers.{answer_of};
 ghost use Rattle.relax.specs.declared.Segment.{Segment};
 ghost use Rattle.pool.specs.steps.Pool.{PoolLabels};
-ghost use Rattle.checks.specs.Lent.{recording_of};
+ghost use Rattle.checks.specs.Lent.{recording_of, recorded_in};
 ghost use Rattle.finish.specs.Refusals.{why_unfit};
 ghost use Rattle.finish.specs.declared.Finished as program;
 ghost use Rattle.finish.specs.Finish.{finished_with, outcome_of, finished_as, finish};
 ghost use Rattle.finish.specs.steps.Ready.{concluded, Begins};
 
 use buffer::CodeBuffer;
+use checks::lent::Lent;
 use layout::Summary;
 use pool::Pool;
 use refusals::Refusal;
@@ -43,36 +44,22 @@ pub struct Finished {
 }
 
 // 1 to 4 as every call, 1 for an entry that no recording writes and for a wrong number of open ones, 13 and 14.
-fn why_unfit(
-    b: CodeBuffer,
-    code: &[u8],
-    labels: &[u8],
-    events: &[u8],
-    uses: &[u8],
-    refs: &[u8],
-    constants: &[u8],
-    asked: &[u8],
-    relocs: &[u8],
-    segments: usize,
-    output: usize,
-) -> Result<(), Refusal>
-    ensures { answer_of result ≡ why_unfit (recording_of b code.now labels.now events.now uses.now refs.now constants.now asked.now relocs.now) segments output }
+fn why_unfit(b: CodeBuffer, lent: &Lent, segments: usize, output: usize) -> Result<(), Refusal>
+    ensures { answer_of result ≡ why_unfit (recorded_in b lent.now) segments output }
 {
-    checks::lent::why_not_standing(
-        b, code, labels, events, uses, refs, constants, asked, relocs, segments, output,
-    )?;
-    if !checks::entries::entries_fit(b, labels, events, uses, refs, constants, asked, relocs) {
+    lent.why_not_standing(b, segments, output)?;
+    if !checks::entries::entries_fit(b, lent) {
         return Err(Refusal::Malformed);
     }
-    if b.count_open(labels, events, uses, refs, relocs) != b.unresolved {
+    if b.count_open(lent.labels, lent.events, lent.uses, lent.refs, lent.relocs) != b.unresolved {
         return Err(Refusal::Malformed);
     }
     let pool = Pool {
-        constants,
-        asked,
+        constants: lent.constants,
+        asked: lent.asked,
         count: b.asked as usize,
     };
-    if pool.is_any_bound(labels) {
+    if pool.is_any_bound(lent.labels) {
         return Err(Refusal::PoolLabelBound);
     }
     if buffer::MOST_CODE < pool.end(b.code) as usize {
@@ -126,6 +113,7 @@ fn conclude(
 }
 
 // Finish up to a layout: 1 to 17, and without a jump all of it; none where a layout is to be made. `segments` is how many there is room for.
+// Not one Lent: the pool's labels are bound in between, so that the tables are lent on as they are before it and after it.
 fn begin(
     b: CodeBuffer,
     code: &[u8],
@@ -142,8 +130,7 @@ fn begin(
     ensures output_after { (f : program.Finished) → result ≡ Some f → (ss : List Segment) → length ss ≡ segments → (finished_as f, (labels.new, (relocs.now, (ss, output.new)))) ≡ finish (recording_of b code.now labels.old events.now uses.now refs.now constants.now asked.now relocs.now) ss output.old }
     ensures begins { result ≡ None → Begins (recording_of b code.now labels.old events.now uses.now refs.now constants.now asked.now relocs.now) labels.new output.old output.new segments }
 {
-    if let Err(why) = why_unfit(
-        b,
+    let recorded = Lent {
         code,
         labels,
         events,
@@ -152,9 +139,8 @@ fn begin(
         constants,
         asked,
         relocs,
-        segments,
-        output.len(),
-    ) {
+    };
+    if let Err(why) = why_unfit(b, &recorded, segments, output.len()) {
         return Some(Finished {
             buffer: b,
             answer: Err(why),
@@ -166,14 +152,22 @@ fn begin(
         count: b.asked as usize,
     };
     pool.bind(b.code, labels);
-    let placed = pooled::start(
-        b, code, labels, events, uses, refs, &pool, relocs, segments, output,
-    )?;
+    let bound = Lent {
+        code,
+        labels,
+        events,
+        uses,
+        refs,
+        constants,
+        asked,
+        relocs,
+    };
+    let placed = pooled::start(b, &bound, segments, output)?;
     Some(conclude(b, labels, &pool, placed))
 }
 
 // Finishes a recording: pools its constants, relaxes its jumps and writes its code to `output`. On success `labels` and `relocs` hold final offsets. The
-// tables are lent whole; `segments` has room for every alignment and jump, those of the pool included.
+// tables are lent whole, one by one as the C function lends them; `segments` has room for every alignment and jump, those of the pool included.
 pub fn finish(
     b: CodeBuffer,
     code: &[u8],

@@ -20,52 +20,45 @@ ghost use Rattle.finish.specs.steps.Tables.{tables_pooled, laid_pooled};
 ghost use Rattle.finish.specs.steps.Ready.{Clearing, end_of_runs, code_written, Writing, Layable, code_copied, Copying, Keepable, kept, Placeable, pooled_of, placed_as, Starts};
 
 use buffer::CodeBuffer;
+use checks::lent::Lent;
 use layout::{OffsetMap, Summary};
 use pool::Pool;
 use refusals::Refusal;
 use relax::Segment;
 
 // 15: whether every label that is named is bound. Where nothing was open before the constants were pooled, no table is looked at.
-fn all_bound(
-    b: CodeBuffer,
-    labels: &[u8],
-    events: &[u8],
-    uses: &[u8],
-    refs: &[u8],
-    relocs: &[u8],
-) -> bool
-    requires labels_within { b.labels * label_size ≤ length labels.now }
-    requires namers_fit { NamersFit b events.now uses.now refs.now relocs.now }
-    requires none_open { (b.unresolved ≡ 0 → open_count b labels.now events.now uses.now refs.now relocs.now ≡ 0) }
-    ensures { result ≡ eqb (open_count b labels.now events.now uses.now refs.now relocs.now) 0 }
+fn all_bound(b: CodeBuffer, lent: &Lent) -> bool
+    requires labels_within { b.labels * label_size ≤ length lent.now.labels.now }
+    requires namers_fit { NamersFit b lent.now.events.now lent.now.uses.now lent.now.refs.now lent.now.relocs.now }
+    requires none_open { (b.unresolved ≡ 0 → open_count b lent.now.labels.now lent.now.events.now lent.now.uses.now lent.now.refs.now lent.now.relocs.now ≡ 0) }
+    ensures { result ≡ eqb (open_count b lent.now.labels.now lent.now.events.now lent.now.uses.now lent.now.refs.now lent.now.relocs.now) 0 }
 {
-    b.unresolved == 0 || b.count_open(labels, events, uses, refs, relocs) == 0
+    b.unresolved == 0
+        || b.count_open(lent.labels, lent.events, lent.uses, lent.refs, lent.relocs) == 0
 }
 
 // 16: the table of segments is short; 17: a ref's field is not clear of the events.
 #[tactic(auto, using(seqs::proofs::Picking::picks))]
 fn why_not_laid(
     b: CodeBuffer,
-    labels: &[u8],
-    events: &[u8],
-    refs: &[u8],
+    lent: &Lent,
     pool: &Pool,
     segments: usize,
     end: u32,
 ) -> Result<(), Refusal>
-    requires { Clearing refs.now events.now labels.now pool.now.constants.now pool.now.asked.now b.refs b.events pool.now.count b.code end }
-    ensures { answer_of result ≡ first ((ltb segments (b.events + pool.now.count), refusals.too_few_segments) ∷ (not (refs_clear refs.now b.refs events.now b.events b.code pool.now.constants.now pool.now.asked.now pool.now.count), refusals.ref_overlaps) ∷ []) }
+    requires { Clearing lent.now.refs.now lent.now.events.now lent.now.labels.now pool.now.constants.now pool.now.asked.now b.refs b.events pool.now.count b.code end }
+    ensures { answer_of result ≡ first ((ltb segments (b.events + pool.now.count), refusals.too_few_segments) ∷ (not (refs_clear lent.now.refs.now b.refs lent.now.events.now b.events b.code pool.now.constants.now pool.now.asked.now pool.now.count), refusals.ref_overlaps) ∷ []) }
 {
     let recorded = b.events as usize;
     if segments < recorded + pool.count {
         return Err(Refusal::TooFewSegments);
     }
     if !checks::fields_fit::refs_clear(
-        refs,
+        lent.refs,
         b.refs as usize,
-        events,
+        lent.events,
         recorded,
-        labels,
+        lent.labels,
         pool,
         b.code,
         end,
@@ -271,18 +264,12 @@ pub(crate) fn relaxed(
 
 // 19 to 22: a use's field passes the code's end, or it can't reach; 23: the code exceeds the output.
 #[tactic(auto, using(refusals::proofs::Chains::chains, seqs::proofs::Picking::picks))]
-fn why_not_in_place(
-    b: CodeBuffer,
-    labels: &[u8],
-    uses: &[u8],
-    end: u32,
-    output: usize,
-) -> Result<(), Refusal>
-    requires uses_within { b.uses * use_size ≤ length uses.now }
-    requires named { Named (use_label uses.now) b.uses labels.now }
-    ensures { answer_of result ≡ or_else (why_uses uses.now labels.now end b.uses) (first ((ltb output end, refusals.output_too_small) ∷ [])) }
+fn why_not_in_place(b: CodeBuffer, lent: &Lent, end: u32, output: usize) -> Result<(), Refusal>
+    requires uses_within { b.uses * use_size ≤ length lent.now.uses.now }
+    requires named { Named (use_label lent.now.uses.now) b.uses lent.now.labels.now }
+    ensures { answer_of result ≡ or_else (why_uses lent.now.uses.now lent.now.labels.now end b.uses) (first ((ltb output end, refusals.output_too_small) ∷ [])) }
 {
-    checks::fields_fit::why_uses(uses, b.uses as usize, labels, end)?;
+    checks::fields_fit::why_uses(lent.uses, b.uses as usize, lent.labels, end)?;
     if output < end as usize {
         return Err(Refusal::OutputTooSmall);
     }
@@ -290,38 +277,24 @@ fn why_not_in_place(
 }
 
 // Writes the code as it is: the bytes, the pool, the uses, and the constants last.
-fn write_in_place(
-    b: CodeBuffer,
-    output: &mut [u8],
-    code: &[u8],
-    labels: &[u8],
-    uses: &[u8],
-    pool: &Pool,
-)
-    requires { Copying output.old code.now labels.now uses.now pool.now.constants.now pool.now.asked.now b.code b.uses pool.now.count }
-    ensures { output.new ≡ code_copied output.old code.now labels.now uses.now pool.now.constants.now pool.now.asked.now b.arch b.code b.uses pool.now.count }
+fn write_in_place(b: CodeBuffer, output: &mut [u8], lent: &Lent, pool: &Pool)
+    requires { Copying output.old lent.now.code.now lent.now.labels.now lent.now.uses.now pool.now.constants.now pool.now.asked.now b.code b.uses pool.now.count }
+    ensures { output.new ≡ code_copied output.old lent.now.code.now lent.now.labels.now lent.now.uses.now pool.now.constants.now pool.now.asked.now b.arch b.code b.uses pool.now.count }
 {
-    emit::copy_run(output, code, 0, b.code as usize, 0);
+    emit::copy_run(output, lent.code, 0, b.code as usize, 0);
     pool.emit(output, b.arch, b.code);
-    emit::patch_uses(output, uses, labels, b.uses as usize);
-    pool.write(output, labels);
+    emit::patch_uses(output, lent.uses, lent.labels, b.uses as usize);
+    pool.write(output, lent.labels);
 }
 
 // Without a jump.
-fn unrelaxed(
-    b: CodeBuffer,
-    code: &[u8],
-    labels: &[u8],
-    uses: &[u8],
-    pool: &Pool,
-    output: &mut [u8],
-) -> Result<Summary, Refusal>
-    requires { Keepable code.now labels.now uses.now pool.now.constants.now pool.now.asked.now b.code b.labels b.uses pool.now.count }
-    ensures { (es : List LayoutEvent) (rs : List tables.Ref) → (outcome_of result, output.new) ≡ kept (tables_pooled b.arch b.code (take b.code code.now) (tables.entries (word_at labels.now) b.labels) es (tables.entries (tables.use_at uses.now) b.uses) rs pool.now.constants.now pool.now.asked.now pool.now.count) output.old }
+fn unrelaxed(b: CodeBuffer, lent: &Lent, pool: &Pool, output: &mut [u8]) -> Result<Summary, Refusal>
+    requires { Keepable lent.now.code.now lent.now.labels.now lent.now.uses.now pool.now.constants.now pool.now.asked.now b.code b.labels b.uses pool.now.count }
+    ensures { (es : List LayoutEvent) (rs : List tables.Ref) → (outcome_of result, output.new) ≡ kept (tables_pooled b.arch b.code (take b.code lent.now.code.now) (tables.entries (word_at lent.now.labels.now) b.labels) es (tables.entries (tables.use_at lent.now.uses.now) b.uses) rs pool.now.constants.now pool.now.asked.now pool.now.count) output.old }
 {
     let end = pool.end(b.code);
-    why_not_in_place(b, labels, uses, end, output.len())?;
-    write_in_place(b, output, code, labels, uses, pool);
+    why_not_in_place(b, lent, end, output.len())?;
+    write_in_place(b, output, lent, pool);
     Ok(Summary {
         layouts: 0,
         len: end,
@@ -331,30 +304,28 @@ fn unrelaxed(
 // Once the entries are checked and the pool's labels are bound: 15, then 16 and 17 with a jump, and all without one; none where a layout is to be made.
 pub(crate) fn start(
     b: CodeBuffer,
-    code: &[u8],
-    labels: &[u8],
-    events: &[u8],
-    uses: &[u8],
-    refs: &[u8],
-    pool: &Pool,
-    relocs: &[u8],
+    lent: &Lent,
     segments: usize,
     output: &mut [u8],
 ) -> Option<Result<Summary, Refusal>>
-    requires counted { pool.now.count ≡ b.asked }
-    requires placeable { Placeable b code.now labels.now events.now uses.now refs.now pool.now.constants.now pool.now.asked.now relocs.now output.old segments }
-    ensures output_after { (placed : Result Summary Refusal) → result ≡ Some placed → (ss : List Segment) → length ss ≡ segments → (outcome_of placed, (labels.now, (relocs.now, (ss, output.new)))) ≡ placed_as (pooled_of b code.now labels.now events.now uses.now refs.now pool.now.constants.now pool.now.asked.now) b labels.now relocs.now ss output.old }
-    ensures starts { result ≡ None → Starts b code.now labels.now events.now uses.now refs.now pool.now.constants.now pool.now.asked.now relocs.now output.old output.new segments }
+    requires { Placeable b lent.now.code.now lent.now.labels.now lent.now.events.now lent.now.uses.now lent.now.refs.now lent.now.constants.now lent.now.asked.now lent.now.relocs.now output.old segments }
+    ensures output_after { (placed : Result Summary Refusal) → result ≡ Some placed → (ss : List Segment) → length ss ≡ segments → (outcome_of placed, (lent.now.labels.now, (lent.now.relocs.now, (ss, output.new)))) ≡ placed_as (pooled_of b lent.now.code.now lent.now.labels.now lent.now.events.now lent.now.uses.now lent.now.refs.now lent.now.constants.now lent.now.asked.now) b lent.now.labels.now lent.now.relocs.now ss output.old }
+    ensures starts { result ≡ None → Starts b lent.now.code.now lent.now.labels.now lent.now.events.now lent.now.uses.now lent.now.refs.now lent.now.constants.now lent.now.asked.now lent.now.relocs.now output.old output.new segments }
 {
-    if !all_bound(b, labels, events, uses, refs, relocs) {
+    if !all_bound(b, lent) {
         return Some(Err(Refusal::UnboundLabel));
     }
-    if checks::fields_fit::moves(events, b.events as usize) {
+    let pool = Pool {
+        constants: lent.constants,
+        asked: lent.asked,
+        count: b.asked as usize,
+    };
+    if checks::fields_fit::moves(lent.events, b.events as usize) {
         let end = pool.end(b.code);
-        return match why_not_laid(b, labels, events, refs, pool, segments, end) {
+        return match why_not_laid(b, lent, &pool, segments, end) {
             Ok(()) => None,
             Err(why) => Some(Err(why)),
         };
     }
-    Some(unrelaxed(b, code, labels, uses, pool, output))
+    Some(unrelaxed(b, lent, &pool, output))
 }

@@ -14,6 +14,7 @@ ghost use Rattle.sheet_form.specs.Form.{first_broken, argument_size};
 ghost use Rattle.sheet.specs.steps.Meant.{meant, Going};
 
 use buffer::CodeBuffer;
+use checks::lent::Lent;
 use refusals::Refusal;
 use sheet_form::bound::Bound;
 use sheet_form::kinds::{self, Kind};
@@ -43,23 +44,15 @@ fn has_many_binds(kinds: &[u8]) -> bool {
 
 // Whether the open entries may be counted once, after the sheet's calls: the number that is handed in is right. Kept from call to call, each bind would have
 // to look at the tables, which a sheet of few binds does.
-fn is_counted_after(
-    b: CodeBuffer,
-    kinds: &[u8],
-    labels: &[u8],
-    events: &[u8],
-    uses: &[u8],
-    refs: &[u8],
-    relocs: &[u8],
-) -> bool
-    requires namers_fit { NamersFit b events.now uses.now refs.now relocs.now }
-    requires labels_within { b.labels * label_size ≤ length labels.now }
-    ensures { result ≡ true → b.unresolved ≡ open_count b labels.now events.now uses.now refs.now relocs.now }
+fn is_counted_after(b: CodeBuffer, kinds: &[u8], lent: &Lent) -> bool
+    requires namers_fit { NamersFit b lent.now.events.now lent.now.uses.now lent.now.refs.now lent.now.relocs.now }
+    requires labels_within { b.labels * label_size ≤ length lent.now.labels.now }
+    ensures { result ≡ true → b.unresolved ≡ open_count b lent.now.labels.now lent.now.events.now lent.now.uses.now lent.now.refs.now lent.now.relocs.now }
 {
     if !has_many_binds(kinds) {
         return false;
     }
-    b.count_open(labels, events, uses, refs, relocs) == b.unresolved
+    b.count_open(lent.labels, lent.events, lent.uses, lent.refs, lent.relocs) == b.unresolved
 }
 
 // The recording from which the next call goes on: where the number of open entries is not kept, it is 0, and a bind then looks at no table.
@@ -138,7 +131,7 @@ fn run(
     }
 }
 
-// What a sheet leaves: where the number of open entries was not kept, they are counted.
+// What a sheet leaves: where the number of open entries was not kept, they are counted. Not one Lent: the only caller would make it for this call alone.
 fn counted(
     mut b: CodeBuffer,
     kept: bool,
@@ -160,7 +153,7 @@ fn counted(
     b
 }
 
-// Makes the calls of a sheet up to the first that is refused. All tables of the recording are lent.
+// Makes the calls of a sheet up to the first that is refused. All tables of the recording are lent, one by one as the C function lends them.
 pub fn run_sheet(
     b: CodeBuffer,
     sheet: &[u8],
@@ -194,17 +187,24 @@ pub fn run_sheet(
             index: broken as u32,
         };
     }
-    let stands = checks::lent::why_not_standing(
-        b, code, labels, events, uses, refs, constants, asked, relocs, 0, 0,
-    );
-    if let Err(why) = stands {
+    let lent = Lent {
+        code,
+        labels,
+        events,
+        uses,
+        refs,
+        constants,
+        asked,
+        relocs,
+    };
+    if let Err(why) = lent.why_not_standing(b, 0, 0) {
         return Ran {
             buffer: b,
             answer: Err(why),
             index: 0,
         };
     }
-    let kept = !is_counted_after(b, kinds, labels, events, uses, refs, relocs);
+    let kept = !is_counted_after(b, kinds, &lent);
     let ran = run(
         b, kept, kinds, arguments, code, labels, events, uses, refs, constants, asked, relocs,
     );

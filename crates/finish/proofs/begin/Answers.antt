@@ -24,7 +24,7 @@ bind-requires c =
 
 pub start-requires : goal.start-requires
 start-requires c =
-    record { counted = refl; placeable = rw c.bind.ensures (placeable _ _ _ (passed_unfit _ _ _ (sym c.in_default.ensures))) }
+    rw c.bind.ensures (placeable _ _ _ (passed_unfit _ _ _ (sym c.in_default.ensures)))
 
 pub returns-in_err-placed-clause-begins : goal.returns-in_err-placed-clause-begins
 returns-in_err-placed-clause-begins c = λ none.

@@ -1,5 +1,5 @@
 -- `run_sheet` meets its contract: where the number of open entries that was handed in is right, it may be counted at the end.
-use mathlib.Core.Path.{◌≡◌, sym, ap, ◌∙◌}
+use mathlib.Core.Path.{◌≡◌, refl, sym, ap, ◌∙◌}
 use mathlib.Core.Bool.{true}
 use mathlib.Core.List.{List}
 use Prim.Native.Nat.{◌+◌, ◌-◌, ◌*◌, ◌≤◌, ℕ}
@@ -15,7 +15,6 @@ use Rattle.sheet_form.proofs.Parts.{whole_length, kinds_part, arguments_part, pa
 use Rattle.sheet.specs.Run.{run_calls}
 use Rattle.sheet.proofs.Counting.{standing_fits, counted_meant, meant_first}
 use Rattle.sheet.proofs.Running.{sheet_cut, sheet_broken, sheet_not_standing, sheet_run, parts_run}
-use Rattle.std.proofs.Common.{rules}
 use Rattle.refusals.specs.Answers.{answer_of}
 use Rattle.refusals.proofs.Variants.{number_not_0}
 use Rattle.sheet.proofs.run_sheet.Goals as goal
@@ -57,28 +56,25 @@ pub returns-in-Err : goal.returns-in-Err
 returns-in-Err c =
     let broken : c.first_broken-broken.result ≡ first_broken (kinds_of c.args.sheet.now) (arguments_of c.args.sheet.now) = rw (kinds_part c.args.sheet.now _ c.word_at-n.ensures, arguments_part c.args.sheet.now _ c.word_at-n.ensures) at c.first_broken-broken.ensures in
     let unbroken : word_at c.args.sheet.now 0 ≤ c.first_broken-broken.result = omega (arith, c.if-broken-n.false, c.word_at-n.ensures) in
-    sheet_not_standing _ _ (sym c.is_whole.ensures ∙ c.if-not-is_whole.false) _ broken unbroken _ (rw c.in-Err.is at c.why_not_standing-stands.ensures) (number_not_0 _)
+    sheet_not_standing _ _ (sym c.is_whole.ensures ∙ c.if-not-is_whole.false) _ broken unbroken _ c.in-Err.ensures (number_not_0 _)
 
 pub is_counted_after-kept-requires : goal.is_counted_after-kept-requires
 is_counted_after-kept-requires c =
-    let stood : answer_of c.why_not_standing-stands.result ≡ 0 = search rules in
     let a = c.args in
     let r = recording_of a.b a.code.now a.labels.now a.events.now a.uses.now a.refs.now a.constants.now a.asked.now a.relocs.now in
-    let fits : Fitting r × (a.b.unresolved ≤ most_open) = standing_fits _ (sym c.why_not_standing-stands.ensures ∙ stood) in
+    let fits : Fitting r × (a.b.unresolved ≤ most_open) = standing_fits _ (sym c.in_default.ensures) in
     let f = fits.0 in
     record { namers_fit = f.namers; labels_within = f.labels }
 
 pub run-ran-requires : goal.run-ran-requires
 run-ran-requires c =
-    let stood : answer_of c.why_not_standing-stands.result ≡ 0 = search rules in
     let a = c.args in
     let r = recording_of a.b a.code.now a.labels.now a.events.now a.uses.now a.refs.now a.constants.now a.asked.now a.relocs.now in
-    let fits : Fitting r × (a.b.unresolved ≤ most_open) = standing_fits _ (sym c.why_not_standing-stands.ensures ∙ stood) in
+    let fits : Fitting r × (a.b.unresolved ≤ most_open) = standing_fits _ (sym c.in_default.ensures) in
     record { within = (parts_match _ (sym c.is_whole.ensures ∙ c.if-not-is_whole.false) _ c.word_at-n.ensures, kinds_few c.args.sheet.now c.word_at-n.result (omega arith)); formed = omega (arith, c.if-broken-n.false, c.first_broken-broken.ensures, length-take (4 + c.word_at-n.result - 4) (drop 4 c.args.sheet.now)); going = record { fitting = fits.0; few = λ no. fits.1 } }
 
 pub returns : goal.returns
 returns c =
-    let stood : answer_of c.why_not_standing-stands.result ≡ 0 = search rules in
     let broken : c.first_broken-broken.result ≡ first_broken (kinds_of c.args.sheet.now) (arguments_of c.args.sheet.now) = rw (kinds_part c.args.sheet.now _ c.word_at-n.ensures, arguments_part c.args.sheet.now _ c.word_at-n.ensures) at c.first_broken-broken.ensures in
     let unbroken : word_at c.args.sheet.now 0 ≤ c.first_broken-broken.result = omega (arith, c.if-broken-n.false, c.word_at-n.ensures) in
     rw c.counted.ensures
@@ -86,4 +82,4 @@ returns c =
     ∙ c.run-ran.ensures.relocs_after
     ∙ ap (run_calls _ 0) (meant_first _ _ c.is_counted_after-kept.ensures)
     ∙ parts_run c.args.sheet.now _ _ c.word_at-n.ensures
-    ∙ sheet_run _ _ (sym c.is_whole.ensures ∙ c.if-not-is_whole.false) _ broken unbroken _ c.why_not_standing-stands.ensures stood)
+    ∙ sheet_run _ _ (sym c.is_whole.ensures ∙ c.if-not-is_whole.false) _ broken unbroken _ c.in_default.ensures refl)
