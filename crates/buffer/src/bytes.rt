@@ -1,5 +1,5 @@
 // Bytes and padding: what appends to the code.
-ghost use Rattle.std.specs.Prelude.{◌≡◌, ◌+◌, ◌*◌, ◌<◌, ◌≤◌, length, replicate, true, IfOk};
+ghost use Rattle.std.specs.Prelude.{◌≡◌, ◌+◌, ◌*◌, ◌<◌, ◌≤◌, length, true, IfOk};
 ghost use Rattle.refusals.specs.Answers.{answer_of};
 ghost use Rattle.buffer.specs.State.{keeps_events, recorded};
 ghost use Rattle.buffer.specs.Refusals.{why_bytes, is_alignment, why_align};
