@@ -61,6 +61,7 @@ impl CodeBuffer {
         requires { (self.labels * label_size ≤ length labels.now) × (self.events * event_size ≤ length events.now) × Told labels.now self.labels self.code nearest }
         ensures { result ≡ jump_unfit self labels.now events.now start len cc }
     {
+        // Returns and no chain of tests, since the proof of the last rests on the first two.
         if is_malformed(self.code, start, len, cc) {
             return true;
         }

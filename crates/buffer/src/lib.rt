@@ -19,7 +19,7 @@ pub mod uses;
 
 use refusals::Refusal;
 
-// The offset of a label that is not bound, the label of a constant that has none, and what a refused call for either gives.
+// The offset of a label that is not bound, and the label of a constant that has none: words of tables that C lends, and so no Option.
 pub const NONE: u32 = naming::UNBOUND;
 
 // The limits: entries of a table, bytes of code, the last offset in it, bytes of a constant, the largest alignment.

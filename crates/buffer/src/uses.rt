@@ -25,8 +25,7 @@ pub fn is_foreign(code: u32, arch: u32) -> bool
     }
 }
 
-// Rows of words stay word by word, here and at the other tables: one function for any row would be a loop over an array, called by these same three,
-// whose clauses say what each word is.
+// Rows of words are written word by word, here and at the other tables: their clauses say what each word is.
 fn put_use(uses: &mut [u8], i: usize, offset: u32, label: u32, code: u32)
     requires { i * use_size + use_size ≤ length uses.old }
     ensures { uses.new ≡ set_word (set_word (set_word uses.old (i * use_words) offset) (i * use_words + 1) label) (i * use_words + 2) code }

@@ -54,7 +54,7 @@ impl<'a> Lent<'a> {
             && output <= buffer::MOST_CODE
     }
 
-    // What every call that is lent a whole recording looks at first: 0, 1, the recorded refusal, 3 or 4.
+    // What every call that is lent a whole recording looks at first: 1, the recorded refusal, 3 or 4.
     pub fn why_not_standing(
         &self,
         b: CodeBuffer,

@@ -159,7 +159,7 @@ fn rela_of(arch: u32, labels: &[u8], section: u32, relocs: &[u8], i: usize) -> R
         offset: words::word_at(relocs, k),
         elf_type: types::elf_type(arch, words::word_at(relocs, k + 1)),
         symbol: symbol_of(target, section),
-        addend: std::num::wrapping_add_u64(addend, offset as u64),
+        addend: addend.wrapping_add(u64::from(offset)),
     }
 }
 

@@ -279,8 +279,9 @@ pub fn patch_refs(output: &mut [u8], refs: &[u8], labels: &[u8], offsets: &Offse
 fn distance(at: u32, label: u32, addend: u32) -> u64
     ensures { result ≡ minus (plus label (sign_extend 32 addend)) at }
 {
-    let target = std::num::wrapping_add_u64(label as u64, fields::sign_extend_32(addend));
-    std::num::wrapping_sub_u64(target, at as u64)
+    u64::from(label)
+        .wrapping_add(fields::sign_extend_32(addend))
+        .wrapping_sub(u64::from(at))
 }
 
 // Whether ref `i` does, its field at `at` and its label at `label`.
@@ -310,7 +311,7 @@ pub fn refs_reach(refs: &[u8], labels: &[u8], offsets: &OffsetMap, count: usize)
 
 // The field of an event's displacement: the label that the event names, the field's kind, and where in the event it stands.
 #[derive(Clone, Copy)]
-pub struct Displacement {
+struct Displacement {
     pub label: u32,
     pub kind: LabelUse,
     pub place: u32,

@@ -89,12 +89,10 @@ fn relocs_hold<F: Fn(PlacedPiece, AsmReloc) -> bool>(
     requires callable { Callable (F.pre test.now) }
     ensures { (asked : Test) (known : ℕ → ℕ) → Asks (F.post test.now) asked known → result ≡ relocs_hold asked known relocs.now placed.piece placed.cursor placed.piece.relocs }
 {
-    for j in 0..placed.piece.relocs as usize {
-        if !test(placed, reloc_at(relocs, placed.cursor.relocs + j)) {
-            return false;
-        }
-    }
-    true
+    (0..placed.piece.relocs as usize).all(|j| test(
+        placed,
+        reloc_at(relocs, placed.cursor.relocs + j),
+    ))
 }
 
 // Whether it holds of every relocation of the `n` pieces.

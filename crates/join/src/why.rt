@@ -161,7 +161,6 @@ fn no_field(
 
 // 23.
 fn no_output(
-    table: &[u64],
     pieces: &[u8],
     code: &[u8],
     labels: &[u8],
@@ -169,8 +168,7 @@ fn no_output(
     definitions: &[u8],
     output: usize,
 ) -> Result<(), Refusal>
-    requires fits { why_unfit (lent_of pieces.now code.now labels.now relocs.now definitions.now) ≡ 0 }
-    requires settled { Settled table.now pieces.now labels.now definitions.now (piece_count pieces.now) }
+    requires { why_unfit (lent_of pieces.now code.now labels.now relocs.now definitions.now) ≡ 0 }
     ensures { answer_of result ≡ why_no_output (lent_of pieces.now code.now labels.now relocs.now definitions.now) output }
 {
     let n = pieces.len() / PIECE_SIZE;
@@ -214,7 +212,7 @@ fn no_room(
         joined_relocs,
     )?;
     no_field(table, pieces, code, labels, relocs, definitions)?;
-    no_output(table, pieces, code, labels, relocs, definitions, output)
+    no_output(pieces, code, labels, relocs, definitions, output)
 }
 
 // All of them. Where there is none, the table is settled.

@@ -1,6 +1,6 @@
 // A coarse index into rising offsets, so that a search by halving starts from a few of them in the place of all. Offsets are told apart by their high
 // bits: a part is what lies between two multiples of 2 ^ shift, and the index has for each part how many offsets lie before it. It takes one pass to fill.
-// The offsets stand in tables of several forms, so that a user's own loop hands them to `mark`, in order, and then closes the index.
+// A user's own loop hands the offsets to `mark`, in order, and then closes the index.
 #![tactic(auto)]
 
 ghost use Rattle.std.specs.Prelude.{◌≡◌, ℕ, true, ◌+◌, ◌/◌, ◌^◌, ◌≤◌, ◌<◌, length, get_or};

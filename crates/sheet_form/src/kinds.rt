@@ -44,7 +44,7 @@ impl TryFrom<u8> for Kind {
     }
 }
 
-// The kind that a byte stands for which a call has whose form is sound.
+// The kind of a call whose form is sound, from its byte.
 pub fn of_byte(byte: u8) -> Kind
     requires { (leb bytes_call byte && leb byte relocation_call) ≡ true }
     ensures { code_of result ≡ byte }

@@ -123,7 +123,7 @@ pub fn print_number(n: u64) {
 }
 
 // Whether the two halves of `pair`, what was made and what is stored, hold the same bytes.
-pub fn halves_agree(pair: &[u8]) -> bool {
+fn halves_agree(pair: &[u8]) -> bool {
     let (made, stored) = pair.split_at(pair.len() / 2);
     made == stored
 }
