@@ -110,6 +110,7 @@ impl CodeBuffer {
 
     // What an alignment does to the tables; the answer is how many bytes it spends there. This is a function of its own, and hands back no counts, so
     // that the loop over a sheet's calls keeps these in registers: with all of an alignment in one function a sheet takes a quarter longer.
+    #[inline(never)]
     fn align_tables(
         self,
         code: &mut [u8],
