@@ -1,12 +1,9 @@
 -- Whether events make finish lay out, list by list.
 use mathlib.Core.Path.{◌≡◌, refl, ◌∙◌, ap}
-use mathlib.Core.Logic.{⊎_elim}
 use mathlib.Core.Bool.{Bool, true, false, ◌||◌}
 use mathlib.Core.List.{List, [], ◌∷◌, ◌++◌}
-use Prim.Native.Nat.{ℕ, zero, suc, ◌+◌, ◌<◌}
-use native.Mathlib.Numerals.{add-one}
+use Prim.Native.Nat.{ℕ, zero, suc, ◌<◌}
 use native.Mathlib.Omega.{arith}
-use Rattle.seqs.proofs.Numbers.{eq_or_ne}
 use Rattle.relax.specs.declared.LayoutEvent.{LayoutEvent}
 use Rattle.recording.specs.View.{entries}
 use Rattle.fresh.specs.Forms.{is_moving, moves}
@@ -33,20 +30,8 @@ module _ (f : ℕ → LayoutEvent) where
   unfolding moves
   moves_more i = moves_append (entries f i) (f i ∷ []) ∙ ap (λ (t : Bool). moves (entries f i) || t) (or_none (is_moving (f i)))
 
-  -- the events so far leave it as it is
-  pub still_more : (i : ℕ) → moves (entries f i) ≡ false → is_moving (f i) ≡ false → moves (entries f (i + 1)) ≡ false
-  still_more i h e = rw (add-one i) (moves_more i ∙ rw (h, e))
-
+  -- the events leave it as it is
   pub still_all : (n : ℕ) → ((i : ℕ) → i < n → is_moving (f i) ≡ false) → moves (entries f n) ≡ false
   unfolding moves
   still_all zero h = refl
   still_all (suc n) h = moves_more n ∙ rw (still_all n (λ i l. h i (omega arith)), h n (omega arith))
-
-  -- one of them does not
-  pub moved_by : (n i : ℕ) → i < n → is_moving (f i) ≡ true → moves (entries f n) ≡ true
-  moved_by zero i h e = absurd (omega arith)
-  moved_by (suc n) i h e =
-      ⊎_elim
-      (λ (same : i ≡ n). moves_more n ∙ rw (← same, e) (or_one (moves (entries f i))))
-      (λ other. moves_more n ∙ rw (moved_by n i (omega arith) e))
-      (eq_or_ne i n)

@@ -12,6 +12,6 @@ unfoldable pub greatest_below : List ℕ → ℕ → ℕ → ℕ
 greatest_below labels zero limit = 0
 greatest_below labels (suc n) limit = max (under (word_at labels n) limit) (greatest_below labels n limit)
 
--- what is told is nothing, or the number of the labels below the current offset
+-- what is told is nothing, or the greatest offset of a label below the current one
 pub record Told (labels : List ℕ) (n code : ℕ) (nearest : Option ℕ) : Type 0 where
   pub right : (at : ℕ) → nearest ≡ Some at → at ≡ greatest_below labels n code
