@@ -54,7 +54,7 @@ impl CodeBuffer {
         }
         let at = self.code as usize;
         let end = at + bytes.len();
-        code[at..end].copy_from_slice(bytes);
+        seqs::copy(bytes, &mut code[at..end]);
         self.code = end as u32;
         Recorded {
             buffer: self,

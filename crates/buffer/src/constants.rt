@@ -22,7 +22,7 @@ fn put_constant(constants: &mut [u8], i: usize, bytes: &[u8])
     words::put_word(constants, i * CONSTANT_WORDS + 1, NONE);
     let at = i * CONSTANT_SIZE + CONSTANT_HEAD;
     let end = at + bytes.len();
-    constants[at..end].copy_from_slice(bytes);
+    seqs::copy(bytes, &mut constants[at..end]);
 }
 
 impl CodeBuffer {

@@ -23,7 +23,8 @@ fn push_nop(pad: &mut [u8], row: &[u8; 9])
     requires { (length pad.old ≤ 9) × (take (length pad.old) row.now ≡ form (length pad.old)) }
     ensures { pad.new ≡ form (length pad.old) }
 {
-    pad.copy_from_slice(&row[..pad.len()]);
+    let n = pad.len();
+    seqs::copy(&row[..n], pad);
 }
 
 // Fills `pad` with NOPs, longest first. The table is built once, and the longest form's row taken from it once: long padding takes 5% longer without. In the

@@ -12,7 +12,7 @@ use lib.ListN.{length, get_or, take, drop, replicate, length-append, length-take
 use Rattle.seqs.specs.Every.{all}
 use Rattle.seqs.specs.Over.{over}
 use Rattle.seqs.proofs.Numbers.{eq_or_ne, lt_or_ge}
-use Rattle.seqs.proofs.Overwrites.{length_over, over_append, over_mid}
+use Rattle.seqs.proofs.Overwrites.{length_over, over_append, over_mid, over_all}
 use Rattle.words.specs.Words.{word_at, set_word, bytes_of}
 use Rattle.words.proofs.Laws.{length_set_word, word_at_same, word_at_other}
 use Rattle.encoder.specs.Padding.{padding_length}
@@ -194,7 +194,7 @@ module _ {labels constants asked : List ℕ} {j size label offset number : ℕ} 
 
   pub written_turn : (output : List ℕ) {now part : List ℕ} → now ≡ pool_written output labels constants asked j
       → number * constant_size + constant_head + size ≤ length constants → offset + size ≤ length now
-      → let a = number * constant_size + constant_head in let k = a + size - a in let m = offset + size - offset in part ≡ take k (drop a constants)
+      → let a = number * constant_size + constant_head in let k = a + size - a in let m = offset + size - offset in part ≡ over (take m (drop offset now)) 0 (take k (drop a constants))
       → take offset now ++ (part ++ drop m (drop offset now)) ≡ pool_written output labels constants asked (j + 1)
   unfolding pool_written
   written_turn output {now} {part} e ha hb f =
@@ -202,7 +202,8 @@ module _ {labels constants asked : List ℕ} {j size label offset number : ℕ} 
       let k : a + size - a ≡ size = omega arith in
       let m : offset + size - offset ≡ size = omega arith in
       let bytes = take size (drop a constants) in
-      let whole : part ≡ bytes = rw k at f in
+      let whole : part ≡ bytes =
+      (rw (k, m) at f) ∙ over_all (take size (drop offset now)) bytes (part_length constants a size ha ∙ sym (part_length now offset size hb)) in
       rw (m, whole) (over_mid now offset size bytes (part_length constants a size ha) hb ∙ rw (t.placed, t.numbered, t.sized, t.labelled, e, add-one j))
 
 -- the length stays

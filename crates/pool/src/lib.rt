@@ -133,7 +133,10 @@ impl<'a> Pool<'a> {
             let offset = words::word_at(labels, label) as usize;
             let from = words::word_at(self.asked, j) as usize * buffer::CONSTANT_SIZE
                 + buffer::CONSTANT_HEAD;
-            output[offset..offset + size].copy_from_slice(&self.constants[from..from + size]);
+            seqs::copy(
+                &self.constants[from..from + size],
+                &mut output[offset..offset + size],
+            );
         }
     }
 }

@@ -5,12 +5,15 @@ ghost use Rattle.std.specs.Prelude.{◌≡◌, ℕ, ◌<◌};
 ghost use Rattle.seqs.specs.Counting.{Counts};
 ghost use Rattle.seqs.specs.Over.{over};
 
-// Copies `src` over the first bytes of `dst`, as many as both have.
+// Copies `src` over the first bytes of `dst`, as many as both have. A loop, since the slice's own method calls `memmove`: dear for a few bytes, and one more
+// name that the archive would need.
 pub fn copy(src: &[u8], dst: &mut [u8])
     ensures { dst.new ≡ over dst.old 0 src.now }
 {
     let n = src.len().min(dst.len());
-    dst[..n].copy_from_slice(&src[..n]);
+    for at in 0..n {
+        dst[at] = src[at];
+    }
 }
 
 // How many of the numbers below `n` have a property. A sum without an exit, so that it compiles to few instructions a number.

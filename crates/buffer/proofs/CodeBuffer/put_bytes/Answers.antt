@@ -11,8 +11,8 @@ unfolding put_bytes
 returns-in-Err c =
     rw (c.turn_down.ensures, c.in-Err.ensures) (sym (down _ _ c.in-Err.why c.in-Err.ensures))
 
-pub slice_bounds-copy_from_slice-end : goal.slice_bounds-copy_from_slice-end
-slice_bounds-copy_from_slice-end c =
+pub slice_bounds-copy-end : goal.slice_bounds-copy-end
+slice_bounds-copy-end c =
     omega (arith, bytes_accepted (sym c.in_default.ensures))
 
 pub overflow_cast-self : goal.overflow_cast-self
@@ -24,4 +24,4 @@ unfolding put_bytes
 returns c =
     let fits = bytes_accepted (sym c.in_default.ensures) in
     let copied = part_copied c.args.code.now c.args.bytes.now c.args.self.code (omega arith) in
-    rw (c.copy_from_slice.ensures.after, copied) (sym (past _ _ c.in_default.ensures))
+    rw (c.copy.ensures, copied) (sym (past _ _ c.in_default.ensures))

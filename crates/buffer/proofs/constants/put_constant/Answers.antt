@@ -7,4 +7,4 @@ use Rattle.buffer.proofs.constants.put_constant.Goals as goal
 
 pub returns : goal.returns
 returns c =
-    rw (c.copy_from_slice.ensures.after, ← c.put_word.ensures, ← c.put_word-2.ensures) (part_copied c.put_word-2.new.bytes c.args.bytes.now (c.args.i * constant_size + constant_head) (omega arith))
+    rw (c.copy.ensures, ← c.put_word.ensures, ← c.put_word-2.ensures) (part_copied c.put_word-2.new.bytes c.args.bytes.now (c.args.i * constant_size + constant_head) (omega arith))

@@ -15,5 +15,5 @@ loop-j-preserved c =
     let more = c.loop-j-test.true in
     let turn = turned in
     let room = room_turn turn c.requires.pool_room more in
-    let written = written_turn turn c.args.output.now c.loop-j.invariant.2 (from_turn turn c.args.self.now.fits more) (omega arith) c.copy_from_slice.ensures.after in
+    let written = written_turn turn c.args.output.now c.loop-j.invariant.2 (from_turn turn c.args.self.now.fits more) (omega arith) c.copy.ensures in
     (omega arith, rw written (length_pool_written _ _ _ _ _), written)
