@@ -42,7 +42,7 @@ impl CodeBuffer {
     }
 
     // A new constant, without a label.
-    pub fn add_constant(mut self, constants: &mut [u8], bytes: &[u8]) -> Made
+    pub fn add_constant(self, constants: &mut [u8], bytes: &[u8]) -> Made
         ensures { (made_of result, constants.new) ≡ add_constant self constants.old bytes.now }
     {
         if let Err(why) = self.why_no_constant(constants.len() / CONSTANT_SIZE, bytes.len()) {
@@ -50,9 +50,12 @@ impl CodeBuffer {
         }
         let n = self.constants;
         put_constant(constants, n as usize, bytes);
-        self.constants = n + 1;
+        // Field by field: copied in pairs, of which other calls make other ones, the counts would lie in memory while a sheet runs.
         Made {
-            buffer: self,
+            buffer: CodeBuffer {
+                constants: n + 1,
+                ..self
+            },
             answer: Ok(n),
         }
     }

@@ -94,7 +94,9 @@ impl CodeBuffer {
         Ok(())
     }
 
-    // A relocation at `offset`; the addend is a 64-bit two's complement word.
+    // A relocation at `offset`; the addend is a 64-bit two's complement word. It is taken into its callers: it would be handed the counts in memory, and the
+    // loop over a sheet's calls would store and load them for every call.
+    #[inline(always)]
     pub fn add_reloc_at_offset(
         mut self,
         labels: &[u8],

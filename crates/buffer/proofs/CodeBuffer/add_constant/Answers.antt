@@ -14,8 +14,8 @@ pub put_constant-requires : goal.put_constant-requires
 put_constant-requires c =
     omega (arith, constant_accepted (sym c.in_default.ensures))
 
-pub overflow_add-self : goal.overflow_add-self
-overflow_add-self c =
+pub overflow_add-result : goal.overflow_add-result
+overflow_add-result c =
     omega (arith, constant_accepted (sym c.in_default.ensures))
 
 pub returns : goal.returns
