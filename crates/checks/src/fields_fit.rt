@@ -77,7 +77,15 @@ fn ref_clear(
     let to = from + size_of(kind);
     to <= len as u64
         && crate::search::clear_of_events(events, n, from, to)
-        && crate::search::clear_of_pool(labels, pool, code, from, to)
+        && crate::search::clear_of_pool(
+            labels,
+            pool.constants,
+            pool.asked,
+            code,
+            pool.count,
+            from,
+            to,
+        )
 }
 
 pub fn refs_clear(

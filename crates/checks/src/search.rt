@@ -4,14 +4,12 @@ ghost use Rattle.std.specs.Prelude.{◌≡◌, ◌+◌, ◌*◌, ◌≤◌, ◌<
 ghost use Rattle.recording.specs.Sound.{start_at, end_at};
 ghost use Rattle.words.specs.Words.{word_at};
 ghost use Rattle.relax.specs.Events.{event_size};
-ghost use Rattle.buffer.specs.Tables.{label_size};
+ghost use Rattle.buffer.specs.Tables.{label_size, constant_size, asked_size};
 ghost use Rattle.pool.specs.steps.Pool.{label_at, pool_start};
 ghost use Rattle.lookup.specs.steps.Index.{index_size, most_keys, Indexed};
 ghost use Rattle.checks.specs.Entries.{outside};
 ghost use Rattle.checks.specs.steps.Fields.{clear_of_events, clear_of_pool};
 ghost use Rattle.checks.specs.steps.Search.{Ordered, Before, Halved, Placed};
-
-use pool::Pool;
 
 fn start_at(events: &[u8], j: usize) -> u64
     requires { j * event_size + event_size ≤ length events.now }
@@ -86,42 +84,59 @@ pub fn is_outside(events: &[u8], n: usize, index: &[u32], shift: u32, offset: u3
 }
 
 // Where constant `j` of the pool stands, as its label says.
-fn offset_at(labels: &[u8], pool: &Pool, j: usize) -> u32
-    requires { (j < pool.now.count) × (label_at pool.now.constants.now pool.now.asked.now j * label_size + label_size ≤ length labels.now) }
-    ensures { result ≡ word_at labels.now (label_at pool.now.constants.now pool.now.asked.now j) }
+fn offset_at(labels: &[u8], constants: &[u8], asked: &[u8], j: usize) -> u32
+    requires { (j * asked_size + asked_size ≤ length asked.now) × (word_at asked.now j * constant_size + constant_size ≤ length constants.now) × (label_at constants.now asked.now j * label_size + label_size ≤ length labels.now) }
+    ensures { result ≡ word_at labels.now (label_at constants.now asked.now j) }
 {
-    let label = pool.label_at(j) as usize;
+    let label = pool::label_at(constants, asked, j) as usize;
     words::word_at(labels, label)
 }
 
 // Where its alignment starts: at the end of the constant before it, the first at the end of the code.
-fn alignment_at(labels: &[u8], pool: &Pool, code: u32, j: usize) -> u64
-    requires within { j ≤ pool.now.count }
-    requires placed { Placed labels.now pool.now.constants.now pool.now.asked.now code j }
-    ensures { result ≡ pool_start code pool.now.constants.now pool.now.asked.now j }
+fn alignment_at(labels: &[u8], constants: &[u8], asked: &[u8], code: u32, j: usize) -> u64
+    requires { Placed labels.now constants.now asked.now code j }
+    ensures { result ≡ pool_start code constants.now asked.now j }
 {
     if j == 0 {
         return code as u64;
     }
     let last = j - 1;
-    let offset = offset_at(labels, pool, last);
-    let size = pool.size_at(last);
+    let offset = offset_at(labels, constants, asked, last);
+    let size = pool::size_at(constants, asked, last);
     offset as u64 + size as u64
 }
 
-// How many of the pool's alignments start before `to`.
-fn alignments_before(labels: &[u8], pool: &Pool, code: u32, to: u64) -> usize
-    requires { Placed labels.now pool.now.constants.now pool.now.asked.now code pool.now.count }
-    ensures { Before (pool_start code pool.now.constants.now pool.now.asked.now) pool.now.count to result }
+// How many of the alignments of the first `n` constants start before `to`.
+fn alignments_before(
+    labels: &[u8],
+    constants: &[u8],
+    asked: &[u8],
+    code: u32,
+    n: usize,
+    to: u64,
+) -> usize
+    requires { Placed labels.now constants.now asked.now code n }
+    ensures { Before (pool_start code constants.now asked.now) n to result }
 {
-    lookup::partition_point(0, pool.count, |j| alignment_at(labels, pool, code, j) < to)
+    lookup::partition_point(0, n, |j| {
+        alignment_at(labels, constants, asked, code, j) < to
+    })
 }
 
-// Whether none of the pool's alignments overlaps what lies between two offsets.
-pub fn clear_of_pool(labels: &[u8], pool: &Pool, code: u32, from: u64, to: u64) -> bool
-    requires { Placed labels.now pool.now.constants.now pool.now.asked.now code pool.now.count }
-    ensures { result ≡ clear_of_pool code pool.now.constants.now pool.now.asked.now pool.now.count from to }
+// Whether none of the alignments of the first `n` constants overlaps what lies between two offsets. Asked of the tables and no `Pool`, since it holds of
+// constants of any size.
+pub fn clear_of_pool(
+    labels: &[u8],
+    constants: &[u8],
+    asked: &[u8],
+    code: u32,
+    n: usize,
+    from: u64,
+    to: u64,
+) -> bool
+    requires { Placed labels.now constants.now asked.now code n }
+    ensures { result ≡ clear_of_pool code constants.now asked.now n from to }
 {
-    let k = alignments_before(labels, pool, code, to);
-    k == 0 || offset_at(labels, pool, k - 1) as u64 <= from
+    let k = alignments_before(labels, constants, asked, code, n, to);
+    k == 0 || offset_at(labels, constants, asked, k - 1) as u64 <= from
 }

@@ -4,6 +4,8 @@
 
 ghost use Rattle.std.specs.Prelude.{◌≡◌, ◌+◌, ◌*◌, ◌≤◌, ◌<◌, length};
 ghost use Rattle.seqs.specs.Over.{over};
+ghost use Rattle.words.specs.Words.{word_at};
+ghost use Rattle.buffer.specs.Tables.{constant_size, asked_size};
 ghost use Rattle.fresh.specs.Pooled.{constant_alignment};
 ghost use Rattle.pool.specs.steps.Pool.{size_at, label_at, pool_start, pool_bytes, pool_bound, pool_unbound, pool_written, is_any_bound, PoolFits, PoolLabels, PoolRoom, pool_alignment, most_pooled, offset_bound};
 
@@ -16,6 +18,23 @@ pub fn constant_alignment(size: u32) -> u32
         9..=32 => 16,
         _ => 64,
     }
+}
+
+// Of entry `j` of `asked`, the constant's size and its label, whatever the other entries say.
+pub fn size_at(constants: &[u8], asked: &[u8], j: usize) -> u32
+    requires { (j * asked_size + asked_size ≤ length asked.now) × (word_at asked.now j * constant_size + constant_size ≤ length constants.now) }
+    ensures { result ≡ size_at constants.now asked.now j }
+{
+    let n = words::word_at(asked, j) as usize;
+    words::word_at(constants, n * buffer::CONSTANT_WORDS)
+}
+
+pub fn label_at(constants: &[u8], asked: &[u8], j: usize) -> u32
+    requires { (j * asked_size + asked_size ≤ length asked.now) × (word_at asked.now j * constant_size + constant_size ≤ length constants.now) }
+    ensures { result ≡ label_at constants.now asked.now j }
+{
+    let n = words::word_at(asked, j) as usize;
+    words::word_at(constants, n * buffer::CONSTANT_WORDS + 1)
 }
 
 // The constants that were asked for: `asked` lists `count` of them, each with an entry among `constants`.
@@ -32,16 +51,14 @@ impl<'a> Pool<'a> {
         requires { j < self.now.count }
         ensures { result ≡ size_at self.now.constants.now self.now.asked.now j }
     {
-        let n = words::word_at(self.asked, j) as usize;
-        words::word_at(self.constants, n * buffer::CONSTANT_WORDS)
+        size_at(self.constants, self.asked, j)
     }
 
     pub fn label_at(&self, j: usize) -> u32
         requires { j < self.now.count }
         ensures { result ≡ label_at self.now.constants.now self.now.asked.now j }
     {
-        let n = words::word_at(self.asked, j) as usize;
-        words::word_at(self.constants, n * buffer::CONSTANT_WORDS + 1)
+        label_at(self.constants, self.asked, j)
     }
 
     // Where the pool ends, if it starts at `from`.

@@ -10,8 +10,16 @@ returns-then-j-eq0 c = rw c.if-j-eq0.true (sym (pool_first _ _ _))
 
 pub offset_at-offset-requires : goal.offset_at-offset-requires
 offset_at-offset-requires c =
-    (omega (arith, c.requires.within), c.requires.placed.known (c.args.j - 1) (omega arith))
+    let a = c.args in
+    let p = c.requires in
+    (omega (arith, p.room), p.listed (a.j - 1) (omega arith), p.known (a.j - 1) (omega arith))
+
+pub size_at-size-requires : goal.size_at-size-requires
+size_at-size-requires c =
+    let a = c.args in
+    let p = c.requires in
+    (omega (arith, p.room), p.listed (a.j - 1) (omega arith))
 
 pub returns : goal.returns
 returns c =
-    rw (c.size_at-size.ensures, c.offset_at-offset.ensures) (after_constant_lem _ _ _ _ _ (omega arith) c.requires.placed)
+    rw (c.size_at-size.ensures, c.offset_at-offset.ensures) (after_constant_lem _ _ _ _ _ (omega arith) c.requires)

@@ -15,7 +15,7 @@ offset_at-requires c =
     let p = c.requires in
     let k = c.alignments_before-k.result in
     let few = c.alignments_before-k.ensures.few in
-    (omega arith, p.known (k - 1) (omega arith))
+    (omega (arith, p.room), p.listed (k - 1) (omega arith), p.known (k - 1) (omega arith))
 
 pub returns-else-k-eq0 : goal.returns-else-k-eq0
 returns-else-k-eq0 c =
