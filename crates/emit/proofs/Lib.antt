@@ -1,5 +1,4 @@
 pub mod Jumps
-pub mod Displaced
 pub mod Fields
 pub mod Turns
 pub mod Runs

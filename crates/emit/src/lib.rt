@@ -5,21 +5,22 @@
 ghost use Rattle.std.specs.Prelude.{◌≡◌, ℕ, ◌+◌, ◌-◌, ◌*◌, ◌≤◌, List, [], ◌∷◌, length, take, drop};
 ghost use Rattle.seqs.specs.Over.{over};
 ghost use Rattle.words.specs.Words.{word_at};
-ghost use Rattle.fields.specs.Kinds.{decoded, patch_size};
+ghost use Rattle.fields.specs.Kinds.{Use, decoded, patch_size};
 ghost use Rattle.fields.specs.Words64.{plus, minus, sign_extend};
 ghost use Rattle.fields.specs.Patch.{patched, patched_use};
 ghost use Rattle.relax.specs.Events.{event_at, event_size, start_of, extent_of, end_of};
 ghost use Rattle.buffer.specs.Tables.{label_size, ref_words, ref_size};
 ghost use Rattle.recording.specs.View.{entries};
-ghost use Rattle.fresh.specs.Forms.{short_form, long_form, form, width, role_of};
-ghost use Rattle.fresh.specs.Fill.{part, fill_jump};
+ghost use Rattle.fresh.specs.Forms.{short_form, long_form, form, width, field_of, branch_of, far_branch_of};
+ghost use Rattle.fresh.specs.Fill.{part, fill_field, fill_jump};
 ghost use Rattle.fresh.specs.Segments.{map_offset};
 ghost use Rattle.fresh.specs.steps.Runs.{form_at, runs};
-ghost use Rattle.emit.specs.steps.Emit.{jump_form, branch_form, Encodes, Writes, Keeps, Emits, use_filled, uses_filled, UseFits, UsesFit, ref_filled, refs_filled, RefFits, RefsFit, field_reaches, refs_reach, RefsKnown, jumps_filled, displaced, JumpFits, JumpsFit, mapped_words, WordsFit};
+ghost use Rattle.pool.specs.steps.Pool.{offset_bound};
+ghost use Rattle.emit.specs.steps.Emit.{jump_form, branch_form, Encodes, Writes, Keeps, Emits, use_filled, uses_filled, UseFits, UsesFit, ref_filled, refs_filled, RefFits, RefsFit, field_reaches, refs_reach, RefsKnown, jumps_filled, JumpFits, JumpsFit, mapped_words, WordsFit};
 
 use fields::LabelUse;
 use layout::OffsetMap;
-use relax::{Condition, LayoutEvent, Segment};
+use relax::{Condition, FarBranch, LayoutEvent, RelaxableJump, Segment};
 
 fn short_opcode(cc: Condition) -> u8
     requires { Encodes cc }
@@ -309,53 +310,32 @@ pub fn refs_reach(refs: &[u8], labels: &[u8], offsets: &OffsetMap, count: usize)
     })
 }
 
-// The field of an event's displacement: the label that the event names, the field's kind, and where in the event it stands.
-#[derive(Clone, Copy)]
-struct Displacement {
-    pub label: u32,
-    pub kind: LabelUse,
-    pub place: u32,
+// A jump's displacement is a field: its last byte where it is short, else its last four. `start` is the jump's.
+fn patch_displacement(output: &mut [u8], jump: RelaxableJump, long: bool, start: u32, label: u32)
+    requires output_within { start + (field_of (branch_of jump) long).place + patch_size (field_of (branch_of jump) long).kind ≤ length output.old }
+    requires in_bound { start ≤ offset_bound }
+    ensures { output.new ≡ fill_field (Use (field_of (branch_of jump) long).kind) (start + (field_of (branch_of jump) long).place) label 0 output.old }
+{
+    if long {
+        let at = start + (jump.long_len() - 4);
+        patch_field(output, LabelUse::X86JmpRel32, at, label, 0);
+    } else {
+        let at = start + (relax::SHORT_LEN - 1);
+        patch_field(output, LabelUse::X86BranchRel8, at, label, 0);
+    }
 }
 
-// That of an event, long or not, if it is a jump or a branch. A jump's is its last byte where it is short, else its last four; a branch's is in its word, or
-// in the B after its inverse.
-fn displacement_of(event: LayoutEvent, long: bool) -> Option<Displacement>
-    ensures { result ≡ displaced (role_of event) long }
+// A branch's displacement is in its word, or in the B after its inverse. `start` is the branch's.
+fn patch_branch(output: &mut [u8], branch: FarBranch, long: bool, start: u32, label: u32)
+    requires output_within { start + (field_of (far_branch_of branch) long).place + patch_size (field_of (far_branch_of branch) long).kind ≤ length output.old }
+    requires in_bound { start ≤ offset_bound }
+    ensures { output.new ≡ fill_field (Use (field_of (far_branch_of branch) long).kind) (start + (field_of (far_branch_of branch) long).place) label 0 output.old }
 {
-    match event {
-        LayoutEvent::Jump(jump) => {
-            let label = jump.label;
-            if long {
-                Some(Displacement {
-                    label,
-                    kind: LabelUse::X86JmpRel32,
-                    place: jump.long_len() - 4,
-                })
-            } else {
-                Some(Displacement {
-                    label,
-                    kind: LabelUse::X86BranchRel8,
-                    place: relax::SHORT_LEN - 1,
-                })
-            }
-        }
-        LayoutEvent::Align(_) => None,
-        LayoutEvent::Far(branch) => {
-            let label = branch.label;
-            if long {
-                Some(Displacement {
-                    label,
-                    kind: LabelUse::A64Branch26,
-                    place: relax::BRANCH_LEN,
-                })
-            } else {
-                Some(Displacement {
-                    label,
-                    kind: fields::field_kind(branch.code),
-                    place: 0,
-                })
-            }
-        }
+    if long {
+        let at = start + relax::BRANCH_LEN;
+        patch_field(output, LabelUse::A64Branch26, at, label, 0);
+    } else {
+        patch_field(output, fields::field_kind(branch.code), start, label, 0);
     }
 }
 
@@ -371,10 +351,17 @@ fn patch_jump(
     requires { JumpFits (length output.old) events.now labels.now long segment.new_start i }
     ensures { output.new ≡ fill_jump (word_at labels.now) (event_at events.now i) long segment.new_start output.old }
 {
-    if let Some(field) = displacement_of(relax::event_at(events, i), long) {
-        let at = segment.new_start + field.place;
-        let label = words::word_at(labels, field.label as usize);
-        patch_field(output, field.kind, at, label, 0);
+    let start = segment.new_start;
+    match relax::event_at(events, i) {
+        LayoutEvent::Jump(jump) => {
+            let label = words::word_at(labels, jump.label as usize);
+            patch_displacement(output, jump, long, start, label);
+        }
+        LayoutEvent::Align(_) => {}
+        LayoutEvent::Far(branch) => {
+            let label = words::word_at(labels, branch.label as usize);
+            patch_branch(output, branch, long, start, label);
+        }
     }
 }
 

@@ -1,6 +1,6 @@
 -- What finish leaves in what it is lent: the code written event by event, and fields, labels and relocations entry by entry, as the tables of a recording
 -- have them. Fill and Segments (fresh/specs) say the same of lists.
-use Rattle.std.specs.Prelude.{◌≡◌, ℕ, zero, suc, ◌+◌, ◌*◌, ◌<◌, ◌≤◌, Bool, true, false, ◌≢◌, List, length, take, slice_index_or, Option, Some, None}
+use Rattle.std.specs.Prelude.{◌≡◌, ℕ, zero, suc, ◌+◌, ◌*◌, ◌<◌, ◌≤◌, Bool, true, false, ◌≢◌, List, length, take, slice_index_or}
 use Rattle.seqs.specs.Every.{all}
 use Rattle.words.specs.Words.{word_at, set_word}
 use Rattle.fields.specs.Words64.{plus, minus, sign_extend}
@@ -16,14 +16,13 @@ use Rattle.relax.specs.Events.{event_at, event_size, branch_len}
 use Rattle.buffer.specs.State.{none}
 use Rattle.buffer.specs.Tables.{label_size, use_words, use_size, ref_words, ref_size}
 use Rattle.recording.specs.View.{entries}
-use Rattle.fresh.specs.Forms.{short_form, long_form, Branch, field_of, Role, pads, branches, role_of}
+use Rattle.fresh.specs.Forms.{short_form, long_form, Branch, field_of, branches, role_of}
 use Rattle.fresh.specs.Segments.{segments, map_offset}
 use Rattle.fresh.specs.Fill.{fill_field, fill_use, fill_jump}
 use Rattle.fresh.specs.Order.{Ordered}
 use Rattle.fresh.specs.steps.Runs.{runs}
 use Rattle.pool.specs.steps.Pool.{offset_bound}
 use Rattle.layout.specs.steps.Layout.{zero_segment}
-use Rattle.emit.specs.declared.Displacement.{Displacement}
 
 -- a jump's form, short or long, displacement 0
 abbrev pub jump_form : Condition → Bool → List ℕ
@@ -145,14 +144,6 @@ unfoldable pub jumps_filled : List ℕ → List ℕ → List ℕ → List Bool �
 jumps_filled output events labels long ss zero = output
 jumps_filled output events labels long ss (suc i) =
     fill_jump (word_at labels) (event_at events i) (slice_index_or long i false) (start_at ss i) (jumps_filled output events labels long ss i)
-
--- the field of an event's displacement, long or not
-abbrev pub displacement : Branch → Bool → Displacement
-displacement b long = record { label = b.label; kind = (field_of b long).kind; place = (field_of b long).place }
-
-abbrev pub displaced : Role → Bool → Option Displacement
-displaced pads long = None
-displaced (branches b) long = Some (displacement b long)
 
 -- a jump, long or not, that starts at `start`: its label is in the table, and its field in the output
 pub record JumpFits (room : ℕ) (events labels : List ℕ) (long : Bool) (start i : ℕ) : Type 0 where
