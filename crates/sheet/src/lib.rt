@@ -96,9 +96,10 @@ fn run(
     for i in 0..kinds.len() {
         let at = i * ARGUMENT_SIZE;
         let end = at + ARGUMENT_SIZE;
-        let kind = kinds::of_byte(kinds[i]);
+        let byte = kinds[i];
+        let kind = kinds::of_byte(byte);
         let more = i + 1 < kinds.len();
-        bound = bound.before_call(last, kind, labels, more);
+        bound = bound.before_call(last, byte, labels, more);
         let nearest = bound.nearest(last.code);
         let done = calls::call(
             last,
@@ -121,7 +122,7 @@ fn run(
                 index: i as u32,
             };
         }
-        bound = bound.after_call(kind, last.code);
+        bound = bound.after_call(byte, last.code);
         last = going_on(done.buffer, kept);
     }
     Ran {

@@ -1,5 +1,5 @@
 -- What is kept of the labels from call to call of a sheet: that it answers a jump, and that it stays right.
-use Rattle.std.proofs.Common.{◌≡◌, ◌≢◌, sym, ◌∙◌, ℕ, ◌≤◌, ◌<◌, List, Option, Some, None, option_map, max, refl, not, true, false, rules, cond, ltb, Bool, arith}
+use Rattle.std.proofs.Common.{◌≡◌, ◌≢◌, sym, ◌∙◌, ℕ, ◌≤◌, ◌<◌, List, Option, Some, None, option_map, max, refl, true, false, cond, ltb, Bool, arith}
 use Rattle.std.proofs.lemmas.Option.{same_Some}
 use Rattle.buffer.specs.State.{none}
 use Rattle.buffer.specs.steps.Below.{under, greatest_below, Told}
@@ -8,30 +8,6 @@ use Rattle.sheet_form.specs.declared.bound.Bound.{Bound}
 use Rattle.sheet_form.specs.Form.{bind_call}
 use Rattle.sheet_form.specs.steps.Bound.{Known, Follows}
 use borrow.Author.Tests.{ltb-true}
-use denote.Enum.Bare.{sameb, differs_true, differs_false}
-use Rattle.sheet_form.specs.declared.kinds.Kind.{Kind}
-use Rattle.sheet_form.specs.declared.kinds.Kind.TheVariants.{Bytes, NewLabel, Bind, Align, Use, Ref, Jump, Constant, ConstantLabel, Relocation}
-use Rattle.sheet_form.specs.contracts.kinds.Kind.{the_type}
-use Rattle.sheet_form.specs.Kinds.{code_of}
-
--- a kind that is tested for being a bind
-other_code : (kind : Kind) → kind ≢ Bind → code_of kind ≢ bind_call
-other_code Bytes h = λ e. omega arith
-other_code NewLabel h = λ e. omega arith
-other_code Bind h = λ e. h refl
-other_code Align h = λ e. omega arith
-other_code Use h = λ e. omega arith
-other_code Ref h = λ e. omega arith
-other_code Jump h = λ e. omega arith
-other_code Constant h = λ e. omega arith
-other_code ConstantLabel h = λ e. omega arith
-other_code Relocation h = λ e. omega arith
-
-pub others : (kind : Kind) → not (sameb the_type kind Bind) ≡ true → code_of kind ≢ bind_call
-others kind h = other_code kind (differs_true the_type kind Bind h)
-
-pub the_bind : (kind : Kind) → not (sameb the_type kind Bind) ≡ false → code_of kind ≡ bind_call
-the_bind kind h = let is : kind ≡ Bind = differs_false the_type (search rules) kind Bind h in rw is
 
 -- an offset that is known, and below another
 abbrev pub kept_below : ℕ → Option ℕ → Option ℕ

@@ -4,7 +4,6 @@ ghost use Rattle.std.specs.Prelude.{◌≡◌, List, ℕ, ◌*◌, ◌≤◌, le
 ghost use Rattle.buffer.specs.State.{none};
 ghost use Rattle.buffer.specs.Tables.{label_size};
 ghost use Rattle.buffer.specs.steps.Below.{under, greatest_below, Told};
-ghost use Rattle.sheet_form.specs.Kinds.{code_of};
 ghost use Rattle.sheet_form.specs.steps.Bound.{Known, Follows};
 
 use crate::kinds::Kind;
@@ -38,12 +37,12 @@ fn greatest_of(labels: &[u8], n: usize) -> u32
 
 impl Bound {
     // Before a call: the first jump that is read looks at the labels, if more calls follow.
-    pub fn before_call(self, b: CodeBuffer, kind: Kind, labels: &[u8], more: bool) -> Bound
+    pub fn before_call(self, b: CodeBuffer, kind: u8, labels: &[u8], more: bool) -> Bound
         requires { Known labels.now b.labels self }
         ensures { Known labels.now b.labels result }
     {
         let n = b.labels as usize;
-        if kind != Kind::Jump
+        if kind != Kind::Jump as u8
             || b.arch != fields::X64
             || self.greatest.is_some()
             || !more
@@ -68,11 +67,11 @@ impl Bound {
         self.second.filter(|second| *second < code)
     }
 
-    // After a call that was accepted at the offset `code`: a bind adds that offset.
-    pub fn after_call(self, kind: Kind, code: u32) -> Bound
-        ensures { (labels labels' : List ℕ) (n n' : ℕ) → Follows (code_of kind) code labels n labels' n' → Known labels n self → Known labels' n' result }
+    // After a call that was accepted at the offset `code`: a bind adds that offset. Any byte may stand for the call's kind here and above.
+    pub fn after_call(self, kind: u8, code: u32) -> Bound
+        ensures { (labels labels' : List ℕ) (n n' : ℕ) → Follows kind code labels n labels' n' → Known labels n self → Known labels' n' result }
     {
-        if kind != Kind::Bind {
+        if kind != Kind::Bind as u8 {
             return self;
         }
         let Some(most) = self.greatest else {

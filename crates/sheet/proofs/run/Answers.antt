@@ -51,7 +51,7 @@ loop-i-preserved c =
       omega (arith, c.call-done.auto, c.loop-i.invariant),
       omega (arith, c.call-done.auto, c.loop-i.invariant),
       rw (c.going_on-last.ensures, gone_labels a.kept c.call-done.result.buffer)
-          (c.after_call-bound.ensures _ _ _ _ (call_follows _ _ _ c.call-done.ensures (search rules)) c.before_call-bound.ensures),
+          (c.after_call-bound.ensures _ _ _ _ (rw c.of_byte-kind.ensures at (call_follows _ _ _ c.call-done.ensures (search rules))) c.before_call-bound.ensures),
       rw c.going_on-last.ensures
           (ap (run_calls _ _) (meant_on a.kept _)
           ∙ run_again a.kinds.now a.arguments.now c.loop-i.i _ _ c.loop-i.invariant.10 _ _ c.loop-i-test.true (call_meant a.kept call _ going c.loop-i.invariant.12 e) (search rules)),
