@@ -3,11 +3,11 @@ use Rattle.std.proofs.Common.{◌≡◌, ℕ, zero, suc, ◌≢◌, List, [], �
 use Rattle.elf.specs.Elf.{no_type, x64_types, a64_types}
 
 -- a list of numbers with 0 at each of these places
-abbrev cleared : List ℕ → List ℕ → List ℕ
+abbrev pub cleared : List ℕ → List ℕ → List ℕ
 cleared [] l = l
 cleared (i ∷ is) l = cleared is (set l i 0)
 
-abbrev Apart : ℕ → List ℕ → Type 0
+abbrev pub Apart : ℕ → List ℕ → Type 0
 Apart k [] = Unit {0}
 Apart k (i ∷ is) = (k ≢ i) × Apart k is
 
@@ -21,7 +21,7 @@ elsewhere : (is l : List ℕ) (k : ℕ) → Apart k is → get_or l k 0 ≡ get_
 elsewhere [] l k h = refl
 elsewhere (i ∷ is) l k h = sym (get_or-set_other l i k 0 0 h.0) ∙ elsewhere is (set l i 0) k h.1
 
-untyped : (is : List ℕ) (n : ℕ) (l : List ℕ) (k : ℕ) → Apart k is → cleared is l ≡ replicate n 0 → get_or l k 0 ≡ 0
+pub untyped : (is : List ℕ) (n : ℕ) (l : List ℕ) (k : ℕ) → Apart k is → cleared is l ≡ replicate n 0 → get_or l k 0 ≡ 0
 untyped is n l k h e = elsewhere is l k h ∙ ap (λ (x : List ℕ). get_or x k 0) e ∙ zeros n k
 
 pub x64_untyped : {k : ℕ} → k ≢ 0 → k ≢ 1 → k ≢ 2 → k ≢ 3 → k ≢ 4 → k ≢ 5 → k ≢ 9 → 0 ≡ get_or x64_types k no_type

@@ -16,7 +16,7 @@ pub struct Tally {
     pub cut_short: bool,
 }
 
-const NONE: Tally = Tally {
+pub const NONE: Tally = Tally {
     cases: 0,
     marked: 0,
     agreeing: 0,
@@ -85,7 +85,7 @@ impl Tally {
         }
     }
 
-    fn plus(self, next: Tally) -> Tally {
+    pub fn plus(self, next: Tally) -> Tally {
         Tally {
             cases: self.cases.wrapping_add(next.cases),
             marked: self.marked.wrapping_add(next.marked),
@@ -123,7 +123,7 @@ pub fn print_number(n: u64) {
 }
 
 // Whether the two halves of `pair`, what was made and what is stored, hold the same bytes.
-fn halves_agree(pair: &[u8]) -> bool {
+pub fn halves_agree(pair: &[u8]) -> bool {
     let (made, stored) = pair.split_at(pair.len() / 2);
     made == stored
 }

@@ -182,26 +182,26 @@ module _ (counts counts' : List ℕ) where
       unfolding finish
       finish_short s h w = rw w (sym (no_lt _ 24 _ _ s ∙ yes_lt _ counts_size _ _ h))
 
-      finish_told : (b : CodeBuffer) (a : Finished) → counts_size ≤ length counts → 24 ≤ length finalized → b ≡ counts_at counts
+      pub finish_crosses : (b : CodeBuffer) (a : Finished) → counts_size ≤ length counts → 24 ≤ length finalized → b ≡ counts_at counts
           → (a, (labels', (relocs', (segments', output')))) ≡ finishing.finish (recording_of b code labels events uses refs constants asked relocs) segments output
           → counts' ≡ over_words counts (counts_of a.buffer) → finalized' ≡ over_words finalized (record_of a.code)
           → (a.refusal, (counts', ((labels', (relocs', (segments', output'))), finalized')))
           ≡ finish (lent_of counts code labels events uses refs constants asked relocs) segments output finalized
       unfolding finish
-      finish_told b a h s r e w v =
+      finish_crosses b a h s r e w v =
           rw (w, v)
           (ap
           (λ (x : Finished × finishing.Left). (x.0.refusal, (over_words counts (counts_of x.0.buffer), (x.1, over_words finalized (record_of x.0.code)))))
           (e ∙ ap (λ (x : CodeBuffer). finishing.finish (recording_of x code labels events uses refs constants asked relocs) segments output) r)
           ∙ sym (no_lt _ 24 _ _ s ∙ no_lt _ counts_size _ _ h))
 
-      pub finish_crosses : (b buffer : CodeBuffer) (answer : Result CodeBufferFinalized Refusal) → counts_size ≤ length counts → 24 ≤ length finalized → b ≡ counts_at counts
+      pub finish_answered : (b buffer : CodeBuffer) (answer : Result CodeBufferFinalized Refusal) → counts_size ≤ length counts → 24 ≤ length finalized → b ≡ counts_at counts
           → (finished_by buffer answer, (labels', (relocs', (segments', output')))) ≡ finishing.finish (recording_of b code labels events uses refs constants asked relocs) segments output
           → counts' ≡ over_words counts (counts_of buffer) → finalized' ≡ over_words finalized (record_of (joined_as answer).code)
           → ((joined_as answer).refusal, (counts', ((labels', (relocs', (segments', output'))), finalized')))
           ≡ finish (lent_of counts code labels events uses refs constants asked relocs) segments output finalized
-      finish_crosses b buffer (Ok whole) h s r e w v = finish_told b (finished_by buffer (Ok whole)) h s r e w v
-      finish_crosses b buffer (Err why) h s r e w v = finish_told b (finished_by buffer (Err why)) h s r e w v
+      finish_answered b buffer (Ok whole) h s r e w v = finish_crosses b (finished_by buffer (Ok whole)) h s r e w v
+      finish_answered b buffer (Err why) h s r e w v = finish_crosses b (finished_by buffer (Err why)) h s r e w v
 
 -- relocations are written across the boundary: the record is read as `code`, and the call answers `a`
 module _ (finalized labels relocs : List ℕ) (section : ℕ) (output : List ℕ) where

@@ -1,7 +1,7 @@
 -- `wargnifla_finish` meets its contract.
 use Rattle.std.proofs.Common.{rules, length, ◌<◌, ◌≤◌, ◌≡◌}
 use Rattle.wargnifla.specs.Boundary.{counts_size, counts_at}
-use Rattle.wargnifla.proofs.Crossing.{finish_short, record_short, finish_crosses}
+use Rattle.wargnifla.proofs.Crossing.{finish_short, record_short, finish_answered}
 use Rattle.wargnifla.proofs.wargnifla_finish.Goals as goal
 
 pub returns-then-finalized-lt-RECORD_SIZE : goal.returns-then-finalized-lt-RECORD_SIZE
@@ -15,4 +15,4 @@ returns-in_default c =
 pub returns : goal.returns
 returns c =
     let known : (counts_size ≤ length c.args.counts.now) × (c.in-Some.b ≡ counts_at c.args.counts.now) = c.in-Some.ensures in
-    rw c.report-2.ensures.answered (search (finish_crosses, known.0, known.1, c.if-finalized-lt-RECORD_SIZE.false, c.finish-done.ensures, c.put_counts.ensures, c.report-2.ensures.written))
+    rw c.report-2.ensures.answered (search (finish_answered, known.0, known.1, c.if-finalized-lt-RECORD_SIZE.false, c.finish-done.ensures, c.put_counts.ensures, c.report-2.ensures.written))
