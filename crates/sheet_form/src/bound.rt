@@ -60,7 +60,7 @@ impl Bound {
     pub fn nearest(self, code: u32) -> Option<u32>
         ensures { (labels : List ℕ) (n : ℕ) → Known labels n self → Told labels n code result }
     {
-        let most = self.greatest?;
+        let most = self.greatest.unwrap_or(NONE);
         if most < code {
             return Some(most);
         }
@@ -74,9 +74,7 @@ impl Bound {
         if kind != Kind::Bind as u8 {
             return self;
         }
-        let Some(most) = self.greatest else {
-            return self;
-        };
+        let most = self.greatest.unwrap_or(NONE);
         if most < code {
             Bound {
                 greatest: Some(code),
@@ -86,7 +84,7 @@ impl Bound {
             self
         } else {
             Bound {
-                greatest: Some(most),
+                greatest: self.greatest,
                 second: self.second.map(|second| second.max(code)),
             }
         }

@@ -15,7 +15,7 @@ use Rattle.sheet.proofs.run.Goals as goal
 
 pub loop-i-init : goal.loop-i-init
 loop-i-init c =
-    (omega arith, refl, refl, refl, refl, refl, refl, refl, refl, record { word = λ m e. absurd (cc); first = λ m e ne. absurd (cc); next = λ m k e f ne. absurd (cc) }, refl, c.requires.going, omega (arith, c.well_formed))
+    (omega arith, refl, refl, refl, refl, refl, refl, refl, refl, record { word = λ m e. absurd (cc); first = λ m e ne. absurd (cc); next = λ k f ne. absurd (cc) }, refl, c.requires.going, omega (arith, c.well_formed))
 
 pub before_call-bound-requires : goal.before_call-bound-requires
 before_call-bound-requires c =
