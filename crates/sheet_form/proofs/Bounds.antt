@@ -65,16 +65,16 @@ module _ {kind code : ℕ} {labels labels' : List ℕ} {n n' : ℕ} {s : Bound} 
 
   module _ (binds : kind ≡ bind_call) (limit : code ≤ none) where
     -- a bind past the greatest offset, which is the second now
-    pub known_past : limit_of s.greatest < code → Known labels' n' (record { greatest = Some code; second = Some (limit_of s.greatest) })
-    known_past past =
+    pub known_past : (most : ℕ) → most ≡ limit_of s.greatest → most < code → Known labels' n' (record { greatest = Some code; second = Some most })
+    known_past most is past =
         let was = limit_right known (λ e. omega arith) in
         record {
-          word = λ m' e. let is : code ≡ m' = same_Some code m' e in omega arith;
+          word = λ m' e. let so : code ≡ m' = same_Some code m' e in omega arith;
           first = λ m' e ne.
-              let is : code ≡ m' = same_Some code m' e in
+              let so : code ≡ m' = same_Some code m' e in
               omega (arith, was, under_yes code none (omega arith), follows.bound binds limit none (omega arith));
           next = λ k f ne.
-              let so : limit_of s.greatest ≡ k = same_Some (limit_of s.greatest) k f in
+              let so : most ≡ k = same_Some most k f in
               let here : greatest_below labels' n' code ≡ max (under code code) (greatest_below labels n code) = follows.bound binds limit code limit in
               rw (← so) (omega (arith, was, under_no code code (omega arith), below_nearer labels n none code (omega arith) limit, here));
         }

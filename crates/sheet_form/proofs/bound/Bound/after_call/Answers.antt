@@ -11,7 +11,7 @@ returns-then-kind c =
 pub returns-then-most-code : goal.returns-then-most-code
 returns-then-most-code c =
     let most : c.unwrap_or-most.result ≡ limit_of c.args.self.greatest = search rules in
-    λ labels labels' n n' follows known. rw most (known_past follows known c.if-kind.false (omega arith) (rw most at c.if-most-code.true))
+    λ labels labels' n n' follows known. known_past follows known c.if-kind.false (omega arith) _ most c.if-most-code.true
 
 pub returns-then-most-code-2 : goal.returns-then-most-code-2
 returns-then-most-code-2 c =
